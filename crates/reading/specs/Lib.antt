@@ -1,0 +1,9 @@
+-- In the order in which to read them. `Answers` serves the reader's own functions alone.
+pub mod Code
+pub mod Pattern
+pub mod Formula
+pub mod Rule
+pub mod File
+pub mod Numbered
+pub mod Nodes
+pub mod Answers

@@ -1,0 +1,36 @@
+-- A pattern is a set of codes: every kind whose bit is set in a mask, with every slot from first to last.
+use Prim.Native.Nat.{ℕ, zero, suc, _+_, _/_, _%_, _^_, _≤_, _<_}
+use mathlib.Core.Bool.{Bool, cond, _&&_}
+use lib.Dec.{leb, eqb}
+use Rattle.reading.specs.Code.{kindOf, slotOf}
+use Rattle.reading.specs.declared.Pattern.{Pattern}
+use Rattle.reading.specs.declared.Extent.{Extent}
+
+-- bit i of a number, 0 or 1
+unfoldable pub bit : ℕ → ℕ → ℕ
+bit i n = n / 2 ^ i % 2
+
+unfoldable pub covers : Pattern → ℕ → Bool
+unfolding bit
+covers p code = eqb (bit (kindOf code) (p .mask)) 1 && (leb (p .first) (slotOf code) && leb (slotOf code) (p .last))
+
+-- the least number below n that a test holds of; n where there is none
+unfoldable pub least : ℕ → (ℕ → Bool) → ℕ
+least zero holds = zero
+least (suc n) holds = cond (holds zero) zero (suc (least n (λ i. holds (suc i))))
+
+-- how many numbers below n a test holds of
+unfoldable pub howMany : ℕ → (ℕ → Bool) → ℕ
+howMany zero holds = zero
+howMany (suc n) holds = howMany n holds + cond (holds n) 1 0
+
+-- the lowest of the 256 codes that a pattern covers, and how many it covers
+abbrev pub extentOf : Pattern → Extent
+extentOf p = record { lowest = least 256 (covers p); count = howMany 256 (covers p) }
+
+-- what refusal 5 lets through; a mask is a byte
+pub record WellFormedPattern (p : Pattern) : Type 0 where
+  pub some-kind : 0 < p .mask
+  pub byte : p .mask ≤ 255
+  pub in-order : p .first ≤ p .last
+  pub slots : p .last ≤ 31

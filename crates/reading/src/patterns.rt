@@ -1,0 +1,140 @@
+// Pattern records: reading one, its lowest code and count, and all that a file begins with.
+use crate::{Answer, Extent, Pattern};
+
+ghost use mathlib.Core.Path.{_≡_};
+ghost use Prim.Native.Nat.{_≤_, _<_};
+ghost use lib.ListN.{length};
+ghost use Rattle.reading.specs.Pattern.{extentOf, WellFormedPattern};
+ghost use Rattle.reading.specs.File.{patternAt, isPattern, patternsAt};
+ghost use Rattle.reading.specs.Answers.{patternOutcome, patternAnswer, HeadOf};
+
+// The kind byte of a pattern record.
+const PATTERN: u8 = 1;
+
+// What reading a pattern record finds: the pattern, or the number and place of a refusal.
+pub(crate) enum PatternRead {
+    Read(Pattern),
+    Refused(u8, usize),
+}
+
+// The patterns that a file begins with, and the place after them.
+pub(crate) struct Head {
+    pub(crate) answer: Answer,
+    pub(crate) next: usize,
+    pub(crate) count: usize,
+    pub(crate) list: [Pattern; 32],
+    pub(crate) extents: [Extent; 32],
+}
+
+// The lowest code and the count of codes of a pattern: by the trailing zeros of the mask, and by its ones times the slot width.
+fn extent(p: Pattern) -> Extent
+    requires { ⌜ WellFormedPattern p ⌝ }
+    ensures { λ r. ⌜ r ≡ extentOf p ⌝ }
+{
+    let kind = u8::trailing_zeros(p.mask);
+    let lowest = kind * 32 + (p.first as u32);
+    let kinds = u8::count_ones(p.mask);
+    let width = (p.last - p.first) as u32 + 1;
+    let count = kinds * width;
+    Extent {
+        lowest: lowest as u8,
+        count: count as u16,
+    }
+}
+
+// The pattern record at `at`, with `left` of the 32 patterns left.
+fn read_pattern(bytes: &[u8], at: usize, left: usize) -> PatternRead
+    requires { ⌜ at < length (now bytes) ⌝ }
+    ensures { λ r. ⌜ patternOutcome r ≡ patternAt (now (bytes .entry)) at left ⌝ }
+{
+    if left == 0 {
+        return PatternRead::Refused(4, at);
+    }
+    if bytes.len() <= at + 3 {
+        return PatternRead::Refused(1, bytes.len());
+    }
+    let mask = bytes[at + 1];
+    let first = bytes[at + 2];
+    let last = bytes[at + 3];
+    if mask == 0 {
+        return PatternRead::Refused(5, at);
+    }
+    if 31 < first {
+        return PatternRead::Refused(5, at);
+    }
+    if 31 < last {
+        return PatternRead::Refused(5, at);
+    }
+    if last < first {
+        return PatternRead::Refused(5, at);
+    }
+    PatternRead::Read(Pattern {
+        mask,
+        first,
+        last,
+    })
+}
+
+// Whether a pattern record begins at `at`.
+fn is_pattern(bytes: &[u8], at: usize) -> bool
+    ensures { λ r. ⌜ r ≡ isPattern (now (bytes .entry)) at ⌝ }
+{
+    if at < bytes.len() {
+        bytes[at] == PATTERN
+    } else {
+        false
+    }
+}
+
+// The answer about a file with this pattern record.
+fn answer(found: PatternRead) -> Answer
+    ensures { λ r. ⌜ r ≡ patternAnswer found ⌝ }
+{
+    match found {
+        PatternRead::Read(_) => Answer::Accepted,
+        PatternRead::Refused(number, place) => Answer::Refused(number, place),
+    }
+}
+
+// The patterns that a file begins with.
+pub(crate) fn read_patterns(bytes: &[u8]) -> Head
+    ensures { λ r. ⌜ HeadOf (patternsAt 32 (now (bytes .entry)) 0) r ⌝ }
+{
+    let pattern = Pattern {
+        mask: 0,
+        first: 0,
+        last: 0,
+    };
+    let none = Extent {
+        lowest: 0,
+        count: 0,
+    };
+    let mut list = [pattern; 32];
+    let mut extents = [none; 32];
+    let mut at = 0;
+    let mut n = 0;
+    while is_pattern(bytes, at) {
+        let found = read_pattern(bytes, at, 32 - n);
+        let PatternRead::Read(p) = found else {
+            let answer = answer(found);
+            return Head {
+                answer,
+                next: at,
+                count: n,
+                list,
+                extents,
+            };
+        };
+        list[n] = p;
+        extents[n] = extent(p);
+        n = n + 1;
+        at = at + 4;
+    }
+    Head {
+        answer: Answer::Accepted,
+        next: at,
+        count: n,
+        list,
+        extents,
+    }
+}
