@@ -58,7 +58,7 @@ HeadOf (accepted ps) h = h ≡ record {
   next = ps .next;
   count = length (ps .list);
   list = padded 32 noPattern (ps .list);
-  extents = padded 32 noExtent (map extentOf (ps .list))
+  extents = padded 32 noExtent (map extentOf (ps .list));
 }
 HeadOf (refused number place) h = h .answer ≡ Answer′.the-variants.Refused number place
 

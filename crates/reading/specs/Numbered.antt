@@ -49,7 +49,7 @@ numbered r = record {
   npatterns = length (r .patterns);
   kinds = padded 64 0 (kinds (r .formula));
   args = padded 64 0 (args 0 [] (r .formula));
-  nnodes = size (r .formula)
+  nnodes = size (r .formula);
 }
 
 -- the rule of a refused file, which the paper leaves free
@@ -60,7 +60,7 @@ blank = record {
   npatterns = 0;
   kinds = replicate 64 0;
   args = replicate 64 0;
-  nnodes = 0
+  nnodes = 0;
 }
 
 -- the answer of each outcome, and the rule beside it

@@ -1,6 +1,5 @@
 // Node records, and a formula in prefix order.
 use crate::Answer;
-
 ghost use mathlib.Core.Path.{_≡_};
 ghost use Prim.Native.Nat.{_+_, _-_, _≤_, _<_};
 ghost use mathlib.Core.List.{[], _∷_};
@@ -10,9 +9,13 @@ ghost use Rattle.reading.specs.Answers.{nodeOutcome, passedUp, formulaAn
 
 // The kind bytes of node records.
 const PATTERN: u8 = 1;
+
 const BOTH: u8 = 4;
+
 const NECESSITY: u8 = 5;
+
 const MAX: u8 = 6;
+
 const VARIABLE: u8 = 7;
 
 // The max nodes around a record, outermost first. The innermost `unguarded` of them have no necessity below them yet.
@@ -219,10 +222,26 @@ pub(crate) fn read_formula(
         return read_formula(bytes, patterns, after, more, scope, kinds, args);
     }
     if kind == NECESSITY {
-        return read_formula(bytes, patterns, next, left - 1, scope.guarded(), kinds, args);
+        return read_formula(
+            bytes,
+            patterns,
+            next,
+            left - 1,
+            scope.guarded(),
+            kinds,
+            args,
+        );
     }
     if kind == MAX {
-        return read_formula(bytes, patterns, next, left - 1, scope.inside_max(k as u8), kinds, args);
+        return read_formula(
+            bytes,
+            patterns,
+            next,
+            left - 1,
+            scope.inside_max(k as u8),
+            kinds,
+            args,
+        );
     }
     if kind == VARIABLE {
         args[k] = scope.max_of(argument);

@@ -1,6 +1,7 @@
 // Pattern records: reading one, its lowest code and count, and all that a file begins with.
-use crate::{Answer, Extent, Pattern};
-
+use crate::Answer;
+use crate::Extent;
+use crate::Pattern;
 ghost use mathlib.Core.Path.{_≡_};
 ghost use Prim.Native.Nat.{_≤_, _<_};
 ghost use lib.ListN.{length};
@@ -68,11 +69,7 @@ fn read_pattern(bytes: &[u8], at: usize, left: usize) -> PatternRead
     if last < first {
         return PatternRead::Refused(5, at);
     }
-    PatternRead::Read(Pattern {
-        mask,
-        first,
-        last,
-    })
+    PatternRead::Read(Pattern { mask, first, last })
 }
 
 // Whether a pattern record begins at `at`.

@@ -1,0 +1,33 @@
+-- Laws of outcomes: what an accepted one passed, and steps that agree.
+use mathlib.Core.Path.{_≡_, refl}
+use mathlib.Core.Bool.{Bool, true, false, _||_}
+use Prim.Native.Nat.{ℕ}
+use native.Mathlib.Omega.{arith}
+use Rattle.reading.specs.File.{Outcome, accepted, refused, refuse, andThen}
+
+module _ {A : Type 0} where
+  pub accepted-is : {a b : A} → accepted a ≡ accepted b → a ≡ b
+  accepted-is e = cc
+
+  pub never-accepted : {number place : ℕ} {a : A} → refused number place ≡ accepted a → ⊥
+  never-accepted e = let z : _≡_ {A = ℕ} 0 1 = cc in omega arith
+
+  -- what is accepted was refused by no check
+  pub passes : (b : Bool) (number place : ℕ) (o : Outcome A) {a : A} → refuse b number place o ≡ accepted a → (b ≡ false) × (o ≡ accepted a)
+  passes true number place o e = absurd (never-accepted e)
+  passes false number place o e = (refl, e)
+
+pub neither : (a b : Bool) → (a || b) ≡ false → (a ≡ false) × (b ≡ false)
+neither true b e = let z : _≡_ {A = ℕ} 0 1 = cc in absurd (omega arith)
+neither false b e = (refl, e)
+
+module _ {A B : Type 0} where
+  -- a value that two steps accept is the second's of one that the first accepts
+  pub accepted-by : (o : Outcome A) (f : A → Outcome B) {b : B} → andThen o f ≡ accepted b → (a : A) × (o ≡ accepted a) × (f a ≡ accepted b)
+  accepted-by (accepted a) f e = (a, refl, e)
+  accepted-by (refused number place) f e = absurd (never-accepted e)
+
+  -- second steps that agree on what the first accepts
+  pub then-agree : (o : Outcome A) (f g : A → Outcome B) → ((a : A) → o ≡ accepted a → f a ≡ g a) → andThen o f ≡ andThen o g
+  then-agree (accepted a) f g e = e a refl
+  then-agree (refused number place) f g e = refl
