@@ -1,5 +1,14 @@
 pub mod Outcomes
+pub mod Codes
+pub mod Counting
+pub mod Bits
+pub mod Products
+pub mod Extents
 pub mod Checks
+pub mod Places
 pub mod Steps
+pub mod NodeBytes
 pub mod Scopes
+pub mod Stores
+pub mod Parts
 pub mod Examples

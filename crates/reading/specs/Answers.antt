@@ -92,6 +92,6 @@ abbrev pub Written : Outcome Parsed → ℕ → List ℕ → (ks gs ks′ gs′ 
 Written (accepted f) k ms ks gs ks′ gs′ = (ks′ ≡ sets ks k (kinds (f .formula))) × (gs′ ≡ sets gs k (args k ms (f .formula)))
 Written (refused number place) k ms ks gs ks′ gs′ = Unit
 
-pub record Reads (o : Outcome Parsed) (left : ℕ) (sc : Scope) (ks gs ks′ gs′ : List ℕ) (r : FormulaRead) : Type 0 where
+pub record Reads (o : Outcome Parsed) (left : ℕ) (ms : List ℕ) (ks gs ks′ gs′ : List ℕ) (r : FormulaRead) : Type 0 where
   pub answer : r ≡ formulaRead o
-  pub written : Written o (64 - left) (enclosing sc) ks gs ks′ gs′
+  pub written : Written o (64 - left) ms ks gs ks′ gs′

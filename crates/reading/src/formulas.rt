@@ -198,7 +198,7 @@ pub(crate) fn read_formula(
     args: &mut [u8; 64],
 ) -> FormulaRead
     requires { ⌜ Fit left scope ⌝ }
-    ensures { λ r. ⌜ Reads (formulaOf (now (bytes .entry)) patterns at left (scope .count) (scope .unguarded)) left scope
+    ensures { λ r. ⌜ Reads (formulaOf (now (bytes .entry)) patterns at left (scope .count) (scope .unguarded)) left (enclosing scope)
         (now (kinds .entry)) (now (args .entry)) (now (kinds .exit)) (now (args .exit)) r ⌝ }
 {
     let found = read_node(bytes, patterns, at, left, scope.count, scope.unguarded);

@@ -1,0 +1,222 @@
+-- The proof of the cycle of calls {read_formula}. The measure is how many nodes are left.
+use mathlib.Core.Path.{_≡_, refl, sym, ap, _∙_}
+use Prim.Native.Nat.{ℕ, _<_, _-_, _+_}
+use native.Mathlib.Omega.{arith}
+use borrow.Author.Needs.{needs}
+use borrow.Fn.Kinds.{In}
+use borrow.Fn.PlainCycle.{Measures, is, falls, and}
+use Rattle.reading.proofs.NodeBytes.{NodeStands}
+use Rattle.reading.proofs.Parts.{node-stands, rest-left, node-refused, is-leaf, is-variable, is-bound, is-necessity, is-max, first-refused, is-both}
+use Rattle.reading.proofs.formulas.read_formula.Reads as reads
+use Rattle.reading.proofs.formulas.read_formula.Kinds as kinds
+use Rattle.reading.proofs.formulas.+read_formula.Lts-read_formula as lts
+use Rattle.reading.proofs.formulas.Scope.guarded.Reads as guarded-reads
+use Rattle.reading.proofs.formulas.Scope.inside_max.Reads as inside-max-reads
+use Rattle.reading.proofs.formulas.Scope.max_of.Reads as max-of-reads
+use Rattle.reading.proofs.formulas.passed_up.Reads as passed-up-reads
+use Rattle.reading.proofs.formulas.read_node.Reads as read-node-reads
+use Rattle.reading.proofs.formulas.+read_formula.{statement}
+use Rattle.reading.proofs.formulas.+read_formula.Tie.{close}
+
+abbrev μ : Measures 3 kinds.ps ℕ
+μ κs a = a .1 .1 .1 .0
+
+-- what it is given at the measure t, and what a call of it asks below t
+abbrev at : ℕ → In 3 kinds.ps
+at t = and 3 kinds.ps (is 3 kinds.ps μ t) reads.Pre
+
+abbrev below : ℕ → In 3 kinds.ps
+below t = and 3 kinds.ps (falls 3 kinds.ps _<_ μ t) reads.Pre
+
+abbrev claims : ℕ → lts.Claims
+claims t = (
+  read-node-reads.Asked,
+  read-node-reads.Learnt,
+  passed-up-reads.Asked,
+  passed-up-reads.Learnt,
+  below t,
+  reads.Post,
+  guarded-reads.Asked,
+  guarded-reads.Learnt,
+  inside-max-reads.Asked,
+  inside-max-reads.Learnt,
+  max-of-reads.Asked,
+  max-of-reads.Learnt,
+)
+
+module _ (t : ℕ) where
+  -- the node that was read stands in the file, and so one was left
+  stands : (c : lts.After-known-told (claims t) (at t) reads.Post) →
+      let x = c .before .before .before .before .before .args in
+      (0 < x .left) × NodeStands (x .bytes .now) (x .patterns) (x .at) (x .scope .count) (x .scope .unguarded) (c .before .found .given .0 .0)
+  stands c =
+      let x = c .before .before .before .before .before .args in
+      node-stands (x .bytes .now) (x .patterns) (x .at) (x .left) (x .scope .count) (x .scope .unguarded) _ _
+      (c .before .before .before .read-node .ensures) (c .before .found .given .1)
+
+  positive : (c : lts.After-known-told (claims t) (at t) reads.Post) → 0 < c .before .before .before .before .before .args .left
+  positive c = stands c .0
+
+  read-node-requires : lts.Need-read-node-requires (claims t) (at t) reads.Post
+  read-node-requires c κs = search needs
+
+  enum-known-found : lts.Need-enum-known-found (claims t) (at t) reads.Post
+  enum-known-found c = search needs
+
+  enum-told : lts.Need-enum-told (claims t) (at t) reads.Post
+  enum-told c = search needs
+
+  passed-up-requires : lts.Need-passed-up-requires (claims t) (at t) reads.Post
+  passed-up-requires c κs = search needs
+
+  returns : lts.Need-returns (claims t) (at t) reads.Post
+  returns c = node-refused _ _ _ _ _ _ _ _ (c .before .before .before .read-node .ensures) (c .before .enum-told .given .1) (c .passed-up .ensures)
+
+  sub-k : lts.Need-sub-k (claims t) (at t) reads.Post
+  sub-k c = search needs
+
+  element-write-kinds : lts.Need-element-write-kinds (claims t) (at t) reads.Post
+  element-write-kinds c = omega (arith, positive c)
+
+  element-write-args : lts.Need-element-write-args (claims t) (at t) reads.Post
+  element-write-args c = omega (arith, positive c)
+
+  sub-read-formula : lts.Need-sub-read-formula (claims t) (at t) reads.Post
+  sub-read-formula c = omega (arith, positive (c .before))
+
+  read-formula-requires : lts.Need-read-formula-requires (claims t) (at t) reads.Post
+  read-formula-requires c κs = omega (arith, positive (c .before .before .before))
+
+  enum-known-first : lts.Need-enum-known-first (claims t) (at t) reads.Post
+  enum-known-first c = search needs
+
+  enum-told-2 : lts.Need-enum-told-2 (claims t) (at t) reads.Post
+  enum-told-2 c = search needs
+
+  returns-2 : lts.Need-returns-2 (claims t) (at t) reads.Post
+  returns-2 c =
+      let r = c .before .before in
+      let a = r .before .before .before .before in
+      let n = a .before .before .before in
+      first-refused _ _ _ _ _ _ _ _ _ (n .read-node .ensures) (a .before .found .given .1) (r .before .before .before .if1 .taken) (omega arith) _
+      (r .read-formula .ensures) (c .enum-told2 .given .1)
+
+  sub-args : lts.Need-sub-args (claims t) (at t) reads.Post
+  sub-args c = omega (arith, rest-left _ _ _ _ _ _ _ _ (c .before .before .before .read-formula .ensures) (c .before .first .given .1))
+
+  cast-args : lts.Need-cast-args (claims t) (at t) reads.Post
+  cast-args c = search needs
+
+  element-write-args-2 : lts.Need-element-write-args-2 (claims t) (at t) reads.Post
+  element-write-args-2 c = omega (arith, positive (c .before .before .before .before .before .before .before))
+
+  read-formula-requires-2 : lts.Need-read-formula-requires-2 (claims t) (at t) reads.Post
+  read-formula-requires-2 c κs = omega (arith, rest-left _ _ _ _ _ _ _ _ (c .before .before .before .before .before .read-formula .ensures) (c .before .before .before .first .given .1), positive (c .before .before .before .before .before .before .before .before .before), c .before .before .before .before .before .before .before .before .before .before .before .before .before .before .pre)
+
+  returns-3 : lts.Need-returns-3 (claims t) (at t) reads.Post
+  returns-3 c =
+      let k = c .before .before .before in
+      let r = k .before .before .before in
+      let a = r .before .before .before .before in
+      let n = a .before .before .before in
+      is-both _ _ _ _ _ _ _ _ _ (n .read-node .ensures) (a .before .found .given .1) (r .before .before .before .if1 .taken) (omega (arith, c .before .before .before .before .before .before .before .before .before .before .before .before .before .before .before .pre)) _
+      (r .read-formula .ensures) _ (k .before .first .given .1) (c .read-formula2 .ensures)
+
+  sub-read-formula-2 : lts.Need-sub-read-formula-2 (claims t) (at t) reads.Post
+  sub-read-formula-2 c = omega (arith, positive (c .before .before))
+
+  guarded-requires : lts.Need-guarded-requires (claims t) (at t) reads.Post
+  guarded-requires c κs = search needs
+
+  read-formula-requires-3 : lts.Need-read-formula-requires-3 (claims t) (at t) reads.Post
+  read-formula-requires-3 c κs = omega (arith, positive (c .before .before .before .before .before), c .before .before .guarded .ensures)
+
+  returns-4 : lts.Need-returns-4 (claims t) (at t) reads.Post
+  returns-4 c =
+      let g = c .before .before .before in
+      let a = g .before .before .before in
+      let n = a .before .before .before in
+      is-necessity _ _ _ _ _ _ _ _ _ (n .read-node .ensures) (a .before .found .given .1) (omega (arith, c .before .before .before .before .before .before .before .before .before .before .before .pre)) (g .before .if2 .taken) (g .guarded .result)
+      (g .guarded .ensures) (c .read-formula3 .ensures)
+
+  sub-read-formula-3 : lts.Need-sub-read-formula-3 (claims t) (at t) reads.Post
+  sub-read-formula-3 c = omega (arith, positive (c .before .before .before))
+
+  cast-inside-max : lts.Need-cast-inside-max (claims t) (at t) reads.Post
+  cast-inside-max c = search needs
+
+  inside-max-requires : lts.Need-inside-max-requires (claims t) (at t) reads.Post
+  inside-max-requires c κs = omega (arith, positive (c .before .before .before))
+
+  read-formula-requires-4 : lts.Need-read-formula-requires-4 (claims t) (at t) reads.Post
+  read-formula-requires-4 c κs = omega (arith, positive (c .before .before .before .before .before .before), c .before .before .inside-max .ensures)
+
+  returns-5 : lts.Need-returns-5 (claims t) (at t) reads.Post
+  returns-5 c =
+      let m = c .before .before .before in
+      let a = m .before .before .before .before in
+      let n = a .before .before .before in
+      is-max _ _ _ _ _ _ _ _ _ (n .read-node .ensures) (a .before .found .given .1) (omega (arith, c .before .before .before .before .before .before .before .before .before .before .before .before .pre)) (m .before .if3 .taken) (m .inside-max .result)
+      (m .inside-max .ensures) (c .read-formula4 .ensures)
+
+  max-of-requires : lts.Need-max-of-requires (claims t) (at t) reads.Post
+  max-of-requires c κs = let a = c .before .before .before .before in omega (arith, positive a, is-bound (stands a .1) (c .if4 .taken))
+
+  element-write-args-3 : lts.Need-element-write-args-3 (claims t) (at t) reads.Post
+  element-write-args-3 c = omega (arith, positive (c .before .before .before .before .before))
+
+  sub-t43 : lts.Need-sub-t43 (claims t) (at t) reads.Post
+  sub-t43 c = omega (arith, positive (c .before .before .before .before .before))
+
+  returns-6 : lts.Need-returns-6 (claims t) (at t) reads.Post
+  returns-6 c =
+      let a = c .before .before .before .before .before in
+      let n = a .before .before .before in
+      is-variable _ _ _ _ _ _ _ _ _ (n .read-node .ensures) (a .before .found .given .1) (c .before .if4 .taken) (c .max-of .result) (c .max-of .ensures)
+
+  sub-t45 : lts.Need-sub-t45 (claims t) (at t) reads.Post
+  sub-t45 c = omega (arith, positive (c .before .before .before .before))
+
+  returns-7 : lts.Need-returns-7 (claims t) (at t) reads.Post
+  returns-7 c =
+      let a = c .before .before .before .before in
+      let n = a .before .before .before in
+      is-leaf _ _ _ _ _ _ _ _ _ (n .read-node .ensures) (a .before .found .given .1) (c .before .before .before .if1 .left) (c .before .before .if2 .left)
+      (c .before .if3 .left) (c .if4 .left)
+
+pub +read-formula-spec : {M : Type 1} → statement M
++read-formula-spec =
+    close μ λ t. lts.spec (claims t) (at t) reads.Post
+    (read-node-requires t)
+    (enum-known-found t)
+    (enum-told t)
+    (passed-up-requires t)
+    (returns t)
+    (sub-k t)
+    (element-write-kinds t)
+    (element-write-args t)
+    (sub-read-formula t)
+    (read-formula-requires t)
+    (enum-known-first t)
+    (enum-told-2 t)
+    (returns-2 t)
+    (sub-args t)
+    (cast-args t)
+    (element-write-args-2 t)
+    (read-formula-requires-2 t)
+    (returns-3 t)
+    (sub-read-formula-2 t)
+    (guarded-requires t)
+    (read-formula-requires-3 t)
+    (returns-4 t)
+    (sub-read-formula-3 t)
+    (cast-inside-max t)
+    (inside-max-requires t)
+    (read-formula-requires-4 t)
+    (returns-5 t)
+    (max-of-requires t)
+    (element-write-args-3 t)
+    (sub-t43 t)
+    (returns-6 t)
+    (sub-t45 t)
+    (returns-7 t)
