@@ -1,9 +1,9 @@
 -- A node record is accepted exactly where a node is left and the record's bytes, within its limits, stand at its place.
 use mathlib.Core.Path.{_≡_, refl, subst, _∙_}
-use mathlib.Core.Bool.{Bool, true, false, cond, _||_}
+use mathlib.Core.Bool.{false, cond, _||_}
 use mathlib.Core.Logic.{_↔_}
 use mathlib.Core.List.{List}
-use Prim.Native.Nat.{ℕ, zero, suc, _+_, _≤_, _<_}
+use Prim.Native.Nat.{ℕ, _+_, _≤_, _<_}
 use native.Mathlib.Omega.{arith}
 use lib.ListN.{length, getD}
 use lib.Dec.{ltb, leb, eqb}
@@ -11,7 +11,7 @@ use borrow.Author.Tests.{ltb-false, leb-false, eqb-false, le-ltb, lt-leb, ne-eqb
 use Rattle.reading.specs.File.{Outcome, accepted, nodeAt, necessityAt, variableAt}
 use Rattle.reading.specs.declared.formulas.Record.{Record}
 use Rattle.reading.proofs.Outcomes.{accepted-is, passes, neither}
-use Rattle.reading.proofs.Steps.{Kind, is-truth, is-falsity, is-both, is-necessity, is-max, is-other, kind-of}
+use Rattle.reading.proofs.Steps.{Kind, is-truth, is-falsity, is-both, is-necessity, is-max, is-other, kind-of, node-left}
 use Rattle.reading.proofs.Places.{Byte}
 
 -- the kinds without a body
@@ -24,13 +24,18 @@ pub data Bare : ℕ → Type 0 where
 -- The record r stands at `at`, after n patterns, inside m maxes of which u are unguarded.
 pub data NodeStands (s : List ℕ) (n at m u : ℕ) : Record → Type 0 where
   bare : {kind : ℕ} → Bare kind → Byte s at kind → NodeStands s n at m u (record { kind = kind; argument = 0; next = at + 1 })
-  of-necessity : {p : ℕ} → p < n → Byte s at 5 → Byte s (at + 1) p → NodeStands s n at m u (record { kind = 5; argument = p; next = at + 2 })
-  of-variable : {d : ℕ} → d < m → u ≤ d → Byte s at 7 → Byte s (at + 1) d → NodeStands s n at m u (record { kind = 7; argument = d; next = at + 2 })
+  of-necessity : {p : ℕ} → p < n → Byte s at 5 → Byte s (at + 1) p
+      → NodeStands s n at m u (record { kind = 5; argument = p; next = at + 2 })
+  of-variable : {d : ℕ} → d < m → u ≤ d → Byte s at 7 → Byte s (at + 1) d
+      → NodeStands s n at m u (record { kind = 7; argument = d; next = at + 2 })
 
 module _ (s : List ℕ) (n at left m u : ℕ) where
-  -- what is left to check of a record of kind k once it is known to begin
+  -- the last checks of a record of kind k, those of its body
   abbrev bodyOf : ℕ → Outcome Record
-  bodyOf k = cond (eqb k 5) (necessityAt s n at) (cond (eqb k 7) (variableAt s m u at) (accepted (record { kind = k; argument = 0; next = at + 1 })))
+  bodyOf k =
+      cond (eqb k 5) (necessityAt s n at)
+      (cond (eqb k 7) (variableAt s m u at)
+      (accepted (record { kind = k; argument = 0; next = at + 1 })))
 
   begins : {k : ℕ} → 0 < left → Byte s at k → (eqb k 0 || ltb 7 k) ≡ false → eqb k 1 ≡ false → nodeAt s n at left m u ≡ bodyOf k
   begins pos b known node = rw (lt-leb (length s) at (b .inside), b .is, known, node, ne-eqb left 0 (λ z. omega arith))
@@ -48,14 +53,14 @@ module _ (s : List ℕ) (n at left m u : ℕ) where
       begins pos b refl refl ∙ rw (lt-leb (length s) (at + 1) (a .inside), a .is, lt-leb m d h, le-ltb d u k)
 
   module _ (r : Record) where
-    same : {x : Record} → NodeStands s n at m u x → accepted x ≡ accepted r → NodeStands s n at m u r
-    same stands e = subst (λ (x : Record). NodeStands s n at m u x) (accepted-is e) stands
+    read-as : {x : Record} → NodeStands s n at m u x → accepted x ≡ accepted r → NodeStands s n at m u r
+    read-as stands e = subst (λ (x : Record). NodeStands s n at m u x) (accepted-is e) stands
 
     necessity-stands : Byte s at 5 → necessityAt s n at ≡ accepted r → NodeStands s n at m u r
     necessity-stands b e =
         let whole = passes (leb (length s) (at + 1)) 1 (length s) _ e in
         let known = passes (leb n (getD s (at + 1) 0)) 6 at _ (whole .1) in
-        same (of-necessity (leb-false _ _ (known .0)) b (record { inside = leb-false _ _ (whole .0); is = refl })) (known .1)
+        read-as (of-necessity (leb-false _ _ (known .0)) b (record { inside = leb-false _ _ (whole .0); is = refl })) (known .1)
 
     variable-stands : Byte s at 7 → variableAt s m u at ≡ accepted r → NodeStands s n at m u r
     variable-stands b e =
@@ -63,14 +68,15 @@ module _ (s : List ℕ) (n at left m u : ℕ) where
         let known = passes (leb m (getD s (at + 1) 0)) 6 at _ (whole .1) in
         let guarded = passes (ltb (getD s (at + 1) 0) u) 7 at _ (known .1) in
         let depth : Byte s (at + 1) (getD s (at + 1) 0) = record { inside = leb-false _ _ (whole .0); is = refl } in
-        same (of-variable (leb-false _ _ (known .0)) (ltb-false _ _ (guarded .0)) b depth) (guarded .1)
+        read-as (of-variable (leb-false _ _ (known .0)) (ltb-false _ _ (guarded .0)) b depth) (guarded .1)
 
-    body-stands : {k : ℕ} → Kind k → Byte s at k → (eqb k 0 || ltb 7 k) ≡ false → eqb k 1 ≡ false → bodyOf k ≡ accepted r → NodeStands s n at m u r
-    body-stands is-truth b known node e = same (bare bare-truth b) e
-    body-stands is-falsity b known node e = same (bare bare-falsity b) e
-    body-stands is-both b known node e = same (bare bare-both b) e
+    body-stands : {k : ℕ} → Kind k → Byte s at k → (eqb k 0 || ltb 7 k) ≡ false → eqb k 1 ≡ false → bodyOf k ≡ accepted r
+        → NodeStands s n at m u r
+    body-stands is-truth b known node e = read-as (bare bare-truth b) e
+    body-stands is-falsity b known node e = read-as (bare bare-falsity b) e
+    body-stands is-both b known node e = read-as (bare bare-both b) e
     body-stands is-necessity b known node e = necessity-stands b e
-    body-stands is-max b known node e = same (bare bare-max b) e
+    body-stands is-max b known node e = read-as (bare bare-max b) e
     body-stands {k} (is-other a2 a3 a4 a5 a6) b known node e =
         let range = neither (eqb k 0) (ltb 7 k) known in
         let over : 3 < k = omega (arith, eqb-false k 0 (range .0), eqb-false k 1 node, eqb-false k 2 a2, eqb-false k 3 a3) in
@@ -84,7 +90,7 @@ module _ (s : List ℕ) (n at left m u : ℕ) where
         let node = passes (eqb (getD s at 0) 1) 3 at _ (known .1) in
         let few = passes (eqb left 0) 4 at _ (node .1) in
         let here : Byte s at (getD s at 0) = record { inside = leb-false _ _ (begun .0); is = refl } in
-        (omega (arith, eqb-false left 0 (few .0)), body-stands (kind-of (getD s at 0)) here (known .0) (node .0) (few .1))
+        (node-left s n at left m u r e, body-stands (kind-of (getD s at 0)) here (known .0) (node .0) (few .1))
 
     pub node-accepts : (nodeAt s n at left m u ≡ accepted r) ↔ ((0 < left) × NodeStands s n at m u r)
     node-accepts = (node-stands, λ h. node-read (h .0) (h .1))

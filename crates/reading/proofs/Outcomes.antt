@@ -27,6 +27,10 @@ module _ {A B : Type 0} where
   accepted-by (accepted a) f e = (a, refl, e)
   accepted-by (refused number place) f e = absurd (never-accepted e)
 
+  -- the other way round
+  pub then-accepts : {o : Outcome A} (f : A → Outcome B) {a : A} {b : B} → o ≡ accepted a → f a ≡ accepted b → andThen o f ≡ accepted b
+  then-accepts f e e′ = rw (e, e′)
+
   -- second steps that agree on what the first accepts
   pub then-agree : (o : Outcome A) (f g : A → Outcome B) → ((a : A) → o ≡ accepted a → f a ≡ g a) → andThen o f ≡ andThen o g
   then-agree (accepted a) f g e = e a refl

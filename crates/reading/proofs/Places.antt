@@ -1,23 +1,22 @@
 -- Bytes at a place of a file. That the bytes `l` are the file from `at` on is said by `drop at s ≡ l`.
-use mathlib.Core.Path.{_≡_, refl, sym, ap, _∙_}
-use mathlib.Core.List.{List, [], _∷_, _++_}
-use Prim.Native.Nat.{ℕ, zero, suc, _+_, _-_, _≤_, _<_}
+use mathlib.Core.Path.{_≡_, refl, ap, _∙_}
+use mathlib.Core.List.{List, _∷_, _++_}
+use Prim.Native.Nat.{ℕ, suc, _+_, _<_}
 use native.Mathlib.Omega.{arith}
-use native.Mathlib.Numerals.{add-one}
 use lib.ListN.{length, getD, drop, length-drop}
 use lib.Seq.{drop-cons, drop-drop, getD-drop, drop-append-seam}
 
+-- the byte at `at` is x
 pub record Byte (s : List ℕ) (at x : ℕ) : Type 0 where
   pub inside : at < length s
   pub is : getD s at 0 ≡ x
 
-module _ {s : List ℕ} {at : ℕ} where
-  pub from-byte : {x : ℕ} (next : ℕ) → Byte s at x → at + 1 ≡ next → drop at s ≡ x ∷ drop next s
-  from-byte next b e =
-      let inside : at < length s = b .inside in
-      let after : suc at ≡ next = omega arith in
-      drop-cons s at 0 inside ∙ rw (b .is, after)
+pub from-byte : {s : List ℕ} {at x : ℕ} (next : ℕ) → Byte s at x → at + 1 ≡ next → drop at s ≡ x ∷ drop next s
+from-byte {s} {at} next b e =
+    let after : suc at ≡ next = omega arith in
+    drop-cons s at 0 (b .inside) ∙ rw (b .is, after)
 
+-- where the file from `at` on is l, its byte and its rest i places on
 module _ (s : List ℕ) (at i place : ℕ) {l : List ℕ} (from : drop at s ≡ l) (e : at + i ≡ place) where
   pub byte-of : i < length l → Byte s place (getD l i 0)
   byte-of h = record {
@@ -27,6 +26,9 @@ module _ (s : List ℕ) (at i place : ℕ) {l : List ℕ} (from : drop at s ≡ 
 
   pub rest-of : drop place s ≡ drop i l
   rest-of = rw (← e, ← drop-drop i at s, from)
+
+pub first-byte : (s : List ℕ) (at : ℕ) {x : ℕ} {ys : List ℕ} → drop at s ≡ x ∷ ys → Byte s at x
+first-byte s at from = byte-of s at 0 at from (omega arith) (omega arith)
 
 pub rest-after : (s : List ℕ) (at : ℕ) (bs : List ℕ) {rest : List ℕ} → drop at s ≡ bs ++ rest → drop (at + length bs) s ≡ rest
 rest-after s at bs {rest} from = rest-of s at (length bs) (at + length bs) from refl ∙ drop-append-seam bs rest

@@ -1,0 +1,101 @@
+-- The loop over pattern records: what is read so far, and what it leaves at each way out.
+use mathlib.Core.Path.{_≡_, refl, sym, ap, _∙_, subst}
+use mathlib.Core.Bool.{true, false}
+use mathlib.Core.List.{List, [], _∷_, _++_, map, append-nil, append-assoc}
+use Prim.Native.Nat.{ℕ, zero, suc, _+_, _-_, _≤_, _<_}
+use native.Mathlib.Omega.{arith}
+use lib.Dec.{leb, ltb, eqb}
+use lib.ListN.{length, getD, set, replicate, length-append, length-map}
+use lib.Seq.{set-at}
+use borrow.Author.Tests.{leb-false, ltb-false, eqb-false}
+use Rattle.reading.specs.Pattern.{extentOf, WellFormedPattern}
+use Rattle.reading.specs.File.{Outcome, accepted, refused, andThen, Patterns, isPattern, patternAt, patternsAt, onePattern}
+use Rattle.reading.specs.Numbered.{padded, noPattern, noExtent}
+use Rattle.reading.specs.Answers.{HeadOf}
+use Rattle.reading.specs.declared.Pattern.{Pattern}
+use Rattle.reading.specs.declared.Extent.{Extent}
+use Rattle.reading.specs.declared.Answer as Answer′
+use Rattle.reading.specs.declared.patterns.Head.{Head}
+use Rattle.reading.proofs.Outcomes.{passes}
+
+-- ---- arrays that fill up from the front
+
+set-padded : {A : Type 0} (n i : ℕ) (x a : A) (l : List A) → length l ≡ i → i < n → set (padded n x l) i a ≡ padded n x (l ++ a ∷ [])
+set-padded n i x a l e h =
+    let more : n - length l ≡ suc (n - length (l ++ a ∷ [])) = omega (arith, length-append l (a ∷ [])) in
+    rw more (set-at l x _ a i e ∙ sym (append-assoc l (a ∷ []) _))
+
+map-last : {A B : Type 0} (f : A → B) (l : List A) (a : A) → map f (l ++ a ∷ []) ≡ map f l ++ f a ∷ []
+map-last f [] a = refl
+map-last f (x ∷ l) a = ap (λ (k : List _). f x ∷ k) (map-last f l a)
+
+-- ---- the rest of the patterns, after some
+
+abbrev prepend : List Pattern → Outcome Patterns → Outcome Patterns
+prepend ps o = andThen o (λ qs. accepted (record { list = ps ++ qs .list; next = qs .next }))
+
+prepend-none : (o : Outcome Patterns) → o ≡ prepend [] o
+prepend-none (accepted qs) = refl
+prepend-none (refused number place) = refl
+
+prepend-one : (ps : List Pattern) (p : Pattern) (o : Outcome Patterns) → prepend ps (andThen o (onePattern p)) ≡ prepend (ps ++ p ∷ []) o
+prepend-one ps p (accepted qs) = rw (append-assoc ps (p ∷ []) (qs .list))
+prepend-one ps p (refused number place) = refl
+
+module _ (s : List ℕ) (at : ℕ) where
+  none-more : (left : ℕ) → isPattern s at ≡ false → patternsAt left s at ≡ accepted (record { list = []; next = at })
+  unfolding patternsAt
+  none-more zero e = rw e
+  none-more (suc left) e = rw e
+
+  one-more : (left : ℕ) {p : Pattern} → isPattern s at ≡ true → patternAt s at (suc left) ≡ accepted p
+      → patternsAt (suc left) s at ≡ andThen (patternsAt left s (at + 4)) (onePattern p)
+  unfolding patternsAt
+  one-more left e h = rw (e, h)
+
+  one-refused : (left : ℕ) {number place : ℕ} → isPattern s at ≡ true → patternAt s at left ≡ refused number place
+      → patternsAt left s at ≡ refused number place
+  unfolding patternsAt
+  one-refused zero e h = rw e (cc)
+  one-refused (suc left) e h = rw (e, h)
+
+-- ---- the loop
+
+-- n patterns are read, up to `at`, and the arrays have them
+pub record Begun (s : List ℕ) (list : List Pattern) (extents : List Extent) (at n : ℕ) : Type 0 where
+  pub ps : List Pattern
+  pub read : length ps ≡ n
+  pub few : n ≤ 32
+  pub patterns : list ≡ padded 32 noPattern ps
+  pub measured : extents ≡ padded 32 noExtent (map extentOf ps)
+  pub rest : patternsAt 32 s 0 ≡ prepend ps (patternsAt (32 - n) s at)
+
+pub none-begun : (s : List ℕ) → Begun s (replicate 32 noPattern) (replicate 32 noExtent) 0 0
+none-begun s = record { ps = []; read = refl; few = omega arith; patterns = refl; measured = refl; rest = prepend-none _ }
+
+module _ (s : List ℕ) (list : List Pattern) (extents : List Extent) (at n : ℕ) (b : Begun s list extents at n) where
+  pub one-begun : (p : Pattern) → isPattern s at ≡ true → 0 < 32 - n → patternAt s at (32 - n) ≡ accepted p
+      → Begun s (set list n p) (set extents n (extentOf p)) (at + 4) (n + 1)
+  one-begun p e pos h =
+      let left : 32 - n ≡ suc (32 - (n + 1)) = omega arith in
+      record {
+        ps = b .ps ++ p ∷ [];
+        read = length-append (b .ps) (p ∷ []) ∙ omega (arith, b .read);
+        few = omega arith;
+        patterns = rw (b .patterns) (set-padded 32 n noPattern p (b .ps) (b .read) (omega arith));
+        measured = rw (b .measured, map-last extentOf (b .ps) p)
+        (set-padded 32 n noExtent (extentOf p) (map extentOf (b .ps)) (length-map (b .ps) extentOf ∙ b .read) (omega arith));
+        rest = b .rest ∙ rw left (ap (prepend (b .ps)) (one-more s at (32 - (n + 1)) e (rw left at h)) ∙ prepend-one (b .ps) p (patternsAt (32 - (n + 1)) s (at + 4)))
+      }
+
+  pub all-begun : isPattern s at ≡ false
+      → HeadOf (patternsAt 32 s 0) (record { answer = Answer′.the-variants.Accepted; next = at; count = n; list = list; extents = extents })
+  all-begun e =
+      let r : patternsAt 32 s 0 ≡ accepted (record { list = b .ps; next = at }) = b .rest ∙ rw (none-more s at (32 - n) e, append-nil (b .ps)) in
+      rw r (cc)
+
+  pub begun-refused : (number place : ℕ) (h : Head) → isPattern s at ≡ true → patternAt s at (32 - n) ≡ refused number place
+      → h .answer ≡ Answer′.the-variants.Refused number place → HeadOf (patternsAt 32 s 0) h
+  begun-refused number place h e r a =
+      let f : patternsAt 32 s 0 ≡ refused number place = b .rest ∙ rw (one-refused s at (32 - n) e r) in
+      rw f a

@@ -1,0 +1,125 @@
+-- `patterns::read_patterns` meets its contract. The loop keeps what is read so far; the measure is how many patterns are left.
+use mathlib.Core.Path.{_≡_, sym, ap, _∙_}
+use mathlib.Core.Bool.{true}
+use mathlib.Core.List.{List}
+use Prim.Native.Nat.{ℕ, _+_, _-_}
+use native.Mathlib.Omega.{arith}
+use borrow.Author.Needs.{needs}
+use Rattle.reading.specs.File.{accepted, isPattern, patternAt}
+use Rattle.reading.specs.Answers.{patternOutcome, patternAnswer}
+use Rattle.reading.proofs.Heads.{Begun, none-begun, one-begun, all-begun, begun-refused}
+use Rattle.reading.proofs.PatternBytes.{PatternStands, pattern-stands, one-stands}
+use Rattle.reading.proofs.patterns.read_patterns.Statement.{statement}
+use Rattle.reading.proofs.patterns.read_patterns.Tie as tie
+
+abbrev Inv-loop : tie.InvT-loop
+Inv-loop bytes list₀ extents₀ at₀ n₀ list extents at n = Begun bytes list extents at n
+
+abbrev μ-loop : tie.MeasureT-loop
+μ-loop bytes list₀ extents₀ at₀ n₀ list extents at n = 32 - n
+
+-- a pattern record begins at `at`
+begins : (c : tie.Then1 Inv-loop μ-loop) → isPattern (c .before .before .before .before .args .bytes .now) (c .before .before .loop .at) ≡ true
+begins c = sym (c .before .is-pattern .ensures) ∙ c .if1 .taken
+
+-- the pattern that was read stands there
+module _ (c : tie.After-known-told Inv-loop μ-loop) where
+  abbrev s : List ℕ
+  s = c .before .before .before .before .before .before .before .before .args .bytes .now
+
+  abbrev place : ℕ
+  place = c .before .before .before .before .before .before .loop .at
+
+  abbrev left : ℕ
+  left = 32 - c .before .before .before .before .before .before .loop .n
+
+  is-read : patternAt s place left ≡ accepted (c .before .found .given .0 .0)
+  is-read = sym (c .before .before .before .read-pattern .ensures) ∙ ap patternOutcome (c .before .found .given .1)
+
+  stands : PatternStands s place left (c .before .found .given .0 .0)
+  stands =
+      pattern-stands s place left _ (omega (arith, c .before .before .before .before .before .before .before .shared-slice-known .given (place + 1))) is-read
+
+loop-holds : tie.Need-loop-holds Inv-loop μ-loop
+loop-holds c = none-begun _
+
+is-pattern-requires : tie.Need-is-pattern-requires Inv-loop μ-loop
+is-pattern-requires c κs = search needs
+
+sub-read-pattern : tie.Need-sub-read-pattern Inv-loop μ-loop
+sub-read-pattern c = omega (arith, c .before .before .loop .inv .few)
+
+read-pattern-requires : tie.Need-read-pattern-requires Inv-loop μ-loop
+read-pattern-requires c κs = one-stands (c .before .before .before .before .args .bytes .now) (c .before .before .loop .at) (begins c) .inside
+
+enum-known-found : tie.Need-enum-known-found Inv-loop μ-loop
+enum-known-found c = search needs
+
+enum-told : tie.Need-enum-told Inv-loop μ-loop
+enum-told c = search needs
+
+answer-requires : tie.Need-answer-requires Inv-loop μ-loop
+answer-requires c κs = search needs
+
+returns : tie.Need-returns Inv-loop μ-loop
+returns c =
+    let l = c .before .before .before .before .before .before in
+    begun-refused _ _ _ _ _ (l .loop .inv) _ _ _ (begins (c .before .before .before .before))
+    (sym (c .before .before .before .read-pattern .ensures) ∙ ap patternOutcome (c .before .enum-told .given .1)) (c .answer .ensures ∙ ap patternAnswer (c .before .enum-told .given .1))
+
+mul-list : tie.Need-mul-list Inv-loop μ-loop
+mul-list c = omega (arith, stands c .some-left)
+
+array-set-from-list : tie.Need-array-set-from-list Inv-loop μ-loop
+array-set-from-list c = omega (arith, stands c .some-left)
+
+extent-requires : tie.Need-extent-requires Inv-loop μ-loop
+extent-requires c κs = stands c .well-formed
+
+mul-extents : tie.Need-mul-extents Inv-loop μ-loop
+mul-extents c = omega (arith, stands (c .before) .some-left)
+
+array-set-from-extents : tie.Need-array-set-from-extents Inv-loop μ-loop
+array-set-from-extents c = omega (arith, stands (c .before) .some-left)
+
+add-n : tie.Need-add-n Inv-loop μ-loop
+add-n c = omega (arith, stands (c .before) .some-left)
+
+add-at : tie.Need-add-at Inv-loop μ-loop
+add-at c = omega (arith, stands (c .before) .last .inside)
+
+loop-less : tie.Need-loop-less Inv-loop μ-loop
+loop-less c = omega (arith, stands (c .before) .some-left)
+
+loop-again : tie.Need-loop-again Inv-loop μ-loop
+loop-again c =
+    rw (c .extent .ensures) (one-begun _ _ _ _ _ (c .before .before .before .before .before .before .before .loop .inv) _
+    (begins (c .before .before .before .before .before)) (stands (c .before) .some-left) (is-read (c .before)))
+
+returns-2 : tie.Need-returns-2 Inv-loop μ-loop
+returns-2 c = all-begun _ _ _ _ _ (c .before .before .loop .inv) (sym (c .before .is-pattern .ensures) ∙ c .if1 .left)
+
+pub read-patterns-spec : {M : Type 1} → statement M
+read-patterns-spec =
+    tie.close
+    (tie.spec
+    Inv-loop
+    μ-loop
+    loop-holds
+    is-pattern-requires
+    sub-read-pattern
+    read-pattern-requires
+    enum-known-found
+    enum-told
+    answer-requires
+    returns
+    mul-list
+    array-set-from-list
+    extent-requires
+    mul-extents
+    array-set-from-extents
+    add-n
+    add-at
+    loop-less
+    loop-again
+    returns-2)
