@@ -17,4 +17,5 @@ pub mod Scopes
 pub mod Stores
 pub mod Parts
 pub mod Heads
+pub mod Ways
 pub mod Examples

@@ -68,11 +68,11 @@ module _ {s : List ℕ} {n at m u : ℕ} where
   is-bound (of-variable h g b a) e = h
 
 -- what a formula's answer says of it
-not-read : (o : Outcome Parsed) {number place : ℕ} → formulaRead o ≡ FormulaRead′.the-variants.Refused number place → o ≡ refused number place
+pub not-read : (o : Outcome Parsed) {number place : ℕ} → formulaRead o ≡ FormulaRead′.the-variants.Refused number place → o ≡ refused number place
 not-read (accepted f) e = let z : _≡_ {A = ℕ} 0 1 = cc in absurd (omega arith)
 not-read (refused number place) e = cc
 
-was-read : (o : Outcome Parsed) {rest : Rest} → formulaRead o ≡ FormulaRead′.the-variants.Read rest
+pub was-read : (o : Outcome Parsed) {rest : Rest} → formulaRead o ≡ FormulaRead′.the-variants.Read rest
     → (f : Parsed) × (o ≡ accepted f) × (rest ≡ record { next = f .next; left = f .left })
 was-read (accepted f) e = (f, refl, cc)
 was-read (refused number place) e = let z : _≡_ {A = ℕ} 0 1 = cc in absurd (omega arith)

@@ -52,14 +52,17 @@ passedUp (NodeRead′.the-variants.Refused number place) = FormulaRead′.the-va
 
 -- ---- the patterns that a file begins with
 
-abbrev pub HeadOf : Outcome Patterns → Head → Type 0
-HeadOf (accepted ps) h = h ≡ record {
+abbrev pub headOf : Patterns → Head
+headOf ps = record {
   answer = Answer′.the-variants.Accepted;
   next = ps .next;
   count = length (ps .list);
   list = padded 32 noPattern (ps .list);
-  extents = padded 32 noExtent (map extentOf (ps .list));
+  extents = padded 32 noExtent (map extentOf (ps .list))
 }
+
+abbrev pub HeadOf : Outcome Patterns → Head → Type 0
+HeadOf (accepted ps) h = h ≡ headOf ps
 HeadOf (refused number place) h = h .answer ≡ Answer′.the-variants.Refused number place
 
 -- ---- the max nodes around a record

@@ -113,7 +113,6 @@ formulaAt zero s n at left m u = refused 4 at
 formulaAt (suc depth) s n at left m u = andThen (nodeAt s n at left m u) (λ r. partsBy (formulaAt depth s n) r (left - 1) m u)
 
 unfoldable pub formulaOf : List ℕ → (n at left m u : ℕ) → Outcome Parsed
-unfolding formulaAt
 formulaOf s n at left m u = formulaAt (suc left) s n at left m u
 
 -- ---- the whole file
@@ -123,5 +122,4 @@ abbrev pub ended : List ℕ → List Pattern → Parsed → Outcome Rule
 ended s ps f = refuse (ltb (f .next) (length s)) 3 (f .next) (accepted (record { patterns = ps; formula = f .formula }))
 
 unfoldable pub ruleOf : List ℕ → Outcome Rule
-unfolding patternsAt formulaOf
 ruleOf s = andThen (patternsAt 32 s 0) (λ ps. andThen (formulaOf s (length (ps .list)) (ps .next) 64 0 0) (ended s (ps .list)))

@@ -11,7 +11,6 @@ unfoldable pub bit : ℕ → ℕ → ℕ
 bit i n = n / 2 ^ i % 2
 
 unfoldable pub covers : Pattern → ℕ → Bool
-unfolding bit
 covers p code = eqb (bit (kindOf code) (p .mask)) 1 && (leb (p .first) (slotOf code) && leb (slotOf code) (p .last))
 
 -- the least number below n that a test holds of; n where there is none

@@ -13,15 +13,15 @@ shr-if1 : tie.Need-shr-if1
 shr-if1 c = search needs
 
 returns : tie.Need-returns
-unfolding covers
+unfolding covers bit
 returns c = rw (c .if1 .taken)
 
 returns-2 : tie.Need-returns-2
-unfolding covers
+unfolding covers bit
 returns-2 c = simp (lt-leb _ _ (c .if2 .taken), and-false)
 
 returns-3 : tie.Need-returns-3
-unfolding covers
+unfolding covers bit
 returns-3 c =
     let args = c .before .before .before .before .before .args in
     let set : bit (kindOf (args .code)) (args .p .mask) ≡ 1 = omega arith in
