@@ -14,7 +14,8 @@ use Rattle.reading.specs.File.{accepted, isPattern, patternsAt, Parsed, 
 use Rattle.reading.proofs.Outcomes.{accepted-is, accepted-by, then-accepts, passes}
 use Rattle.reading.proofs.Places.{first-byte, rest-after}
 use Rattle.reading.proofs.PatternBytes.{PatternsStand, patterns-accept}
-use Rattle.reading.proofs.FormulaBytes.{FormulaStands, formula-accepts}
+use Rattle.reading.proofs.Sound.{FormulaStands}
+use Rattle.reading.proofs.FormulaBytes.{formula-accepts}
 use Rattle.reading.proofs.Encoding.{encoding-is-bytes}
 
 rule-stands : (s : List ℕ) → Bytes s → (r : Rule) → ruleOf s ≡ accepted r → WellFormedRule r × (s ≡ encode r)

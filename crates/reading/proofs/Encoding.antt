@@ -43,7 +43,7 @@ length-patterns : (l : List Pattern) → length (encodePatterns l) ≡ 4 * lengt
 length-patterns [] = refl
 length-patterns (p ∷ l) = omega (arith, length-patterns l)
 
-length-formula : (f : Formula) → length (encodeFormula f) ≤ 2 * size f
+pub length-formula : (f : Formula) → length (encodeFormula f) ≤ 2 * size f
 length-formula truth = omega arith
 length-formula falsity = omega arith
 length-formula (both f g) = omega (arith, length-append (encodeFormula f) (encodeFormula g), length-formula f, length-formula g)

@@ -1,91 +1,18 @@
 -- A formula is accepted exactly where it is well formed, has no more nodes than are left, and its bytes stand at its place.
-use mathlib.Core.Path.{_≡_, refl, sym, _∙_, subst}
+use mathlib.Core.Path.{_≡_, refl, sym, _∙_}
 use mathlib.Core.Logic.{_↔_}
 use mathlib.Core.List.{List, _++_, append-assoc}
-use Prim.Native.Nat.{ℕ, zero, suc, _+_, _-_, _≤_, _<_}
+use Prim.Native.Nat.{ℕ, suc, _+_, _-_, _≤_, _<_}
 use native.Mathlib.Omega.{arith}
 use lib.ListN.{length, drop, length-append}
 use Rattle.reading.specs.Formula.{Formula, truth, falsity, both, necessity, max, variable, size, WellFormed}
 use Rattle.reading.specs.Rule.{encodeFormula}
-use Rattle.reading.specs.File.{accepted, Parsed, nodeAt, leaf, partsBy, formulaAt, formulaOf}
+use Rattle.reading.specs.File.{accepted, Parsed, leaf, partsBy, formulaOf}
 use Rattle.reading.specs.declared.formulas.Record.{Record}
-use Rattle.reading.proofs.Outcomes.{accepted-is, never-accepted, accepted-by}
-use Rattle.reading.proofs.Steps.{Reader, formula-step}
-use Rattle.reading.proofs.Places.{from-byte, byte-of, first-byte, rest-of, rest-after}
+use Rattle.reading.proofs.Places.{byte-of, first-byte, rest-of, rest-after}
 use Rattle.reading.proofs.NodeBytes.{bare-truth, bare-falsity, bare-both, bare-max, NodeStands, bare, of-necessity, of-variable, node-accepts}
-
--- The formula of f stands at `at` and fits, after n patterns, with `left` nodes left, inside m maxes of which u are unguarded.
-pub record FormulaStands (s : List ℕ) (n at left m u : ℕ) (f : Parsed) : Type 0 where
-  pub well-formed : WellFormed n m u (f .formula)
-  pub bytes : drop at s ≡ encodeFormula (f .formula) ++ drop (f .next) s
-  pub ends : f .next ≡ at + length (encodeFormula (f .formula))
-  pub nodes : size (f .formula) + f .left ≡ left
-
--- ---- what is accepted stands there
-
-abbrev Sound : List ℕ → ℕ → Reader → Type 0
-Sound s n read = (at left m u : ℕ) (f : Parsed) → read at left m u ≡ accepted f → FormulaStands s n at left m u f
-
-module _ (s : List ℕ) (n : ℕ) (read : Reader) (sound : Sound s n read) (at left m u : ℕ) (f : Parsed) where
-  abbrev Whole : Parsed → Type 0
-  Whole = FormulaStands s n at (suc left) m u
-
-  parts-stand : {r : Record} → NodeStands s n at m u r → partsBy read r left m u ≡ accepted f → Whole f
-  parts-stand (bare bare-truth b) e =
-      subst Whole (accepted-is e) (record { well-formed = tt; bytes = from-byte (at + 1) b refl; ends = refl; nodes = omega arith })
-  parts-stand (bare bare-falsity b) e =
-      subst Whole (accepted-is e) (record { well-formed = tt; bytes = from-byte (at + 1) b refl; ends = refl; nodes = omega arith })
-  parts-stand (bare bare-both b) e =
-      let first = accepted-by (read (at + 1) left m u) _ e in
-      let g = first .0 in
-      let second = accepted-by (read (g .next) (g .left) m u) _ (first .2) in
-      let h = second .0 in
-      let stands = sound (at + 1) left m u g (first .1) in
-      let stands′ = sound (g .next) (g .left) m u h (second .1) in
-      subst Whole (accepted-is (second .2)) (record {
-        well-formed = (stands .well-formed, stands′ .well-formed);
-        bytes = from-byte (at + 1) b refl ∙ rw (stands .bytes, stands′ .bytes, append-assoc);
-        ends = omega (arith, stands .ends, stands′ .ends, length-append (encodeFormula (g .formula)) (encodeFormula (h .formula)));
-        nodes = omega (arith, stands .nodes, stands′ .nodes);
-      })
-  parts-stand (of-necessity p b a) e =
-      let part = accepted-by (read (at + 2) left m 0) _ e in
-      let stands = sound (at + 2) left m 0 (part .0) (part .1) in
-      subst Whole (accepted-is (part .2)) (record {
-        well-formed = (p, stands .well-formed);
-        bytes = from-byte (at + 1) b refl ∙ rw (from-byte (at + 2) a (omega arith), stands .bytes);
-        ends = omega (arith, stands .ends);
-        nodes = omega (arith, stands .nodes);
-      })
-  parts-stand (bare bare-max b) e =
-      let part = accepted-by (read (at + 1) left (suc m) (suc u)) _ e in
-      let stands = sound (at + 1) left (suc m) (suc u) (part .0) (part .1) in
-      subst Whole (accepted-is (part .2)) (record {
-        well-formed = stands .well-formed;
-        bytes = from-byte (at + 1) b refl ∙ rw (stands .bytes);
-        ends = omega (arith, stands .ends);
-        nodes = omega (arith, stands .nodes);
-      })
-  parts-stand (of-variable bound guarded b a) e =
-      subst Whole (accepted-is e) (record {
-        well-formed = (bound, guarded);
-        bytes = from-byte (at + 1) b refl ∙ rw (from-byte (at + 2) a (omega arith));
-        ends = refl;
-        nodes = omega arith;
-      })
-
-at-sound : (depth : ℕ) (s : List ℕ) (n : ℕ) → Sound s n (formulaAt depth s n)
-unfolding formulaAt
-at-sound zero s n at left m u f e = absurd (never-accepted e)
-at-sound (suc depth) s n at left m u f e =
-    let node = accepted-by (nodeAt s n at left m u) _ e in
-    let stands = node-accepts s n at left m u (node .0) .0 (node .1) in
-    let pos : 0 < left = stands .0 in
-    let whole : suc (left - 1) ≡ left = omega arith in
-    subst (λ (l : ℕ). FormulaStands s n at l m u f) whole
-    (parts-stand s n (formulaAt depth s n) (at-sound depth s n) at (left - 1) m u f (stands .1) (node .2))
-
--- ---- what stands there is accepted
+use Rattle.reading.proofs.Sound.{FormulaStands}
+use Rattle.reading.proofs.Steps.{formula-step, formula-sound}
 
 module _ (s : List ℕ) (n : ℕ) where
   -- a formula that begins with the record r
@@ -128,12 +55,9 @@ module _ (s : List ℕ) (n : ℕ) where
       let depth = byte-of s at 1 (at + 1) from refl (omega arith) in
       with-node at left m u fits (of-variable (w .0) (w .1) (first-byte s at from) depth)
 
--- ---- both
-
 pub formula-accepts : (s : List ℕ) (n at left m u : ℕ) (f : Parsed)
     → (formulaOf s n at left m u ≡ accepted f) ↔ FormulaStands s n at left m u f
-unfolding formulaOf
-formula-accepts s n at left m u f = (at-sound (suc left) s n at left m u f, read)
+formula-accepts s n at left m u f = (formula-sound s n at left m u f, read)
   where
     read : FormulaStands s n at left m u f → formulaOf s n at left m u ≡ accepted f
     read h =

@@ -16,7 +16,7 @@ use Rattle.reading.specs.declared.Pattern.{Pattern}
 use Rattle.reading.specs.declared.Extent.{Extent}
 use Rattle.reading.specs.declared.Answer as Answer′
 use Rattle.reading.specs.declared.patterns.Head.{Head}
-use Rattle.reading.proofs.Outcomes.{passes}
+use Rattle.reading.proofs.PatternBytes.{none-read}
 
 -- ---- arrays that fill up from the front
 
@@ -43,11 +43,6 @@ prepend-one ps p (accepted qs) = rw (append-assoc ps (p ∷ []) (qs .list))
 prepend-one ps p (refused number place) = refl
 
 module _ (s : List ℕ) (at : ℕ) where
-  none-more : (left : ℕ) → isPattern s at ≡ false → patternsAt left s at ≡ accepted (record { list = []; next = at })
-  unfolding patternsAt
-  none-more zero e = rw e
-  none-more (suc left) e = rw e
-
   one-more : (left : ℕ) {p : Pattern} → isPattern s at ≡ true → patternAt s at (suc left) ≡ accepted p
       → patternsAt (suc left) s at ≡ andThen (patternsAt left s (at + 4)) (onePattern p)
   unfolding patternsAt
@@ -84,14 +79,14 @@ module _ (s : List ℕ) (list : List Pattern) (extents : List Extent) (at n : �
         few = omega arith;
         patterns = rw (b .patterns) (set-padded 32 n noPattern p (b .ps) (b .read) (omega arith));
         measured = rw (b .measured, map-last extentOf (b .ps) p)
-        (set-padded 32 n noExtent (extentOf p) (map extentOf (b .ps)) (length-map (b .ps) extentOf ∙ b .read) (omega arith));
-        rest = b .rest ∙ rw left (ap (prepend (b .ps)) (one-more s at (32 - (n + 1)) e (rw left at h)) ∙ prepend-one (b .ps) p (patternsAt (32 - (n + 1)) s (at + 4)))
+            (set-padded 32 n noExtent (extentOf p) (map extentOf (b .ps)) (length-map (b .ps) extentOf ∙ b .read) (omega arith));
+        rest = b .rest ∙ rw left (ap (prepend (b .ps)) (one-more s at (32 - (n + 1)) e (rw left at h)) ∙ prepend-one (b .ps) p (patternsAt (32 - (n + 1)) s (at + 4)));
       }
 
   pub all-begun : isPattern s at ≡ false
       → HeadOf (patternsAt 32 s 0) (record { answer = Answer′.the-variants.Accepted; next = at; count = n; list = list; extents = extents })
   all-begun e =
-      let r : patternsAt 32 s 0 ≡ accepted (record { list = b .ps; next = at }) = b .rest ∙ rw (none-more s at (32 - n) e, append-nil (b .ps)) in
+      let r : patternsAt 32 s 0 ≡ accepted (record { list = b .ps; next = at }) = b .rest ∙ rw (none-read s at (32 - n) e, append-nil (b .ps)) in
       rw r (cc)
 
   pub begun-refused : (number place : ℕ) (h : Head) → isPattern s at ≡ true → patternAt s at (32 - n) ≡ refused number place

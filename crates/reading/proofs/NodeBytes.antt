@@ -3,7 +3,7 @@ use mathlib.Core.Path.{_≡_, refl, subst, _∙_}
 use mathlib.Core.Bool.{false, cond, _||_}
 use mathlib.Core.Logic.{_↔_}
 use mathlib.Core.List.{List}
-use Prim.Native.Nat.{ℕ, _+_, _≤_, _<_}
+use Prim.Native.Nat.{ℕ, zero, suc, _+_, _≤_, _<_}
 use native.Mathlib.Omega.{arith}
 use lib.ListN.{length, getD}
 use lib.Dec.{ltb, leb, eqb}
@@ -11,7 +11,6 @@ use borrow.Author.Tests.{ltb-false, leb-false, eqb-false, le-ltb, lt-leb, ne-eqb
 use Rattle.reading.specs.File.{Outcome, accepted, nodeAt, necessityAt, variableAt}
 use Rattle.reading.specs.declared.formulas.Record.{Record}
 use Rattle.reading.proofs.Outcomes.{accepted-is, passes, neither}
-use Rattle.reading.proofs.Steps.{Kind, is-truth, is-falsity, is-both, is-necessity, is-max, is-other, kind-of, node-left}
 use Rattle.reading.proofs.Places.{Byte}
 
 -- the kinds without a body
@@ -70,18 +69,16 @@ module _ (s : List ℕ) (n at left m u : ℕ) where
         let depth : Byte s (at + 1) (getD s (at + 1) 0) = record { inside = leb-false _ _ (whole .0); is = refl } in
         read-as (of-variable (leb-false _ _ (known .0)) (ltb-false _ _ (guarded .0)) b depth) (guarded .1)
 
-    body-stands : {k : ℕ} → Kind k → Byte s at k → (eqb k 0 || ltb 7 k) ≡ false → eqb k 1 ≡ false → bodyOf k ≡ accepted r
-        → NodeStands s n at m u r
-    body-stands is-truth b known node e = read-as (bare bare-truth b) e
-    body-stands is-falsity b known node e = read-as (bare bare-falsity b) e
-    body-stands is-both b known node e = read-as (bare bare-both b) e
-    body-stands is-necessity b known node e = necessity-stands b e
-    body-stands is-max b known node e = read-as (bare bare-max b) e
-    body-stands {k} (is-other a2 a3 a4 a5 a6) b known node e =
-        let range = neither (eqb k 0) (ltb 7 k) known in
-        let over : 3 < k = omega (arith, eqb-false k 0 (range .0), eqb-false k 1 node, eqb-false k 2 a2, eqb-false k 3 a3) in
-        let seven : k ≡ 7 = omega (arith, ltb-false 7 k (range .1), eqb-false k 4 a4, eqb-false k 5 a5, eqb-false k 6 a6) in
-        variable-stands (rw seven at b) (rw seven at e)
+    by-kind : (k : ℕ) → Byte s at k → (k ≡ 0 → ⊥) → k ≤ 7 → (k ≡ 1 → ⊥) → bodyOf k ≡ accepted r → NodeStands s n at m u r
+    by-kind zero b some known node e = absurd (some refl)
+    by-kind (suc zero) b some known node e = absurd (node refl)
+    by-kind (suc (suc zero)) b some known node e = read-as (bare bare-truth b) e
+    by-kind (suc (suc (suc zero))) b some known node e = read-as (bare bare-falsity b) e
+    by-kind (suc (suc (suc (suc zero)))) b some known node e = read-as (bare bare-both b) e
+    by-kind (suc (suc (suc (suc (suc zero))))) b some known node e = necessity-stands b e
+    by-kind (suc (suc (suc (suc (suc (suc zero)))))) b some known node e = read-as (bare bare-max b) e
+    by-kind (suc (suc (suc (suc (suc (suc (suc zero))))))) b some known node e = variable-stands b e
+    by-kind (suc (suc (suc (suc (suc (suc (suc (suc k)))))))) b some known node e = absurd (omega arith)
 
     node-stands : nodeAt s n at left m u ≡ accepted r → (0 < left) × NodeStands s n at m u r
     node-stands e =
@@ -89,8 +86,11 @@ module _ (s : List ℕ) (n at left m u : ℕ) where
         let known = passes (eqb (getD s at 0) 0 || ltb 7 (getD s at 0)) 2 at _ (begun .1) in
         let node = passes (eqb (getD s at 0) 1) 3 at _ (known .1) in
         let few = passes (eqb left 0) 4 at _ (node .1) in
-        let here : Byte s at (getD s at 0) = record { inside = leb-false _ _ (begun .0); is = refl } in
-        (node-left s n at left m u r e, body-stands (kind-of (getD s at 0)) here (known .0) (node .0) (few .1))
+        let range = neither (eqb (getD s at 0) 0) (ltb 7 (getD s at 0)) (known .0) in
+        let here : Byte s at (getD s at 0) = record { inside = leb-false _ _ (begun .0); is = refl } in (
+          omega (arith, eqb-false left 0 (few .0)),
+          by-kind (getD s at 0) here (eqb-false _ _ (range .0)) (ltb-false _ _ (range .1)) (eqb-false _ _ (node .0)) (few .1),
+        )
 
     pub node-accepts : (nodeAt s n at left m u ≡ accepted r) ↔ ((0 < left) × NodeStands s n at m u r)
     node-accepts = (node-stands, λ h. node-read (h .0) (h .1))

@@ -35,3 +35,7 @@ module _ {A B : Type 0} where
   pub then-agree : (o : Outcome A) (f g : A → Outcome B) → ((a : A) → o ≡ accepted a → f a ≡ g a) → andThen o f ≡ andThen o g
   then-agree (accepted a) f g e = e a refl
   then-agree (refused number place) f g e = refl
+
+  -- first steps that agree, and then second ones
+  pub both-agree : (o o′ : Outcome A) (f g : A → Outcome B) → o ≡ o′ → ((a : A) → o ≡ accepted a → f a ≡ g a) → andThen o f ≡ andThen o′ g
+  both-agree o o′ f g e h = rw (← e) (then-agree o f g h)

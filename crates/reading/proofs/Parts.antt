@@ -17,26 +17,10 @@ use Rattle.reading.specs.declared.formulas.NodeRead.{NodeRead}
 use Rattle.reading.specs.declared.formulas.NodeRead as NodeRead′
 use Rattle.reading.specs.declared.formulas.FormulaRead.{FormulaRead}
 use Rattle.reading.specs.declared.formulas.FormulaRead as FormulaRead′
-use Rattle.reading.proofs.Steps.{formula-step, formula-takes, formula-falls}
+use Rattle.reading.proofs.Steps.{formula-step, formula-sound}
 use Rattle.reading.proofs.NodeBytes.{NodeStands, bare, of-necessity, of-variable, bare-truth, bare-falsity, bare-both, bare-max, node-accepts}
+use Rattle.reading.proofs.NumberedLaws.{kinds-size, args-size}
 use Rattle.reading.proofs.Stores.{two-lists, two-lists-over}
-
-pub length-kinds : (f : Formula) → length (kinds f) ≡ size f
-length-kinds truth = refl
-length-kinds falsity = refl
-length-kinds (both f g) = ap suc (length-append (kinds f) (kinds g) ∙ rw (length-kinds f, length-kinds g))
-length-kinds (necessity p f) = ap suc (length-kinds f)
-length-kinds (max f) = ap suc (length-kinds f)
-length-kinds (variable d) = refl
-
-pub length-args : (f : Formula) (k : ℕ) (ms : List ℕ) → length (args k ms f) ≡ size f
-length-args truth k ms = refl
-length-args falsity k ms = refl
-length-args (both f g) k ms =
-    ap suc (length-append (args (suc k) ms f) (args (k + suc (size f)) ms g) ∙ rw (length-args f (suc k) ms, length-args g (k + suc (size f)) ms))
-length-args (necessity p f) k ms = ap suc (length-args f (suc k) ms)
-length-args (max f) k ms = ap suc (length-args f (suc k) (k ∷ ms))
-length-args (variable d) k ms = refl
 
 -- a node that was read and has neither body nor part
 data Leaf (node : Record) : Type 0 where
@@ -77,12 +61,12 @@ pub was-read : (o : Outcome Parsed) {rest : Rest} → formulaRead o ≡ FormulaR
 was-read (accepted f) e = (f, refl, cc)
 was-read (refused number place) e = let z : _≡_ {A = ℕ} 0 1 = cc in absurd (omega arith)
 
--- a part that was read leaves fewer nodes
+-- a part that was read leaves no more nodes than there were
 pub rest-left : (s : List ℕ) (n at left m u : ℕ) {ms ks gs ks′ gs′ : List ℕ} (r : FormulaRead) (rest : Rest)
-    → Reads (formulaOf s n at left m u) left ms ks gs ks′ gs′ r → r ≡ FormulaRead′.the-variants.Read rest → rest .left < left
+    → Reads (formulaOf s n at left m u) left ms ks gs ks′ gs′ r → r ≡ FormulaRead′.the-variants.Read rest → rest .left ≤ left
 rest-left s n at left m u r rest h e =
     let a = was-read (formulaOf s n at left m u) (sym (h .answer) ∙ e) in
-    omega (arith, formula-falls s n at left m u (a .0) (a .1), ap (λ (x : Rest). x .left) (a .2))
+    omega (arith, formula-sound s n at left m u (a .0) (a .1) .nodes, ap (λ (x : Rest). x .left) (a .2))
 
 -- A node with one part, g of it: the node's kind and argument are stored, then those of the part.
 module _ (left : ℕ) (pos : 0 < left) (few : left ≤ 64) (ms ms′ ks gs : List ℕ) (kind argument : ℕ) (g : Formula → Formula) where
@@ -94,7 +78,7 @@ module _ (left : ℕ) (pos : 0 < left) (few : left ≤ 64) (ms ms′ ks gs : Lis
   one-part (accepted f) ek ea h =
       let next : 64 - (left - 1) ≡ suc (64 - left) = omega arith in record {
         answer = h .answer;
-        written = (h .written .0 ∙ rw (next, ek (f .formula)), h .written .1 ∙ rw (next, ea (f .formula)))
+        written = (h .written .0 ∙ rw (next, ek (f .formula)), h .written .1 ∙ rw (next, ea (f .formula)));
       }
   one-part (refused number place) ek ea h = record { answer = h .answer; written = tt }
 
@@ -110,10 +94,10 @@ module _ (left argument : ℕ) (pos : 0 < left) (few : left ≤ 64) (ms ks gs : 
       let second : 64 - f .left ≡ 64 - left + suc (size (f .formula)) = omega arith in record {
         answer = h .answer;
         written = (
-          h .written .0 ∙ rw (ek, next) (two-lists ks (64 - left) 4 (kinds (f .formula)) (kinds (g .formula)) (64 - f .left) (omega (arith, length-kinds (f .formula)))),
+          h .written .0 ∙ rw (ek, next) (two-lists ks (64 - left) 4 (kinds (f .formula)) (kinds (g .formula)) (64 - f .left) (omega (arith, kinds-size (f .formula)))),
           h .written .1 ∙ rw (ea, next, second) (two-lists-over gs (64 - left) argument (64 - left + suc (size (f .formula))) (args (suc (64 - left)) ms (f .formula))
-          (args (64 - left + suc (size (f .formula))) ms (g .formula)) (64 - left + suc (size (f .formula))) (omega (arith, length-args (f .formula) (suc (64 - left)) ms))),
-        )
+              (args (64 - left + suc (size (f .formula))) ms (g .formula)) (64 - left + suc (size (f .formula))) (omega (arith, args-size (suc (64 - left)) ms (f .formula)))),
+        );
       }
   two-parts (refused number place) ek ea h = record { answer = h .answer; written = tt }
 
@@ -212,7 +196,7 @@ module _ (s : List ℕ) (n at left : ℕ) (sc : Scope) (ks gs : List ℕ) where
       second-part f e h′ =
           let w = rw e at (h .written) in
           whole (both-step ∙ rw e)
-          (two-parts left (node .argument) (stands .0) few (enclosing sc) ks gs f (formula-takes s n (node .next) (left - 1) (sc .count) (sc .unguarded) f e)
+          (two-parts left (node .argument) (stands .0) few (enclosing sc) ks gs f (formula-sound s n (node .next) (left - 1) (sc .count) (sc .unguarded) f e .nodes)
           (formulaOf s n (f .next) (f .left) (sc .count) (sc .unguarded)) (w .0 ∙ rw k) (w .1) h′)
 
       pub is-both : (rest : Rest) → first ≡ FormulaRead′.the-variants.Read rest → {ks″ gs″ : List ℕ} {r : FormulaRead}

@@ -80,7 +80,7 @@ module _ (s : List ℕ) (at : ℕ) where
       let both = and-eq-true-iff (ltb at (length s)) (eqb (getD s at 0) 1) .0 e in
       record { inside = ltb-true _ _ (both .0); is = eqb-true _ _ (both .1) }
 
-  none-read : (left : ℕ) → isPattern s at ≡ false → patternsAt left s at ≡ accepted (record { list = []; next = at })
+  pub none-read : (left : ℕ) → isPattern s at ≡ false → patternsAt left s at ≡ accepted (record { list = []; next = at })
   unfolding patternsAt
   none-read zero over = rw over
   none-read (suc left) over = rw over

@@ -18,8 +18,9 @@ use Rattle.reading.specs.declared.formulas.Scope.{Scope}
 use Rattle.reading.specs.declared.formulas.Rest.{Rest}
 use Rattle.reading.specs.declared.formulas.FormulaRead.{FormulaRead}
 use Rattle.reading.specs.declared.formulas.FormulaRead as FormulaRead′
-use Rattle.reading.proofs.Steps.{formula-takes}
-use Rattle.reading.proofs.Parts.{not-read, was-read, length-kinds, length-args}
+use Rattle.reading.proofs.Steps.{formula-sound}
+use Rattle.reading.proofs.NumberedLaws.{kinds-size, args-size}
+use Rattle.reading.proofs.Parts.{not-read, was-read}
 
 -- ---- stores into blank arrays
 
@@ -89,7 +90,7 @@ module _ {s : List ℕ} {h : Head} {ks gs : List ℕ} {rest : Rest} (x : AfterFo
 
   pub file-accepted : length s ≤ rest .next → record {
     answer = Answer′.the-variants.Accepted;
-    rule = record { patterns = h .list; extents = h .extents; npatterns = h .count; kinds = ks; args = gs; nnodes = 64 - rest .left }
+    rule = record { patterns = h .list; extents = h .extents; npatterns = h .count; kinds = ks; args = gs; nnodes = 64 - rest .left };
   } ≡ readingOf (ruleOf s)
   file-accepted ends =
       let over : length s ≤ x .f .next = omega (arith, next-is) in
@@ -131,15 +132,15 @@ module _ (s : List ℕ) (h : Head) (is : HeadOf (patternsAt 32 s 0) h) (ok : h .
             → rest ≡ record { next = f .next; left = f .left } → AfterFormula s h ks gs rest
         with-formula p f read is-rest =
             let w = rw read at (p .reads .written) in
-            let takes = formula-takes s (length (p .ps .list)) (p .ps .next) 64 0 0 f read in record {
+            let fits = formula-sound s (length (p .ps .list)) (p .ps .next) 64 0 0 f read .nodes in record {
               ps = p .ps;
               f = f;
               says = then-formula s (p .ps) (p .read) ∙ rw read;
               is = p .is;
               is-rest = is-rest;
-              nodes = takes;
-              kinds-are = w .0 ∙ sets-blank 64 0 (kinds (f .formula)) (omega (arith, length-kinds (f .formula)));
-              args-are = w .1 ∙ sets-blank 64 0 (args 0 [] (f .formula)) (omega (arith, length-args (f .formula) 0 []))
+              nodes = fits;
+              kinds-are = w .0 ∙ sets-blank 64 0 (kinds (f .formula)) (omega (arith, kinds-size (f .formula)));
+              args-are = w .1 ∙ sets-blank 64 0 (args 0 [] (f .formula)) (omega (arith, args-size 0 [] (f .formula)));
             }
 
         go : AfterPatterns s h ks gs found → AfterFormula s h ks gs rest

@@ -58,7 +58,7 @@ headOf ps = record {
   next = ps .next;
   count = length (ps .list);
   list = padded 32 noPattern (ps .list);
-  extents = padded 32 noExtent (map extentOf (ps .list))
+  extents = padded 32 noExtent (map extentOf (ps .list));
 }
 
 abbrev pub HeadOf : Outcome Patterns → Head → Type 0

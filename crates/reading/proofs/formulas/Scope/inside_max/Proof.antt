@@ -17,12 +17,12 @@ add-self-2 : tie.Need-add-self-2
 add-self-2 c = search needs
 
 returns : tie.Need-returns
-returns c = 
+returns c =
     let sc = c .args .t1 in record {
       maxes = push (sc .count) (sc .nodes) (c .args .k) (omega arith);
       counted = refl;
       guards = refl;
-      room = length-set (sc .nodes) (sc .count) (c .args .k) ∙ c .pre .2
+      room = length-set (sc .nodes) (sc .count) (c .args .k) ∙ c .pre .2;
     }
 
 pub inside-max-spec : {M : Type 1} → statement M

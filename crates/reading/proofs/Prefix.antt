@@ -1,0 +1,150 @@
+-- What a file says depends on its first 257 bytes alone, and on no fewer.
+use mathlib.Core.Path.{_≡_, refl, ap}
+use mathlib.Core.Bool.{Bool, true, false, cond}
+use mathlib.Core.List.{List, [], _∷_, _++_}
+use Prim.Native.Nat.{ℕ, zero, suc, _+_, _-_, _*_, _≤_, _<_}
+use native.Mathlib.Omega.{arith}
+use lib.ListN.{length, getD, take}
+use lib.Seq.{take-all, getD-take, length-take-le}
+use lib.Dec.{ltb, leb, eqb}
+use borrow.Author.Tests.{lt-ltb, lt-leb, ltb-true, ltb-false}
+use Rattle.reading.specs.File.{Outcome, accepted, refused, andThen, patternAt, isPattern, Patterns, patternsAt}
+use Rattle.reading.specs.File.{necessityAt, variableAt, nodeAt, Parsed, formulaAt, formulaOf, ended, ruleOf}
+use Rattle.reading.specs.declared.Pattern.{Pattern}
+use Rattle.reading.specs.declared.formulas.Record.{Record}
+use Rattle.reading.proofs.Outcomes.{accepted-is, never-accepted, accepted-by, both-agree}
+use Rattle.reading.proofs.Encoding.{length-formula}
+use Rattle.reading.proofs.NodeBytes.{NodeStands, bare, of-necessity, of-variable, node-accepts}
+use Rattle.reading.proofs.Sound.{FormulaStands}
+use Rattle.reading.proofs.Steps.{parts-same, formula-step, formula-sound}
+
+-- two files of at least 257 bytes, of which the first 257 are the same
+record Agree (s t : List ℕ) : Type 0 where
+  long : 256 < length s
+  long′ : 256 < length t
+  same : (i : ℕ) → i < 257 → getD s i 0 ≡ getD t i 0
+
+-- ---- how far a file is read
+
+-- at the end of the patterns, or after one more
+or-ended : (b : Bool) (o : Outcome Patterns) (at : ℕ) (ps : Patterns) → cond b o (accepted (record { list = []; next = at })) ≡ accepted ps
+    → (o ≡ accepted ps → ps .next ≤ 128) → at ≤ 128 → ps .next ≤ 128
+or-ended true o at ps e more h = more e
+or-ended false o at ps e more h = omega (arith, ap (λ (x : Patterns). x .next) (accepted-is e))
+
+-- a pattern has four bytes
+patterns-next : (left : ℕ) (s : List ℕ) (at : ℕ) (ps : Patterns) → at + 4 * left ≤ 128 → patternsAt left s at ≡ accepted ps
+    → ps .next ≤ 128
+unfolding patternsAt
+patterns-next zero s at ps h e = or-ended (isPattern s at) _ at ps e (λ z. absurd (never-accepted z)) (omega arith)
+patterns-next (suc left) s at ps h e =
+    or-ended (isPattern s at) _ at ps e (λ z.
+    let (p, first, rest) = accepted-by (patternAt s at (suc left)) _ z in
+    let (qs, others, whole) = accepted-by (patternsAt left s (at + 4)) _ rest in
+    omega (arith, patterns-next left s (at + 4) qs (omega arith) others, ap (λ (x : Patterns). x .next) (accepted-is whole))) (omega arith)
+
+-- fewer than `bound` nodes are left, each with room for its two bytes before byte 256
+abbrev Room : (bound at left : ℕ) → Type 0
+Room bound at left = (left < bound) × (at + 2 * left ≤ 256)
+
+-- after a node there is room for its parts, and after a formula for the next one
+module _ (bound : ℕ) (s : List ℕ) (n at left m u : ℕ) where
+  node-next : {r : Record} → NodeStands s n at m u r → r .next ≤ at + 2
+  node-next (bare k b) = omega arith
+  node-next (of-necessity h b a) = omega arith
+  node-next (of-variable h k b a) = omega arith
+
+  after-node : (r : Record) → Room (suc bound) at left → nodeAt s n at left m u ≡ accepted r
+      → NodeStands s n at m u r × Room bound (r .next) (left - 1)
+  after-node r h e =
+      let node = node-accepts s n at left m u r .0 e in
+      let two : r .next ≤ at + 2 = node-next (node .1) in
+      (node .1, (omega (arith, node .0), omega (arith, node .0)))
+
+  after-formula : (f : Parsed) → Room bound at left → FormulaStands s n at left m u f → Room bound (f .next) (f .left)
+  after-formula f h stands = (
+    omega (arith, stands .nodes),
+    omega (arith, stands .nodes, stands .ends, length-formula (f .formula)),
+  )
+
+module _ (s t : List ℕ) (a : Agree s t) where
+  inside : (i : ℕ) → i < 257 → (leb (length s) i ≡ false) × (leb (length t) i ≡ false)
+  inside i h = (lt-leb (length s) i (omega arith), lt-leb (length t) i (omega arith))
+
+  pattern-agrees : (at left : ℕ) → at + 3 < 257 → patternAt s at left ≡ patternAt t at left
+  pattern-agrees at left h =
+      rw (inside (at + 3) h .0, inside (at + 3) h .1, a .same (at + 1) (omega arith), a .same (at + 2) (omega arith), a .same (at + 3) h)
+
+  is-pattern-agrees : (at : ℕ) → at < 257 → isPattern s at ≡ isPattern t at
+  is-pattern-agrees at h = rw (lt-ltb at (length s) (omega arith), lt-ltb at (length t) (omega arith), a .same at h)
+
+  necessity-agrees : (n at : ℕ) → at + 1 < 257 → necessityAt s n at ≡ necessityAt t n at
+  necessity-agrees n at h = rw (inside (at + 1) h .0, inside (at + 1) h .1, a .same (at + 1) h)
+
+  variable-agrees : (m u at : ℕ) → at + 1 < 257 → variableAt s m u at ≡ variableAt t m u at
+  variable-agrees m u at h = rw (inside (at + 1) h .0, inside (at + 1) h .1, a .same (at + 1) h)
+
+  node-agrees : (n at left m u : ℕ) → at + 2 * left ≤ 256 → nodeAt s n at left m u ≡ nodeAt t n at left m u
+  node-agrees n at zero m u h =
+      let here = inside at (omega arith) in
+      rw (here .0, here .1, a .same at (omega arith))
+  node-agrees n at (suc left) m u h =
+      let here = inside at (omega arith) in
+      rw (here .0, here .1, a .same at (omega arith), necessity-agrees n at (omega arith), variable-agrees m u at (omega arith))
+
+  formula-agrees : (bound n at left m u : ℕ) → Room bound at left → formulaOf s n at left m u ≡ formulaOf t n at left m u
+  formula-agrees zero n at left m u h = absurd (omega arith)
+  formula-agrees (suc bound) n at left m u h =
+      rw (formula-step s n at left m u, formula-step t n at left m u)
+      (both-agree (nodeAt s n at left m u) (nodeAt t n at left m u) _ _ (node-agrees n at left m u (h .1)) (λ r e.
+      let (stands, room) = after-node bound s n at left m u r h e in
+      parts-same s n (Room bound) (after-formula bound s n) (formulaOf s n) (formulaOf t n) (formula-sound s n) (formula-agrees bound n)
+      at (left - 1) m u stands room))
+
+  patterns-agree : (left at : ℕ) → at + 4 * left ≤ 128 → patternsAt left s at ≡ patternsAt left t at
+  unfolding patternsAt
+  patterns-agree zero at h = rw (is-pattern-agrees at (omega arith))
+  patterns-agree (suc left) at h =
+      rw (is-pattern-agrees at (omega arith), pattern-agrees at (suc left) (omega arith), patterns-agree left (at + 4) (omega arith))
+
+  ended-agrees : (ps : List Pattern) (f : Parsed) → f .next < 257 → ended s ps f ≡ ended t ps f
+  ended-agrees ps f h = rw (lt-ltb (f .next) (length s) (omega arith), lt-ltb (f .next) (length t) (omega arith))
+
+  formula-ends : (ps : List Pattern) (n at : ℕ) → at ≤ 128
+      → andThen (formulaOf s n at 64 0 0) (ended s ps) ≡ andThen (formulaOf t n at 64 0 0) (ended t ps)
+  formula-ends ps n at h =
+      let room : Room 65 at 64 = (omega arith, omega arith) in
+      both-agree (formulaOf s n at 64 0 0) (formulaOf t n at 64 0 0) _ _ (formula-agrees 65 n at 64 0 0 room) (λ f e.
+      let (fewer, fits) = after-formula 65 s n at 64 0 0 f room (formula-sound s n at 64 0 0 f e) in
+      ended-agrees ps f (omega arith))
+
+  rule-agrees : ruleOf s ≡ ruleOf t
+  unfolding ruleOf
+  rule-agrees =
+      both-agree (patternsAt 32 s 0) (patternsAt 32 t 0) _ _ (patterns-agree 32 0 (omega arith)) (λ ps e.
+      formula-ends (ps .list) (length (ps .list)) (ps .next) (patterns-next 32 s 0 ps (omega arith) e))
+
+pub first-bytes : (s : List ℕ) (n : ℕ) → 257 ≤ n → ruleOf (take n s) ≡ ruleOf s
+first-bytes s n h = on (ltb n (length s)) refl
+  where
+    on : (b : Bool) → ltb n (length s) ≡ b → ruleOf (take n s) ≡ ruleOf s
+    on true e =
+        let shorter : n < length s = ltb-true n (length s) e in
+        let whole : length (take n s) ≡ n = length-take-le n s (omega arith) in
+        rule-agrees (take n s) s (record { long = omega arith; long′ = omega arith; same = λ i l. getD-take n s i 0 (omega arith) })
+    on false e = rw (take-all n s (ltb-false n (length s) e))
+
+-- ---- fewer are too few
+
+-- n times the bytes of a record, before the rest
+times : ℕ → List ℕ → List ℕ → List ℕ
+times zero bytes rest = rest
+times (suc n) bytes rest = bytes ++ times n bytes rest
+
+-- 32 patterns, a formula of 64 nodes that is not whole, and one more node
+longest : List ℕ
+longest = times 32 (1 ∷ 1 ∷ 0 ∷ 0 ∷ []) (times 64 (5 ∷ 0 ∷ []) (2 ∷ []))
+
+pub no-fewer : (s : List ℕ) × (ruleOf (take 256 s) ≡ refused 1 256) × (ruleOf s ≡ refused 4 256)
+unfolding longest times ruleOf patternsAt formulaOf formulaAt
+no-fewer = (longest, refl, refl)

@@ -1,0 +1,62 @@
+-- `vectors::print_patterns` is safe and ends. The measure is what is left of the 32 patterns; the loop's test is all that the indexes need.
+use Prim.Native.Nat.{_-_}
+use native.Mathlib.Omega.{arith}
+use Rattle.vectors.proofs.print_patterns.Statement.{statement}
+use Rattle.vectors.proofs.print_patterns.Tie as tie
+
+abbrev Inv-loop : tie.InvT-loop
+Inv-loop patterns extents n i₀ i = Unit {0}
+
+abbrev μ-loop : tie.MeasureT-loop
+μ-loop patterns extents n i₀ i = 32 - i
+
+loop-holds : tie.Need-loop-holds Inv-loop μ-loop
+loop-holds c = tt
+
+mul-print-pattern : tie.Need-mul-print-pattern Inv-loop μ-loop
+mul-print-pattern c = omega arith
+
+array-copy-out-print-pattern : tie.Need-array-copy-out-print-pattern Inv-loop μ-loop
+array-copy-out-print-pattern c = omega arith
+
+mul-print-pattern-2 : tie.Need-mul-print-pattern-2 Inv-loop μ-loop
+mul-print-pattern-2 c = omega arith
+
+array-copy-out-print-pattern-2 : tie.Need-array-copy-out-print-pattern-2 Inv-loop μ-loop
+array-copy-out-print-pattern-2 c = omega arith
+
+print-pattern-requires : tie.Need-print-pattern-requires Inv-loop μ-loop
+print-pattern-requires c κs = tt
+
+add-i : tie.Need-add-i Inv-loop μ-loop
+add-i c = omega arith
+
+loop-less : tie.Need-loop-less Inv-loop μ-loop
+loop-less c = omega arith
+
+loop-again : tie.Need-loop-again Inv-loop μ-loop
+loop-again c = tt
+
+returns : tie.Need-returns Inv-loop μ-loop
+returns c = tt
+
+returns-2 : tie.Need-returns-2 Inv-loop μ-loop
+returns-2 c = tt
+
+pub print-patterns-spec : {M : Type 1} → statement M
+print-patterns-spec =
+    tie.close
+    (tie.spec
+    Inv-loop
+    μ-loop
+    loop-holds
+    mul-print-pattern
+    array-copy-out-print-pattern
+    mul-print-pattern-2
+    array-copy-out-print-pattern-2
+    print-pattern-requires
+    add-i
+    loop-less
+    loop-again
+    returns
+    returns-2)

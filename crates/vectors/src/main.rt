@@ -1,0 +1,143 @@
+// Reads rule files from standard input, and prints a line for each with what reading says of it.
+// A case is a length of three bytes, highest first, and then that many bytes of a rule file. The input ends after the last.
+use libc::STDIN_FILENO;
+use libc::STDOUT_FILENO;
+use reading::Answer;
+use reading::Extent;
+use reading::Numbered;
+use reading::Pattern;
+use reading::Reading;
+ghost use Prim.Native.Nat.{_<_};
+
+// What the head of a case says: the length of its file, or that there is no case left.
+enum Head {
+    Length(usize),
+    Ended,
+}
+
+fn wide(x: u8) -> usize
+    ensures { λ r. ⌜ r < 256 ⌝ }
+{
+    x as usize
+}
+
+// Prints a space and a number.
+fn print_field(n: u64) {
+    io::write_all(STDOUT_FILENO, b" ");
+    io::print_decimal(STDOUT_FILENO, n);
+}
+
+// The sum of the codes that a pattern covers.
+fn sum_of_codes(p: Pattern) -> u64 {
+    let mut sum: u64 = 0;
+    let mut code: u64 = 0;
+    while code < 256 {
+        if reading::covers(p, code as u8) {
+            sum += code;
+        }
+        code += 1;
+    }
+    sum
+}
+
+fn print_pattern(p: Pattern, e: Extent) {
+    io::write_all(STDOUT_FILENO, b" p");
+    print_field(p.mask as u64);
+    print_field(p.first as u64);
+    print_field(p.last as u64);
+    print_field(e.lowest as u64);
+    print_field(e.count as u64);
+    print_field(sum_of_codes(p));
+}
+
+fn print_patterns(rule: Numbered) {
+    let patterns = rule.patterns;
+    let extents = rule.extents;
+    let n = rule.npatterns;
+    let mut i = 0;
+    while i < 32 && i < n {
+        print_pattern(patterns[i], extents[i]);
+        i += 1;
+    }
+}
+
+fn print_node(kind: u8, arg: u8) {
+    io::write_all(STDOUT_FILENO, b" n");
+    print_field(kind as u64);
+    print_field(arg as u64);
+}
+
+fn print_nodes(rule: Numbered) {
+    let kinds = rule.kinds;
+    let args = rule.args;
+    let n = rule.nnodes;
+    let mut k = 0;
+    while k < 64 && k < n {
+        print_node(kinds[k], args[k]);
+        k += 1;
+    }
+}
+
+fn print_refusal(number: u8, place: usize) {
+    io::write_all(STDOUT_FILENO, b"refused");
+    print_field(number as u64);
+    io::write_all(STDOUT_FILENO, b" at");
+    print_field(place as u64);
+}
+
+fn print_reading(reading: Reading) {
+    let answer = reading.answer;
+    let rule = reading.rule;
+    match answer {
+        Answer::Accepted => {
+            io::write_all(STDOUT_FILENO, b"accepted");
+            print_patterns(rule);
+            print_nodes(rule);
+        }
+        Answer::Refused(number, place) => {
+            print_refusal(number, place);
+        }
+    }
+    io::write_all(STDOUT_FILENO, b"\n");
+}
+
+// Fills the space with a rule file, answers it, and says whether the file was whole.
+fn answer_file(space: &mut [u8]) -> bool {
+    if io::read_full(STDIN_FILENO, space) < space.len() {
+        return false;
+    }
+    print_reading(reading::read_rule(space));
+    true
+}
+
+fn read_length() -> Head {
+    let mut head = [0u8; 3];
+    if io::read_full(STDIN_FILENO, &mut head) < 3 {
+        return Head::Ended;
+    }
+    Head::Length(wide(head[0]) * 65536 + wide(head[1]) * 256 + wide(head[2]))
+}
+
+// Answers the next case, and says whether there was one.
+fn answer_case(buf: &mut [u8]) -> bool {
+    let Head::Length(n) = read_length() else {
+        return false;
+    };
+    if n > buf.len() {
+        return false;
+    }
+    answer_file(&mut buf[..n])
+}
+
+// A proved loop has to end, and nothing says that the input does: the loop counts down from a number that no run uses up.
+fn answer_cases(buf: &mut [u8]) {
+    let mut turns = u64::MAX;
+    while turns > 0 && answer_case(buf) {
+        turns -= 1;
+    }
+}
+
+fn main() {
+    let mut buf = [0u8; 131072];
+    answer_cases(&mut buf);
+}
