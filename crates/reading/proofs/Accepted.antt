@@ -10,7 +10,11 @@ use lib.Dec.{ltb}
 use borrow.Author.Tests.{ltb-false, le-ltb}
 use Rattle.reading.specs.Formula.{Formula, truth, falsity, both, necessity, max, variable, size}
 use Rattle.reading.specs.Rule.{Rule, WellFormedRule, encodePatterns, encodeFormula, encode, Bytes}
-use Rattle.reading.specs.File.{accepted, isPattern, patternsAt, Parsed, formulaOf, ended, ruleOf}
+use Rattle.reading.specs.Outcome.{Outcome, accepted, refused}
+use Rattle.reading.specs.File.{isPattern, patternsAt, Parsed, formulaOf, ended, ruleOf}
+use Rattle.reading.specs.Numbered.{readingOf}
+use Rattle.reading.specs.Promises.{AcceptsEncodings, OneRule, AnswersAccepted, HandsUp}
+use Rattle.reading.specs.declared.Answer.the-variants.{Accepted}
 use Rattle.reading.proofs.Outcomes.{accepted-is, accepted-by, then-accepts, passes}
 use Rattle.reading.proofs.Places.{first-byte, rest-after}
 use Rattle.reading.proofs.PatternBytes.{PatternsStand, patterns-accept}
@@ -77,14 +81,24 @@ rule-read s bytes r w e =
     then-accepts _ (patterns-accept s bytes 0 32 _ .1 patterns) (
     then-accepts _ (formula-accepts s n next 64 0 0 f .1 formula) (rw (le-ltb (next + length bf) (length s) ends)))
 
--- THE THEOREM. So a file that encodes no well-formed rule is refused.
-pub reading-accepts : (s : List ℕ) → Bytes s → (r : Rule) → (ruleOf s ≡ accepted r) ↔ (WellFormedRule r × (s ≡ encode r))
+-- ---- the promises
+
+pub reading-accepts : AcceptsEncodings
 reading-accepts s bytes r = (rule-stands s bytes r, λ h. rule-read s bytes r (h .0) (h .1))
 
--- no two well-formed rules have the same encoding
-pub one-rule : (r r′ : Rule) → WellFormedRule r → WellFormedRule r′ → encode r ≡ encode r′ → r ≡ r′
+pub one-rule : OneRule
 one-rule r r′ w w′ e =
     let bytes = encoding-is-bytes r w in
     let read = reading-accepts (encode r) bytes r .1 (w, refl) in
     let read′ = reading-accepts (encode r) bytes r′ .1 (w′, e) in
     accepted-is (sym read ∙ read′)
+
+pub answer-accepted : AnswersAccepted
+answer-accepted s bytes = (λ e. on (ruleOf s) refl e, λ h. ap (λ (o : Outcome Rule). readingOf o .answer) (reading-accepts s bytes (h .0) .1 (h .1, h .2)))
+  where
+    on : (o : Outcome Rule) → ruleOf s ≡ o → readingOf o .answer ≡ Accepted → (r : Rule) × WellFormedRule r × (s ≡ encode r)
+    on (accepted r) e a = let h = reading-accepts s bytes r .0 e in (r, h .0, h .1)
+    on (refused number place) e a = let z : _≡_ {A = ℕ} 0 1 = cc in absurd (omega arith)
+
+pub reading-of-encoding : HandsUp
+reading-of-encoding r w = ap readingOf (reading-accepts (encode r) (encoding-is-bytes r w) r .1 (w, refl))

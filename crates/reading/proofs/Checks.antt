@@ -5,7 +5,8 @@ use Prim.Native.Nat.{ℕ, _+_, _≤_, _<_}
 use lib.ListN.{length, getD}
 use borrow.Author.Tests.{le-leb, lt-leb, le-ltb, lt-ltb, eq-eqb, ne-eqb}
 use Rattle.reading.specs.declared.formulas.Record.{Record}
-use Rattle.reading.specs.File.{Outcome, accepted, refused, patternAt, necessityAt, variableAt, nodeAt}
+use Rattle.reading.specs.Outcome.{Outcome, accepted, refused}
+use Rattle.reading.specs.File.{patternAt, necessityAt, variableAt, nodeAt}
 
 -- ---- a pattern
 

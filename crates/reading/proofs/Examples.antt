@@ -4,7 +4,8 @@ use mathlib.Core.List.{List, [], _∷_}
 use Prim.Native.Nat.{ℕ, _+_, _*_}
 use Rattle.reading.specs.Pattern.{bit, covers, least, howMany, extentOf}
 use Rattle.reading.specs.Formula.{truth, falsity, both, necessity, max, variable}
-use Rattle.reading.specs.File.{ruleOf, patternsAt, formulaOf, formulaAt, accepted, refused}
+use Rattle.reading.specs.Outcome.{accepted, refused}
+use Rattle.reading.specs.File.{ruleOf, patternsAt, formulaOf, formulaAt}
 
 pub small-files :
     (ruleOf [] ≡ refused 1 0)

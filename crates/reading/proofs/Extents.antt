@@ -10,7 +10,8 @@ use lib.Dec.{leb}
 use lib.Count.{ones, trailingZeros}
 use borrow.Author.Tests.{eqb-true, leb-true, eq-eqb, le-leb}
 use Rattle.reading.specs.Code.{kindOf, slotOf}
-use Rattle.reading.specs.Pattern.{bit, covers, least, howMany, extentOf, WellFormedPattern}
+use Rattle.reading.specs.Pattern.{bit, covers, least, howMany, WellFormedPattern}
+use Rattle.reading.specs.Promises.{MeasuresPattern}
 use Rattle.reading.specs.declared.Pattern.{Pattern}
 use Rattle.reading.proofs.Bits.{isSet, trailing-is-least, trailing-lt, ones-is-count}
 use Rattle.reading.proofs.Counting.{least-holds, least-below, howMany-le}
@@ -74,17 +75,14 @@ module _ (p : Pattern) (ok : WellFormedPattern p) where
   pub count-fits : ones (p .mask) * (p .last - p .first + 1) ≤ 256
   count-fits = rw code-count at (howMany-le 256 (covers p))
 
-  pub lowest-is-least :
-      (covers p (extentOf p .lowest) ≡ true)
-      × ((code : ℕ) → covers p code ≡ true → extentOf p .lowest ≤ code)
-  lowest-is-least = (
-    least-holds 256 (covers p) (rw lowest-code lowest-fits),
-    λ code h. not-below code h (decLe (least 256 (covers p)) code),
-  )
+  pub measures-pattern : MeasuresPattern p
+  measures-pattern = record {
+    covered = least-holds 256 (covers p) (rw lowest-code lowest-fits);
+    least = λ code h. not-below code h (decLe (least 256 (covers p)) code);
+    by-zeros = lowest-code;
+    by-ones = code-count;
+  }
     where
-      not-below :
-          (code : ℕ) → covers p code ≡ true → Dec (least 256 (covers p) ≤ code)
-          → least 256 (covers p) ≤ code
+      not-below : (code : ℕ) → covers p code ≡ true → Dec (least 256 (covers p) ≤ code) → least 256 (covers p) ≤ code
       not-below code h (yes y) = y
-      not-below code h (no m) =
-          absurd (true≢false (sym h ∙ least-below 256 (covers p) code (lt-of-not-le m)))
+      not-below code h (no m) = absurd (true≢false (sym h ∙ least-below 256 (covers p) code (lt-of-not-le m)))

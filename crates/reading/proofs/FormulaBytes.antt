@@ -7,7 +7,8 @@ use native.Mathlib.Omega.{arith}
 use lib.ListN.{length, drop, length-append}
 use Rattle.reading.specs.Formula.{Formula, truth, falsity, both, necessity, max, variable, size, WellFormed}
 use Rattle.reading.specs.Rule.{encodeFormula}
-use Rattle.reading.specs.File.{accepted, Parsed, leaf, partsBy, formulaOf}
+use Rattle.reading.specs.Outcome.{accepted}
+use Rattle.reading.specs.File.{Parsed, leaf, partsBy, formulaOf}
 use Rattle.reading.specs.declared.formulas.Record.{Record}
 use Rattle.reading.proofs.Places.{byte-of, first-byte, rest-of, rest-after}
 use Rattle.reading.proofs.NodeBytes.{bare-truth, bare-falsity, bare-both, bare-max, NodeStands, bare, of-necessity, of-variable, node-accepts}

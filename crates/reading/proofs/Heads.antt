@@ -9,7 +9,8 @@ use lib.ListN.{length, getD, set, replicate, length-append, length-map}
 use lib.Seq.{set-at}
 use borrow.Author.Tests.{leb-false, ltb-false, eqb-false}
 use Rattle.reading.specs.Pattern.{extentOf, WellFormedPattern}
-use Rattle.reading.specs.File.{Outcome, accepted, refused, andThen, Patterns, isPattern, patternAt, patternsAt, onePattern}
+use Rattle.reading.specs.Outcome.{Outcome, accepted, refused, andThen}
+use Rattle.reading.specs.File.{Patterns, isPattern, patternAt, patternsAt, onePattern}
 use Rattle.reading.specs.Numbered.{padded, noPattern, noExtent}
 use Rattle.reading.specs.Answers.{HeadOf}
 use Rattle.reading.specs.declared.Pattern.{Pattern}

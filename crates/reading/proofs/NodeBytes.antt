@@ -8,7 +8,8 @@ use native.Mathlib.Omega.{arith}
 use lib.ListN.{length, getD}
 use lib.Dec.{ltb, leb, eqb}
 use borrow.Author.Tests.{ltb-false, leb-false, eqb-false, le-ltb, lt-leb, ne-eqb}
-use Rattle.reading.specs.File.{Outcome, accepted, nodeAt, necessityAt, variableAt}
+use Rattle.reading.specs.Outcome.{Outcome, accepted}
+use Rattle.reading.specs.File.{nodeAt, necessityAt, variableAt}
 use Rattle.reading.specs.declared.formulas.Record.{Record}
 use Rattle.reading.proofs.Outcomes.{accepted-is, passes, neither}
 use Rattle.reading.proofs.Places.{Byte}

@@ -9,7 +9,7 @@ use lib.ListN.{length, getD, drop}
 use lib.Dec.{ltb}
 use borrow.Author.Tests.{ltb-true, ltb-false}
 use Rattle.reading.specs.Formula.{Formula, truth, falsity, both, necessity, max, variable, size, WellFormed}
-use Rattle.reading.specs.Nodes.{Max, Node, whole, first, second, after, body}
+use Rattle.reading.specs.Nodes.{Max, Node, whole, first, second, after, body, noMax, Around}
 
 -- the nodes of a node's formula are nodes of the whole
 pub node-fits : {root : Formula} {k : ℕ} {ms : List Max} {f : Formula} → Node root k ms f → k + size f ≤ size root
@@ -58,14 +58,6 @@ pub node-exists : (root : Formula) (k : ℕ) → k < size root → Numbers root 
 node-exists root k h = moved root (omega arith) (node-below root whole k h)
 
 -- ---- the maxes around a node
-
-abbrev pub noMax : Max
-noMax = record { number = 0; body = truth }
-
--- max d of a stack is a node before k, with the body that the stack has
-pub record Around (root : Formula) (k : ℕ) (ms : List Max) (d : ℕ) : Type 0 where
-  pub node : Node root (getD ms d noMax .number) (drop (suc d) ms) (max (getD ms d noMax .body))
-  pub before : getD ms d noMax .number < k
 
 later : {root : Formula} {k k′ : ℕ} {ms : List Max} {d : ℕ} → k < k′ → Around root k ms d → Around root k′ ms d
 later h a = record { node = a .node; before = omega arith }

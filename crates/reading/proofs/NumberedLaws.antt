@@ -8,9 +8,10 @@ use Rattle.reading.specs.Pattern.{extentOf}
 use Rattle.reading.specs.Formula.{Formula, truth, falsity, both, necessity, max, variable, size, WellFormed}
 use Rattle.reading.specs.Rule.{Rule}
 use Rattle.reading.specs.Numbered.{kinds, args, padded, numbered, noPattern, noExtent}
-use Rattle.reading.specs.Nodes.{Max, Node}
-use Rattle.reading.proofs.NodeLaws.{noMax, Around, max-around, variable-bound}
-use Rattle.reading.proofs.Listings.{Lists, listed-size, listed-at}
+use Rattle.reading.specs.Promises.{NumbersNodes, NumbersPatterns}
+use Rattle.reading.specs.Nodes.{Max, Node, noMax, Around}
+use Rattle.reading.proofs.NodeLaws.{node-exists, node-fits, max-around, variable-bound}
+use Rattle.reading.proofs.Listings.{Lists, listed-size, listed-at, node-unique}
 
 -- ---- filling up
 
@@ -85,3 +86,18 @@ mapped-at f (a ∷ l) (suc i) x y h = mapped-at f l i x y (omega arith)
 
 pub extent-at : (r : Rule) (i : ℕ) → i < length (r .patterns) → getD (numbered r .extents) i noExtent ≡ extentOf (getD (r .patterns) i noPattern)
 extent-at r i h = padded-at noExtent 32 (map extentOf (r .patterns)) i ∙ mapped-at extentOf (r .patterns) i noPattern noExtent h
+
+-- ---- the promises
+
+pub numbers-nodes : (r : Rule) → NumbersNodes r
+numbers-nodes r = record {
+  exists = node-exists (r .formula);
+  unique = node-unique;
+  fits = node-fits;
+  kind = node-kind r;
+  arg = node-arg r;
+  around = max-around;
+}
+
+pub numbers-patterns : (r : Rule) → NumbersPatterns r
+numbers-patterns r = record { pattern = pattern-at r; extent = extent-at r }

@@ -7,7 +7,8 @@ use native.Mathlib.Numerals.{add-one}
 use lib.ListN.{length, getD, set, length-append}
 use lib.Seq.{sets, set-set}
 use Rattle.reading.specs.Formula.{Formula, truth, falsity, both, necessity, max, variable, size}
-use Rattle.reading.specs.File.{Outcome, accepted, refused, andThen, nodeAt, Parsed, leaf, under, partsBy, formulaOf}
+use Rattle.reading.specs.Outcome.{Outcome, accepted, refused, andThen}
+use Rattle.reading.specs.File.{nodeAt, Parsed, leaf, under, partsBy, formulaOf}
 use Rattle.reading.specs.Numbered.{kinds, args}
 use Rattle.reading.specs.Answers.{nodeOutcome, formulaRead, passedUp, enclosing, IsScope, Fit, Reads}
 use Rattle.reading.specs.declared.formulas.Scope.{Scope}

@@ -10,7 +10,8 @@ use lib.Dec.{ltb, leb, eqb}
 use borrow.Author.Tests.{ltb-true, ltb-false, leb-false, eqb-true, eqb-false, lt-ltb, le-ltb, lt-leb, ne-eqb}
 use Rattle.reading.specs.Pattern.{WellFormedPattern}
 use Rattle.reading.specs.Rule.{All, Bytes, encodePatterns}
-use Rattle.reading.specs.File.{Outcome, accepted, refused, patternAt, isPattern, Patterns, onePattern, patternsAt}
+use Rattle.reading.specs.Outcome.{Outcome, accepted, refused}
+use Rattle.reading.specs.File.{patternAt, isPattern, Patterns, onePattern, patternsAt}
 use Rattle.reading.specs.declared.Pattern.{Pattern}
 use Rattle.reading.proofs.AllLaws.{all-getD}
 use Rattle.reading.proofs.Outcomes.{accepted-is, never-accepted, accepted-by, passes}

@@ -8,8 +8,10 @@ use lib.ListN.{length, getD, take}
 use lib.Seq.{take-all, getD-take, length-take-le}
 use lib.Dec.{ltb, leb, eqb}
 use borrow.Author.Tests.{lt-ltb, lt-leb, ltb-true, ltb-false}
-use Rattle.reading.specs.File.{Outcome, accepted, refused, andThen, patternAt, isPattern, Patterns, patternsAt}
+use Rattle.reading.specs.Outcome.{Outcome, accepted, refused, andThen}
+use Rattle.reading.specs.File.{patternAt, isPattern, Patterns, patternsAt}
 use Rattle.reading.specs.File.{necessityAt, variableAt, nodeAt, Parsed, formulaAt, formulaOf, ended, ruleOf}
+use Rattle.reading.specs.Promises.{SettledByFirstBytes}
 use Rattle.reading.specs.declared.Pattern.{Pattern}
 use Rattle.reading.specs.declared.formulas.Record.{Record}
 use Rattle.reading.proofs.Outcomes.{accepted-is, never-accepted, accepted-by, both-agree}
@@ -124,7 +126,7 @@ module _ (s t : List ℕ) (a : Agree s t) where
       both-agree (patternsAt 32 s 0) (patternsAt 32 t 0) _ _ (patterns-agree 32 0 (omega arith)) (λ ps e.
       formula-ends (ps .list) (length (ps .list)) (ps .next) (patterns-next 32 s 0 ps (omega arith) e))
 
-pub first-bytes : (s : List ℕ) (n : ℕ) → 257 ≤ n → ruleOf (take n s) ≡ ruleOf s
+pub first-bytes : SettledByFirstBytes
 first-bytes s n h = on (ltb n (length s)) refl
   where
     on : (b : Bool) → ltb n (length s) ≡ b → ruleOf (take n s) ≡ ruleOf s

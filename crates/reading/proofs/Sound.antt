@@ -6,7 +6,8 @@ use native.Mathlib.Omega.{arith}
 use lib.ListN.{length, drop, length-append}
 use Rattle.reading.specs.Formula.{size, WellFormed}
 use Rattle.reading.specs.Rule.{encodeFormula}
-use Rattle.reading.specs.File.{Outcome, accepted, Parsed, nodeAt, partsBy, formulaAt}
+use Rattle.reading.specs.Outcome.{Outcome, accepted}
+use Rattle.reading.specs.File.{Parsed, nodeAt, partsBy, formulaAt}
 use Rattle.reading.specs.declared.formulas.Record.{Record}
 use Rattle.reading.proofs.Outcomes.{accepted-is, never-accepted, accepted-by}
 use Rattle.reading.proofs.Places.{from-byte}

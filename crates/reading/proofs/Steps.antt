@@ -4,7 +4,8 @@ use mathlib.Core.List.{List}
 use Prim.Native.Nat.{ℕ, zero, suc, _+_, _-_, _≤_, _<_}
 use native.Mathlib.Omega.{arith}
 use Rattle.reading.specs.Formula.{Formula, both}
-use Rattle.reading.specs.File.{Outcome, andThen, Parsed, nodeAt, under, partsBy, formulaAt, formulaOf}
+use Rattle.reading.specs.Outcome.{Outcome, andThen}
+use Rattle.reading.specs.File.{Parsed, nodeAt, under, partsBy, formulaAt, formulaOf}
 use Rattle.reading.specs.declared.formulas.Record.{Record}
 use Rattle.reading.proofs.Outcomes.{then-agree, both-agree}
 use Rattle.reading.proofs.NodeBytes.{bare-truth, bare-falsity, bare-both, bare-max, NodeStands, bare, of-necessity, of-variable, node-accepts}

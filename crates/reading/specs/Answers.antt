@@ -5,7 +5,8 @@ use mathlib.Core.List.{List, [], _∷_, map}
 use lib.ListN.{length, getD}
 use lib.Seq.{sets}
 use Rattle.reading.specs.Pattern.{extentOf}
-use Rattle.reading.specs.File.{Outcome, accepted, refused, Patterns, Parsed}
+use Rattle.reading.specs.Outcome.{Outcome, accepted, refused}
+use Rattle.reading.specs.File.{Patterns, Parsed}
 use Rattle.reading.specs.Numbered.{kinds, args, padded, noPattern, noExtent}
 use Rattle.reading.specs.declared.Pattern.{Pattern}
 use Rattle.reading.specs.declared.Answer.{Answer}

@@ -6,35 +6,25 @@ use lib.ListN.{length, getD}
 use lib.Dec.{ltb, leb, eqb}
 use Rattle.reading.specs.Formula.{Formula, truth, falsity, both, necessity, max, variable}
 use Rattle.reading.specs.Rule.{Rule}
+use Rattle.reading.specs.Outcome.{Outcome, accepted, refused, refuse, andThen}
 use Rattle.reading.specs.declared.Pattern.{Pattern}
 use Rattle.reading.specs.declared.formulas.Record.{Record}
-
--- accepted with a value, or refused with the paper's number and place
-pub data Outcome (A : Type 0) : Type 0 where
-  accepted : A → Outcome A
-  refused : (number place : ℕ) → Outcome A
-
--- refused where the condition holds
-abbrev pub refuse : {A : Type 0} → Bool → (number place : ℕ) → Outcome A → Outcome A
-refuse true number place rest = refused number place
-refuse false number place rest = rest
-
-abbrev pub andThen : {A B : Type 0} → Outcome A → (A → Outcome B) → Outcome B
-andThen (accepted a) f = f a
-andThen (refused number place) f = refused number place
 
 -- ---- the patterns
 
 -- The record of kind 1 at `at`, with `left` of the 32 patterns left.
 abbrev pub patternAt : List ℕ → (at left : ℕ) → Outcome Pattern
 patternAt s at left =
+    let mask = getD s (at + 1) 0 in
+    let first = getD s (at + 2) 0 in
+    let last = getD s (at + 3) 0 in
     refuse (eqb left 0) 4 at
     (refuse (leb (length s) (at + 3)) 1 (length s)
-    (refuse (eqb (getD s (at + 1) 0) 0) 5 at
-    (refuse (ltb 31 (getD s (at + 2) 0)) 5 at
-    (refuse (ltb 31 (getD s (at + 3) 0)) 5 at
-    (refuse (ltb (getD s (at + 3) 0) (getD s (at + 2) 0)) 5 at
-    (accepted (record { mask = getD s (at + 1) 0; first = getD s (at + 2) 0; last = getD s (at + 3) 0 })))))))
+    (refuse (eqb mask 0) 5 at
+    (refuse (ltb 31 first) 5 at
+    (refuse (ltb 31 last) 5 at
+    (refuse (ltb last first) 5 at
+    (accepted (record { mask = mask; first = first; last = last })))))))
 
 abbrev pub isPattern : List ℕ → (at : ℕ) → Bool
 isPattern s at = ltb at (length s) && eqb (getD s at 0) 1
@@ -57,31 +47,34 @@ patternsAt (suc left) s at =
 
 -- ---- one node record
 
--- after n patterns
+-- a kind 5 record, after n patterns
 abbrev pub necessityAt : List ℕ → (n at : ℕ) → Outcome Record
 necessityAt s n at =
+    let pattern = getD s (at + 1) 0 in
     refuse (leb (length s) (at + 1)) 1 (length s)
-    (refuse (leb n (getD s (at + 1) 0)) 6 at
-    (accepted (record { kind = 5; argument = getD s (at + 1) 0; next = at + 2 })))
+    (refuse (leb n pattern) 6 at
+    (accepted (record { kind = 5; argument = pattern; next = at + 2 })))
 
--- inside m maxes, of which the innermost u have no necessity below them
+-- a kind 7 record, inside m maxes of which the innermost u have no necessity below them
 abbrev pub variableAt : List ℕ → (m u at : ℕ) → Outcome Record
 variableAt s m u at =
+    let depth = getD s (at + 1) 0 in
     refuse (leb (length s) (at + 1)) 1 (length s)
-    (refuse (leb m (getD s (at + 1) 0)) 6 at
-    (refuse (ltb (getD s (at + 1) 0) u) 7 at
-    (accepted (record { kind = 7; argument = getD s (at + 1) 0; next = at + 2 }))))
+    (refuse (leb m depth) 6 at
+    (refuse (ltb depth u) 7 at
+    (accepted (record { kind = 7; argument = depth; next = at + 2 }))))
 
--- The record due at `at`, with `left` of the 64 nodes left. That the formula is whole (3 at the next byte) is seen in `ruleOf`.
+-- The record due at `at` in a formula that isn't whole, with `left` of the 64 nodes left.
 abbrev pub nodeAt : List ℕ → (n at left m u : ℕ) → Outcome Record
 nodeAt s n at left m u =
+    let kind = getD s at 0 in
     refuse (leb (length s) at) 1 (length s)
-    (refuse (eqb (getD s at 0) 0 || ltb 7 (getD s at 0)) 2 at
-    (refuse (eqb (getD s at 0) 1) 3 at
+    (refuse (eqb kind 0 || ltb 7 kind) 2 at
+    (refuse (eqb kind 1) 3 at
     (refuse (eqb left 0) 4 at
-    (cond (eqb (getD s at 0) 5) (necessityAt s n at)
-    (cond (eqb (getD s at 0) 7) (variableAt s m u at)
-    (accepted (record { kind = getD s at 0; argument = 0; next = at + 1 })))))))
+    (cond (eqb kind 5) (necessityAt s n at)
+    (cond (eqb kind 7) (variableAt s m u at)
+    (accepted (record { kind = kind; argument = 0; next = at + 1 })))))))
 
 -- ---- a formula: a node, then its parts
 

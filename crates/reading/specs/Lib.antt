@@ -3,7 +3,9 @@ pub mod Code
 pub mod Pattern
 pub mod Formula
 pub mod Rule
+pub mod Outcome
 pub mod File
 pub mod Numbered
 pub mod Nodes
+pub mod Promises
 pub mod Answers

@@ -5,7 +5,7 @@ use lib.ListN.{length, getD, replicate}
 use Rattle.reading.specs.Pattern.{extentOf}
 use Rattle.reading.specs.Formula.{Formula, truth, falsity, both, necessity, max, variable, size}
 use Rattle.reading.specs.Rule.{Rule}
-use Rattle.reading.specs.File.{Outcome, accepted, refused}
+use Rattle.reading.specs.Outcome.{Outcome, accepted, refused}
 use Rattle.reading.specs.declared.Pattern.{Pattern}
 use Rattle.reading.specs.declared.Extent.{Extent}
 use Rattle.reading.specs.declared.Numbered.{Numbered}

@@ -1,22 +1,16 @@
 // Node records, and a formula in prefix order.
 use crate::Answer;
+use crate::kinds::BOTH;
+use crate::kinds::MAX;
+use crate::kinds::NECESSITY;
+use crate::kinds::PATTERN;
+use crate::kinds::VARIABLE;
 ghost use mathlib.Core.Path.{_≡_};
 ghost use Prim.Native.Nat.{_+_, _-_, _≤_, _<_};
 ghost use mathlib.Core.List.{[], _∷_};
 ghost use lib.ListN.{length, getD};
 ghost use Rattle.reading.specs.File.{necessityAt, variableAt, nodeAt, formulaOf};
 ghost use Rattle.reading.specs.Answers.{nodeOutcome, passedUp, formulaAnswer, enclosing, IsScope, Fit, Reads};
-
-// The kind bytes of node records.
-const PATTERN: u8 = 1;
-
-const BOTH: u8 = 4;
-
-const NECESSITY: u8 = 5;
-
-const MAX: u8 = 6;
-
-const VARIABLE: u8 = 7;
 
 // The max nodes around a record, outermost first. The innermost `unguarded` of them have no necessity below them yet.
 pub(crate) struct Scope {
@@ -222,26 +216,12 @@ pub(crate) fn read_formula(
         return read_formula(bytes, patterns, after, more, scope, kinds, args);
     }
     if kind == NECESSITY {
-        return read_formula(
-            bytes,
-            patterns,
-            next,
-            left - 1,
-            scope.guarded(),
-            kinds,
-            args,
-        );
+        let inner = scope.guarded();
+        return read_formula(bytes, patterns, next, left - 1, inner, kinds, args);
     }
     if kind == MAX {
-        return read_formula(
-            bytes,
-            patterns,
-            next,
-            left - 1,
-            scope.inside_max(k as u8),
-            kinds,
-            args,
-        );
+        let inner = scope.inside_max(k as u8);
+        return read_formula(bytes, patterns, next, left - 1, inner, kinds, args);
     }
     if kind == VARIABLE {
         args[k] = scope.max_of(argument);

@@ -2,15 +2,13 @@
 use crate::Answer;
 use crate::Extent;
 use crate::Pattern;
+use crate::kinds::PATTERN;
 ghost use mathlib.Core.Path.{_≡_};
 ghost use Prim.Native.Nat.{_≤_, _<_};
 ghost use lib.ListN.{length};
 ghost use Rattle.reading.specs.Pattern.{extentOf, WellFormedPattern};
 ghost use Rattle.reading.specs.File.{patternAt, isPattern, patternsAt};
 ghost use Rattle.reading.specs.Answers.{patternOutcome, patternAnswer, HeadOf};
-
-// The kind byte of a pattern record.
-const PATTERN: u8 = 1;
 
 // What reading a pattern record finds: the pattern, or the number and place of a refusal.
 pub(crate) enum PatternRead {

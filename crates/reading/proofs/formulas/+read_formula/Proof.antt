@@ -122,11 +122,11 @@ module _ (t : ℕ) where
       is-both _ _ _ _ _ _ _ _ _ (n .read-node .ensures) (a .before .found .given .1) (r .before .before .before .if1 .taken) (omega (arith, c .before .before .before .before .before .before .before .before .before .before .before .before .before .before .before .pre)) _
       (r .read-formula .ensures) _ (k .before .first .given .1) (c .read-formula2 .ensures)
 
-  sub-read-formula-2 : lts.Need-sub-read-formula-2 (claims t) (at t) reads.Post
-  sub-read-formula-2 c = omega (arith, positive (c .before .before))
-
   guarded-requires : lts.Need-guarded-requires (claims t) (at t) reads.Post
   guarded-requires c κs = search needs
+
+  sub-read-formula-2 : lts.Need-sub-read-formula-2 (claims t) (at t) reads.Post
+  sub-read-formula-2 c = omega (arith, positive (c .before .before .before))
 
   read-formula-requires-3 : lts.Need-read-formula-requires-3 (claims t) (at t) reads.Post
   read-formula-requires-3 c κs = omega (arith, positive (c .before .before .before .before .before), c .before .before .guarded .ensures)
@@ -139,14 +139,14 @@ module _ (t : ℕ) where
       is-necessity _ _ _ _ _ _ _ _ _ (n .read-node .ensures) (a .before .found .given .1) (omega (arith, c .before .before .before .before .before .before .before .before .before .before .before .pre)) (g .before .if2 .taken) (g .guarded .result)
       (g .guarded .ensures) (c .read-formula3 .ensures)
 
-  sub-read-formula-3 : lts.Need-sub-read-formula-3 (claims t) (at t) reads.Post
-  sub-read-formula-3 c = omega (arith, positive (c .before .before .before))
-
   cast-inside-max : lts.Need-cast-inside-max (claims t) (at t) reads.Post
   cast-inside-max c = search needs
 
   inside-max-requires : lts.Need-inside-max-requires (claims t) (at t) reads.Post
   inside-max-requires c κs = omega (arith, positive (c .before .before .before))
+
+  sub-read-formula-3 : lts.Need-sub-read-formula-3 (claims t) (at t) reads.Post
+  sub-read-formula-3 c = omega (arith, positive (c .before .before .before .before))
 
   read-formula-requires-4 : lts.Need-read-formula-requires-4 (claims t) (at t) reads.Post
   read-formula-requires-4 c κs = omega (arith, positive (c .before .before .before .before .before .before), c .before .before .inside-max .ensures)
@@ -205,13 +205,13 @@ pub +read-formula-spec : {M : Type 1} → statement M
     (element-write-args-2 t)
     (read-formula-requires-2 t)
     (returns-3 t)
-    (sub-read-formula-2 t)
     (guarded-requires t)
+    (sub-read-formula-2 t)
     (read-formula-requires-3 t)
     (returns-4 t)
-    (sub-read-formula-3 t)
     (cast-inside-max t)
     (inside-max-requires t)
+    (sub-read-formula-3 t)
     (read-formula-requires-4 t)
     (returns-5 t)
     (max-of-requires t)

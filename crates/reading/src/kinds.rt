@@ -1,0 +1,10 @@
+// The kind bytes of records, by the names of what they begin. Those of tt and ff are not asked for by name.
+pub(crate) const PATTERN: u8 = 1;
+
+pub(crate) const BOTH: u8 = 4;
+
+pub(crate) const NECESSITY: u8 = 5;
+
+pub(crate) const MAX: u8 = 6;
+
+pub(crate) const VARIABLE: u8 = 7;
