@@ -94,7 +94,10 @@ one-rule r r′ w w′ e =
     accepted-is (sym read ∙ read′)
 
 pub answer-accepted : AnswersAccepted
-answer-accepted s bytes = (λ e. on (ruleOf s) refl e, λ h. ap (λ (o : Outcome Rule). readingOf o .answer) (reading-accepts s bytes (h .0) .1 (h .1, h .2)))
+answer-accepted s bytes = (
+  λ e. on (ruleOf s) refl e,
+  λ h. ap (λ (o : Outcome Rule). readingOf o .answer) (reading-accepts s bytes (h .0) .1 (h .1, h .2)),
+)
   where
     on : (o : Outcome Rule) → ruleOf s ≡ o → readingOf o .answer ≡ Accepted → (r : Rule) × WellFormedRule r × (s ≡ encode r)
     on (accepted r) e a = let h = reading-accepts s bytes r .0 e in (r, h .0, h .1)

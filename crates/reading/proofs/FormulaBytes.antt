@@ -11,7 +11,8 @@ use Rattle.reading.specs.Outcome.{accepted}
 use Rattle.reading.specs.File.{Parsed, leaf, partsBy, formulaOf}
 use Rattle.reading.specs.declared.formulas.Record.{Record}
 use Rattle.reading.proofs.Places.{byte-of, first-byte, rest-of, rest-after}
-use Rattle.reading.proofs.NodeBytes.{bare-truth, bare-falsity, bare-both, bare-max, NodeStands, bare, of-necessity, of-variable, node-accepts}
+use Rattle.reading.proofs.NodeBytes.{bare-truth, bare-falsity, bare-both, bare-max}
+use Rattle.reading.proofs.NodeBytes.{NodeStands, bare, of-necessity, of-variable, node-accepts}
 use Rattle.reading.proofs.Sound.{FormulaStands}
 use Rattle.reading.proofs.Steps.{formula-step, formula-sound}
 

@@ -74,14 +74,15 @@ module _ (s : List ℕ) (list : List Pattern) (extents : List Extent) (at n : �
       → Begun s (set list n p) (set extents n (extentOf p)) (at + 4) (n + 1)
   one-begun p e pos h =
       let left : 32 - n ≡ suc (32 - (n + 1)) = omega arith in
+      let more = patternsAt (32 - (n + 1)) s (at + 4) in
+      let mapped : length (map extentOf (b .ps)) ≡ n = length-map (b .ps) extentOf ∙ b .read in
       record {
         ps = b .ps ++ p ∷ [];
         read = length-append (b .ps) (p ∷ []) ∙ omega (arith, b .read);
         few = omega arith;
         patterns = rw (b .patterns) (set-padded 32 n noPattern p (b .ps) (b .read) (omega arith));
-        measured = rw (b .measured, map-last extentOf (b .ps) p)
-            (set-padded 32 n noExtent (extentOf p) (map extentOf (b .ps)) (length-map (b .ps) extentOf ∙ b .read) (omega arith));
-        rest = b .rest ∙ rw left (ap (prepend (b .ps)) (one-more s at (32 - (n + 1)) e (rw left at h)) ∙ prepend-one (b .ps) p (patternsAt (32 - (n + 1)) s (at + 4)));
+        measured = rw (b .measured, map-last extentOf (b .ps) p) (set-padded 32 n noExtent (extentOf p) (map extentOf (b .ps)) mapped (omega arith));
+        rest = b .rest ∙ rw left (ap (prepend (b .ps)) (one-more s at (32 - (n + 1)) e (rw left at h)) ∙ prepend-one (b .ps) p more);
       }
 
   pub all-begun : isPattern s at ≡ false

@@ -19,7 +19,8 @@ use Rattle.reading.specs.declared.formulas.NodeRead as NodeRead′
 use Rattle.reading.specs.declared.formulas.FormulaRead.{FormulaRead}
 use Rattle.reading.specs.declared.formulas.FormulaRead as FormulaRead′
 use Rattle.reading.proofs.Steps.{formula-step, formula-sound}
-use Rattle.reading.proofs.NodeBytes.{NodeStands, bare, of-necessity, of-variable, bare-truth, bare-falsity, bare-both, bare-max, node-accepts}
+use Rattle.reading.proofs.NodeBytes.{bare-truth, bare-falsity, bare-both, bare-max}
+use Rattle.reading.proofs.NodeBytes.{NodeStands, bare, of-necessity, of-variable, node-accepts}
 use Rattle.reading.proofs.NumberedLaws.{kinds-size, args-size}
 use Rattle.reading.proofs.Stores.{two-lists, two-lists-over}
 
@@ -84,20 +85,32 @@ module _ (left : ℕ) (pos : 0 < left) (few : left ≤ 64) (ms ms′ ks gs : Lis
   one-part (refused number place) ek ea h = record { answer = h .answer; written = tt }
 
 -- A "both": its kind, its first part, then the number of its second part over what stood as its argument, and the second part.
-module _ (left argument : ℕ) (pos : 0 < left) (few : left ≤ 64) (ms ks gs : List ℕ) (f : Parsed) (takes : size (f .formula) + f .left ≡ left - 1) where
+module _ (left argument : ℕ) (pos : 0 < left) (few : left ≤ 64) (ms ks gs : List ℕ)
+    (f : Parsed) (takes : size (f .formula) + f .left ≡ left - 1) where
+  -- the node itself, and its second part
+  abbrev here : ℕ
+  here = 64 - left
+
+  abbrev second : ℕ
+  second = here + suc (size (f .formula))
+
   two-parts : (o : Outcome Parsed) {ks′ gs′ ks″ gs″ : List ℕ} {r : FormulaRead}
-      → ks′ ≡ sets (set ks (64 - left) 4) (64 - (left - 1)) (kinds (f .formula))
-      → gs′ ≡ sets (set gs (64 - left) argument) (64 - (left - 1)) (args (64 - (left - 1)) ms (f .formula))
-      → Reads o (f .left) ms ks′ (set gs′ (64 - left) (64 - f .left)) ks″ gs″ r
+      → ks′ ≡ sets (set ks here 4) (64 - (left - 1)) (kinds (f .formula))
+      → gs′ ≡ sets (set gs here argument) (64 - (left - 1)) (args (64 - (left - 1)) ms (f .formula))
+      → Reads o (f .left) ms ks′ (set gs′ here (64 - f .left)) ks″ gs″ r
       → Reads (andThen o (under (both (f .formula)))) left ms ks gs ks″ gs″ r
   two-parts (accepted g) ek ea h =
-      let next : 64 - (left - 1) ≡ suc (64 - left) = omega arith in
-      let second : 64 - f .left ≡ 64 - left + suc (size (f .formula)) = omega arith in record {
+      let first-is : 64 - (left - 1) ≡ suc here = omega arith in
+      let second-is : 64 - f .left ≡ second = omega arith in
+      let after-kinds : 64 - f .left ≡ suc here + length (kinds (f .formula)) = omega (arith, kinds-size (f .formula)) in
+      let after-args : second ≡ suc here + length (args (suc here) ms (f .formula)) = omega (arith, args-size (suc here) ms (f .formula)) in
+      record {
         answer = h .answer;
         written = (
-          h .written .0 ∙ rw (ek, next) (two-lists ks (64 - left) 4 (kinds (f .formula)) (kinds (g .formula)) (64 - f .left) (omega (arith, kinds-size (f .formula)))),
-          h .written .1 ∙ rw (ea, next, second) (two-lists-over gs (64 - left) argument (64 - left + suc (size (f .formula))) (args (suc (64 - left)) ms (f .formula))
-              (args (64 - left + suc (size (f .formula))) ms (g .formula)) (64 - left + suc (size (f .formula))) (omega (arith, args-size (suc (64 - left)) ms (f .formula)))),
+          h .written .0 ∙ rw (ek, first-is) (two-lists ks here 4 (kinds (f .formula)) (kinds (g .formula)) (64 - f .left) after-kinds),
+          h .written .1
+              ∙ rw (ea, first-is, second-is)
+              (two-lists-over gs here argument second (args (suc here) ms (f .formula)) (args second ms (g .formula)) second after-args),
         );
       }
   two-parts (refused number place) ek ea h = record { answer = h .answer; written = tt }
@@ -170,10 +183,11 @@ module _ (s : List ℕ) (n at left : ℕ) (sc : Scope) (ks gs : List ℕ) where
           (set ks (64 - left) (node .kind)) (set gs (64 - left) (node .argument)) ks′ gs′ r
           → Whole ks′ gs′ r
       is-max k sc′ i h =
+          let no-body : node .argument ≡ 0 = bare-argument (stands .1) (λ e. omega arith) (λ e. omega arith) in
           whole (step ∙ rw k)
           (one-part left (stands .0) few (enclosing sc) ((64 - left) ∷ enclosing sc) ks gs 6 0 max
           (formulaOf s n (node .next) (left - 1) (suc (sc .count)) (suc (sc .unguarded))) (λ f. refl) (λ f. refl)
-          (rw (i .maxes, i .counted, i .guards, add-one (sc .count), add-one (sc .unguarded), k, bare-argument (stands .1) (λ e. omega arith) (λ e. omega arith)) at h))
+          (rw (i .maxes, i .counted, i .guards, add-one (sc .count), add-one (sc .unguarded), k, no-body) at h))
 
     -- the first part of a "both", and what `read_formula` found there
     module _ (k : node .kind ≡ 4) (few : left ≤ 64) {ks′ gs′ : List ℕ} (first : FormulaRead)
@@ -196,8 +210,9 @@ module _ (s : List ℕ) (n at left : ℕ) (sc : Scope) (ks gs : List ℕ) where
           → Whole ks″ gs″ r
       second-part f e h′ =
           let w = rw e at (h .written) in
+          let takes = formula-sound s n (node .next) (left - 1) (sc .count) (sc .unguarded) f e .nodes in
           whole (both-step ∙ rw e)
-          (two-parts left (node .argument) (stands .0) few (enclosing sc) ks gs f (formula-sound s n (node .next) (left - 1) (sc .count) (sc .unguarded) f e .nodes)
+          (two-parts left (node .argument) (stands .0) few (enclosing sc) ks gs f takes
           (formulaOf s n (f .next) (f .left) (sc .count) (sc .unguarded)) (w .0 ∙ rw k) (w .1) h′)
 
       pub is-both : (rest : Rest) → first ≡ FormulaRead′.the-variants.Read rest → {ks″ gs″ : List ℕ} {r : FormulaRead}

@@ -11,7 +11,8 @@ use Rattle.reading.specs.File.{Parsed, nodeAt, partsBy, formulaAt}
 use Rattle.reading.specs.declared.formulas.Record.{Record}
 use Rattle.reading.proofs.Outcomes.{accepted-is, never-accepted, accepted-by}
 use Rattle.reading.proofs.Places.{from-byte}
-use Rattle.reading.proofs.NodeBytes.{bare-truth, bare-falsity, bare-both, bare-max, NodeStands, bare, of-necessity, of-variable, node-accepts}
+use Rattle.reading.proofs.NodeBytes.{bare-truth, bare-falsity, bare-both, bare-max}
+use Rattle.reading.proofs.NodeBytes.{NodeStands, bare, of-necessity, of-variable, node-accepts}
 
 -- The formula of f stands at `at` and fits, after n patterns, with `left` nodes left, inside m maxes of which u are unguarded.
 pub record FormulaStands (s : List ℕ) (n at left m u : ℕ) (f : Parsed) : Type 0 where

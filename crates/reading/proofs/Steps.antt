@@ -8,7 +8,8 @@ use Rattle.reading.specs.Outcome.{Outcome, andThen}
 use Rattle.reading.specs.File.{Parsed, nodeAt, under, partsBy, formulaAt, formulaOf}
 use Rattle.reading.specs.declared.formulas.Record.{Record}
 use Rattle.reading.proofs.Outcomes.{then-agree, both-agree}
-use Rattle.reading.proofs.NodeBytes.{bare-truth, bare-falsity, bare-both, bare-max, NodeStands, bare, of-necessity, of-variable, node-accepts}
+use Rattle.reading.proofs.NodeBytes.{bare-truth, bare-falsity, bare-both, bare-max}
+use Rattle.reading.proofs.NodeBytes.{NodeStands, bare, of-necessity, of-variable, node-accepts}
 use Rattle.reading.proofs.Sound.{FormulaStands, Reader, Sound, at-sound}
 
 -- Readers that agree where P holds of a place and the nodes left give a node the same parts, if P holds where its parts begin and

@@ -108,7 +108,8 @@ then-formula s ps e = rw e
 
 module _ (s : List ℕ) (h : Head) (is : HeadOf (patternsAt 32 s 0) h) (ok : h .answer ≡ Answer′.the-variants.Accepted)
     (sc : Scope) (outer : IsScope sc [] 0 0) (ks gs : List ℕ) (found : FormulaRead)
-    (reads : Reads (formulaOf s (h .count) (h .next) 64 (sc .count) (sc .unguarded)) 64 (enclosing sc) (replicate 64 0) (replicate 64 0) ks gs found) where
+    (reads : Reads (formulaOf s (h .count) (h .next) 64 (sc .count) (sc .unguarded)) 64 (enclosing sc)
+    (replicate 64 0) (replicate 64 0) ks gs found) where
   after-patterns : AfterPatterns s h ks gs found
   after-patterns = go (accepted-head (patternsAt 32 s 0) h is ok)
     where
@@ -145,4 +146,6 @@ module _ (s : List ℕ) (h : Head) (is : HeadOf (patternsAt 32 s 0) h) (ok : h .
             }
 
         go : AfterPatterns s h ks gs found → AfterFormula s h ks gs rest
-        go p = let a = was-read (formulaOf s (length (p .ps .list)) (p .ps .next) 64 0 0) (sym (p .reads .answer) ∙ e) in with-formula p (a .0) (a .1) (a .2)
+        go p =
+            let a = was-read (formulaOf s (length (p .ps .list)) (p .ps .next) 64 0 0) (sym (p .reads .answer) ∙ e) in
+            with-formula p (a .0) (a .1) (a .2)

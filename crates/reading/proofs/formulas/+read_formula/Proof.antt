@@ -1,12 +1,12 @@
 -- The proof of the cycle of calls {read_formula}. The measure is how many nodes are left.
-use mathlib.Core.Path.{_≡_, refl, sym, ap, _∙_}
-use Prim.Native.Nat.{ℕ, _<_, _-_, _+_}
+use Prim.Native.Nat.{ℕ, _≤_, _<_}
 use native.Mathlib.Omega.{arith}
 use borrow.Author.Needs.{needs}
 use borrow.Fn.Kinds.{In}
 use borrow.Fn.PlainCycle.{Measures, is, falls, and}
 use Rattle.reading.proofs.NodeBytes.{NodeStands}
-use Rattle.reading.proofs.Parts.{node-stands, rest-left, node-refused, is-leaf, is-variable, is-bound, is-necessity, is-max, first-refused, is-both}
+use Rattle.reading.proofs.Parts.{node-stands, rest-left, node-refused, is-leaf, is-variable, is-bound}
+use Rattle.reading.proofs.Parts.{is-necessity, is-max, first-refused, is-both}
 use Rattle.reading.proofs.formulas.read_formula.Reads as reads
 use Rattle.reading.proofs.formulas.read_formula.Kinds as kinds
 use Rattle.reading.proofs.formulas.+read_formula.Lts-read_formula as lts
@@ -57,6 +57,9 @@ module _ (t : ℕ) where
   positive : (c : lts.After-known-told (claims t) (at t) reads.Post) → 0 < c .before .before .before .before .before .args .left
   positive c = stands c .0
 
+  few : (c : lts.After-known-told (claims t) (at t) reads.Post) → c .before .before .before .before .before .args .left ≤ 64
+  few c = omega (arith, c .before .before .before .before .before .pre)
+
   read-node-requires : lts.Need-read-node-requires (claims t) (at t) reads.Post
   read-node-requires c κs = search needs
 
@@ -97,9 +100,8 @@ module _ (t : ℕ) where
   returns-2 c =
       let r = c .before .before in
       let a = r .before .before .before .before in
-      let n = a .before .before .before in
-      first-refused _ _ _ _ _ _ _ _ _ (n .read-node .ensures) (a .before .found .given .1) (r .before .before .before .if1 .taken) (omega arith) _
-      (r .read-formula .ensures) (c .enum-told2 .given .1)
+      first-refused _ _ _ _ _ _ _ _ _ (a .before .before .before .read-node .ensures) (a .before .found .given .1)
+      (r .before .before .before .if1 .taken) (few a) _ (r .read-formula .ensures) (c .enum-told2 .given .1)
 
   sub-args : lts.Need-sub-args (claims t) (at t) reads.Post
   sub-args c = omega (arith, rest-left _ _ _ _ _ _ _ _ (c .before .before .before .read-formula .ensures) (c .before .first .given .1))
@@ -111,16 +113,19 @@ module _ (t : ℕ) where
   element-write-args-2 c = omega (arith, positive (c .before .before .before .before .before .before .before))
 
   read-formula-requires-2 : lts.Need-read-formula-requires-2 (claims t) (at t) reads.Post
-  read-formula-requires-2 c κs = omega (arith, rest-left _ _ _ _ _ _ _ _ (c .before .before .before .before .before .read-formula .ensures) (c .before .before .before .first .given .1), positive (c .before .before .before .before .before .before .before .before .before), c .before .before .before .before .before .before .before .before .before .before .before .before .before .before .pre)
+  read-formula-requires-2 c κs =
+      let k = c .before .before .before in
+      let r = k .before .before in
+      let a = r .before .before .before .before in
+      omega (arith, rest-left _ _ _ _ _ _ _ _ (r .read-formula .ensures) (k .first .given .1), positive a, a .before .before .before .before .before .pre)
 
   returns-3 : lts.Need-returns-3 (claims t) (at t) reads.Post
   returns-3 c =
       let k = c .before .before .before in
       let r = k .before .before .before in
       let a = r .before .before .before .before in
-      let n = a .before .before .before in
-      is-both _ _ _ _ _ _ _ _ _ (n .read-node .ensures) (a .before .found .given .1) (r .before .before .before .if1 .taken) (omega (arith, c .before .before .before .before .before .before .before .before .before .before .before .before .before .before .before .pre)) _
-      (r .read-formula .ensures) _ (k .before .first .given .1) (c .read-formula2 .ensures)
+      is-both _ _ _ _ _ _ _ _ _ (a .before .before .before .read-node .ensures) (a .before .found .given .1)
+      (r .before .before .before .if1 .taken) (few a) _ (r .read-formula .ensures) _ (k .before .first .given .1) (c .read-formula2 .ensures)
 
   guarded-requires : lts.Need-guarded-requires (claims t) (at t) reads.Post
   guarded-requires c κs = search needs
@@ -135,9 +140,8 @@ module _ (t : ℕ) where
   returns-4 c =
       let g = c .before .before .before in
       let a = g .before .before .before in
-      let n = a .before .before .before in
-      is-necessity _ _ _ _ _ _ _ _ _ (n .read-node .ensures) (a .before .found .given .1) (omega (arith, c .before .before .before .before .before .before .before .before .before .before .before .pre)) (g .before .if2 .taken) (g .guarded .result)
-      (g .guarded .ensures) (c .read-formula3 .ensures)
+      is-necessity _ _ _ _ _ _ _ _ _ (a .before .before .before .read-node .ensures) (a .before .found .given .1)
+      (few a) (g .before .if2 .taken) (g .guarded .result) (g .guarded .ensures) (c .read-formula3 .ensures)
 
   cast-inside-max : lts.Need-cast-inside-max (claims t) (at t) reads.Post
   cast-inside-max c = search needs
@@ -155,9 +159,8 @@ module _ (t : ℕ) where
   returns-5 c =
       let m = c .before .before .before in
       let a = m .before .before .before .before in
-      let n = a .before .before .before in
-      is-max _ _ _ _ _ _ _ _ _ (n .read-node .ensures) (a .before .found .given .1) (omega (arith, c .before .before .before .before .before .before .before .before .before .before .before .before .pre)) (m .before .if3 .taken) (m .inside-max .result)
-      (m .inside-max .ensures) (c .read-formula4 .ensures)
+      is-max _ _ _ _ _ _ _ _ _ (a .before .before .before .read-node .ensures) (a .before .found .given .1)
+      (few a) (m .before .if3 .taken) (m .inside-max .result) (m .inside-max .ensures) (c .read-formula4 .ensures)
 
   max-of-requires : lts.Need-max-of-requires (claims t) (at t) reads.Post
   max-of-requires c κs = let a = c .before .before .before .before in omega (arith, positive a, is-bound (stands a .1) (c .if4 .taken))
@@ -171,8 +174,8 @@ module _ (t : ℕ) where
   returns-6 : lts.Need-returns-6 (claims t) (at t) reads.Post
   returns-6 c =
       let a = c .before .before .before .before .before in
-      let n = a .before .before .before in
-      is-variable _ _ _ _ _ _ _ _ _ (n .read-node .ensures) (a .before .found .given .1) (c .before .if4 .taken) (c .max-of .result) (c .max-of .ensures)
+      is-variable _ _ _ _ _ _ _ _ _ (a .before .before .before .read-node .ensures) (a .before .found .given .1)
+      (c .before .if4 .taken) (c .max-of .result) (c .max-of .ensures)
 
   sub-t45 : lts.Need-sub-t45 (claims t) (at t) reads.Post
   sub-t45 c = omega (arith, positive (c .before .before .before .before))
@@ -180,9 +183,8 @@ module _ (t : ℕ) where
   returns-7 : lts.Need-returns-7 (claims t) (at t) reads.Post
   returns-7 c =
       let a = c .before .before .before .before in
-      let n = a .before .before .before in
-      is-leaf _ _ _ _ _ _ _ _ _ (n .read-node .ensures) (a .before .found .given .1) (c .before .before .before .if1 .left) (c .before .before .if2 .left)
-      (c .before .if3 .left) (c .if4 .left)
+      is-leaf _ _ _ _ _ _ _ _ _ (a .before .before .before .read-node .ensures) (a .before .found .given .1)
+      (c .before .before .before .if1 .left) (c .before .before .if2 .left) (c .before .if3 .left) (c .if4 .left)
 
 pub +read-formula-spec : {M : Type 1} → statement M
 +read-formula-spec =

@@ -39,7 +39,8 @@ module _ (c : tie.After-known-told Inv-loop μ-loop) where
 
   stands : PatternStands s place left (c .before .found .given .0 .0)
   stands =
-      pattern-stands s place left _ (omega (arith, c .before .before .before .before .before .before .before .shared-slice-known .given (place + 1))) is-read
+      let file = c .before .before .before .before .before .before .before in
+      pattern-stands s place left _ (omega (arith, file .shared-slice-known .given (place + 1))) is-read
 
 loop-holds : tie.Need-loop-holds Inv-loop μ-loop
 loop-holds c = none-begun _
@@ -64,9 +65,10 @@ answer-requires c κs = search needs
 
 returns : tie.Need-returns Inv-loop μ-loop
 returns c =
-    let l = c .before .before .before .before .before .before in
-    begun-refused _ _ _ _ _ (l .loop .inv) _ _ _ (begins (c .before .before .before .before))
-    (sym (c .before .before .before .read-pattern .ensures) ∙ ap patternOutcome (c .before .enum-told .given .1)) (c .answer .ensures ∙ ap patternAnswer (c .before .enum-told .given .1))
+    let r = c .before .before .before in
+    let told = c .before .enum-told .given .1 in
+    begun-refused _ _ _ _ _ (r .before .before .before .loop .inv) _ _ _ (begins (r .before))
+    (sym (r .read-pattern .ensures) ∙ ap patternOutcome told) (c .answer .ensures ∙ ap patternAnswer told)
 
 mul-list : tie.Need-mul-list Inv-loop μ-loop
 mul-list c = omega (arith, stands c .some-left)

@@ -16,7 +16,9 @@ array-read-result : tie.Need-array-read-result
 array-read-result c = search needs
 
 returns : tie.Need-returns
-returns c = sym (getD-lastFirst (c .before .before .args .self .count) (c .before .before .args .self .nodes) (c .before .before .args .depth) (omega arith))
+returns c =
+    let args = c .before .before .args in
+    sym (getD-lastFirst (args .self .count) (args .self .nodes) (args .depth) (omega arith))
 
 pub max-of-spec : {M : Type 1} → statement M
 max-of-spec = tie.close (tie.spec sub-i sub-i-2 array-read-result returns)
