@@ -1,11 +1,16 @@
--- The paper's small files that concern reading alone, as rows of one theorem over the definitions.
+-- The paper's files that concern reading alone, as rows of one theorem over the definitions: the small ones, and the number-pool rule.
 use mathlib.Core.Path.{_≡_, refl}
-use mathlib.Core.List.{List, [], _∷_}
-use Prim.Native.Nat.{ℕ, _+_, _*_}
+use mathlib.Core.List.{[], _∷_}
+use Prim.Native.Nat.{ℕ}
 use Rattle.reading.specs.Pattern.{bit, covers, least, howMany, extentOf}
 use Rattle.reading.specs.Formula.{truth, falsity, both, necessity, max, variable}
 use Rattle.reading.specs.Outcome.{accepted, refused}
-use Rattle.reading.specs.File.{ruleOf, patternsAt, formulaOf, formulaAt}
+use Rattle.reading.specs.File.{patternsAt, formulaAt, formulaOf, ruleOf}
+use Rattle.reading.specs.declared.Pattern.{Pattern}
+
+-- a pattern, shorter to write
+abbrev pattern : (mask first last : ℕ) → Pattern
+pattern mask first last = record { mask = mask; first = first; last = last }
 
 pub small-files :
     (ruleOf [] ≡ refused 1 0)
@@ -18,7 +23,14 @@ pub small-files :
     × (ruleOf (5 ∷ 0 ∷ 2 ∷ []) ≡ refused 6 0)
     × (ruleOf (1 ∷ 1 ∷ 5 ∷ 5 ∷ []) ≡ refused 1 4)
     × (ruleOf (1 ∷ 1 ∷ 6 ∷ 5 ∷ 2 ∷ []) ≡ refused 5 0)
-    × (ruleOf (1 ∷ 1 ∷ 31 ∷ 31 ∷ 2 ∷ []) ≡ accepted (record { patterns = record { mask = 1; first = 31; last = 31 } ∷ []; formula = truth }))
-    × (extentOf (record { mask = 1; first = 31; last = 31 }) .lowest ≡ 31)
+    × (ruleOf (1 ∷ 1 ∷ 31 ∷ 31 ∷ 2 ∷ []) ≡ accepted (record { patterns = pattern 1 31 31 ∷ []; formula = truth }))
+    × (extentOf (pattern 1 31 31) .lowest ≡ 31)
+    × (ruleOf (1 ∷ 2 ∷ 5 ∷ 5 ∷ 1 ∷ 1 ∷ 5 ∷ 5 ∷ 1 ∷ 16 ∷ 0 ∷ 31 ∷ 6 ∷ 5 ∷ 0 ∷ 4 ∷ 5 ∷ 1 ∷ 3 ∷ 5 ∷ 2 ∷ 7 ∷ 0 ∷ []) ≡ accepted (record {
+      patterns = pattern 2 5 5 ∷ pattern 1 5 5 ∷ pattern 16 0 31 ∷ [];
+      formula = max (necessity 0 (both (necessity 1 falsity) (necessity 2 (variable 0))));
+    }))
+    × (extentOf (pattern 2 5 5) ≡ record { lowest = 37; count = 1 })
+    × (extentOf (pattern 1 5 5) ≡ record { lowest = 5; count = 1 })
+    × (extentOf (pattern 16 0 31) ≡ record { lowest = 128; count = 32 })
 unfolding ruleOf patternsAt formulaOf formulaAt bit covers least howMany
-small-files = (refl, refl, refl, refl, refl, refl, refl, refl, refl, refl, refl, refl)
+small-files = (refl, refl, refl, refl, refl, refl, refl, refl, refl, refl, refl, refl, refl, refl, refl, refl)

@@ -1,14 +1,12 @@
 -- The loop over pattern records: what is read so far, and what it leaves at each way out.
-use mathlib.Core.Path.{_≡_, refl, sym, ap, _∙_, subst}
+use mathlib.Core.Path.{_≡_, refl, sym, ap, _∙_}
 use mathlib.Core.Bool.{true, false}
 use mathlib.Core.List.{List, [], _∷_, _++_, map, append-nil, append-assoc}
 use Prim.Native.Nat.{ℕ, zero, suc, _+_, _-_, _≤_, _<_}
 use native.Mathlib.Omega.{arith}
-use lib.Dec.{leb, ltb, eqb}
-use lib.ListN.{length, getD, set, replicate, length-append, length-map}
+use lib.ListN.{length, set, replicate, length-append, length-map}
 use lib.Seq.{set-at}
-use borrow.Author.Tests.{leb-false, ltb-false, eqb-false}
-use Rattle.reading.specs.Pattern.{extentOf, WellFormedPattern}
+use Rattle.reading.specs.Pattern.{extentOf}
 use Rattle.reading.specs.Outcome.{Outcome, accepted, refused, andThen}
 use Rattle.reading.specs.File.{Patterns, isPattern, patternAt, patternsAt, onePattern}
 use Rattle.reading.specs.Numbered.{padded, noPattern, noExtent}

@@ -5,11 +5,11 @@ use mathlib.Core.Bool.{Bool, true, false}
 use mathlib.Core.List.{List}
 use Prim.Native.Nat.{ℕ, zero, suc, _+_, _-_, _≤_, _<_}
 use native.Mathlib.Omega.{arith}
-use lib.ListN.{length, getD, drop}
+use lib.ListN.{length}
 use lib.Dec.{ltb}
 use borrow.Author.Tests.{ltb-true, ltb-false}
 use Rattle.reading.specs.Formula.{Formula, truth, falsity, both, necessity, max, variable, size, WellFormed}
-use Rattle.reading.specs.Nodes.{Max, Node, whole, first, second, after, body, noMax, Around}
+use Rattle.reading.specs.Nodes.{Max, Node, whole, first, second, after, body, Around}
 
 -- the nodes of a node's formula are nodes of the whole
 pub node-fits : {root : Formula} {k : ℕ} {ms : List Max} {f : Formula} → Node root k ms f → k + size f ≤ size root

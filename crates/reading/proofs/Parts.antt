@@ -1,16 +1,16 @@
 -- What each way out of `read_formula` leaves is what its contract says.
-use mathlib.Core.Path.{_≡_, refl, sym, ap, _∙_, subst}
-use mathlib.Core.List.{List, [], _∷_, _++_}
+use mathlib.Core.Path.{_≡_, refl, sym, ap, _∙_}
+use mathlib.Core.List.{List, _∷_}
 use Prim.Native.Nat.{ℕ, suc, _+_, _-_, _≤_, _<_}
 use native.Mathlib.Omega.{arith}
 use native.Mathlib.Numerals.{add-one}
-use lib.ListN.{length, getD, set, length-append}
+use lib.ListN.{length, getD, set}
 use lib.Seq.{sets, set-set}
 use Rattle.reading.specs.Formula.{Formula, truth, falsity, both, necessity, max, variable, size}
 use Rattle.reading.specs.Outcome.{Outcome, accepted, refused, andThen}
 use Rattle.reading.specs.File.{nodeAt, Parsed, leaf, under, partsBy, formulaOf}
 use Rattle.reading.specs.Numbered.{kinds, args}
-use Rattle.reading.specs.Answers.{nodeOutcome, formulaRead, passedUp, enclosing, IsScope, Fit, Reads}
+use Rattle.reading.specs.Answers.{nodeOutcome, formulaRead, passedUp, enclosing, IsScope, Reads}
 use Rattle.reading.specs.declared.formulas.Scope.{Scope}
 use Rattle.reading.specs.declared.formulas.Record.{Record}
 use Rattle.reading.specs.declared.formulas.Rest.{Rest}

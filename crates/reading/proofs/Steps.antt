@@ -1,7 +1,7 @@
 -- Reading a formula, one node at a time: the depth of the definition is never used up.
 use mathlib.Core.Path.{_≡_, refl, ap}
 use mathlib.Core.List.{List}
-use Prim.Native.Nat.{ℕ, zero, suc, _+_, _-_, _≤_, _<_}
+use Prim.Native.Nat.{ℕ, zero, suc, _+_, _-_, _<_}
 use native.Mathlib.Omega.{arith}
 use Rattle.reading.specs.Formula.{Formula, both}
 use Rattle.reading.specs.Outcome.{Outcome, andThen}

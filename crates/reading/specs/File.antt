@@ -1,7 +1,7 @@
 -- What the bytes of a rule file say. `at` is the place of a record; the checks of each record stand in the order of the paper's table.
 use Prim.Native.Nat.{ℕ, zero, suc, _+_, _-_}
 use mathlib.Core.List.{List, [], _∷_}
-use mathlib.Core.Bool.{Bool, true, false, cond, _||_, _&&_}
+use mathlib.Core.Bool.{Bool, cond, _||_, _&&_}
 use lib.ListN.{length, getD}
 use lib.Dec.{ltb, leb, eqb}
 use Rattle.reading.specs.Formula.{Formula, truth, falsity, both, necessity, max, variable}

@@ -1,5 +1,5 @@
 -- sHML formulas. A variable is the number of max nodes between it and its own, 0 the innermost.
-use Prim.Native.Nat.{ℕ, zero, suc, _+_, _≤_, _<_}
+use Prim.Native.Nat.{ℕ, suc, _+_, _≤_, _<_}
 
 pub data Formula : Type 0 where
   truth falsity : Formula

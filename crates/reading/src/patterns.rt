@@ -4,7 +4,7 @@ use crate::Extent;
 use crate::Pattern;
 use crate::kinds::PATTERN;
 ghost use mathlib.Core.Path.{_≡_};
-ghost use Prim.Native.Nat.{_≤_, _<_};
+ghost use Prim.Native.Nat.{_<_};
 ghost use lib.ListN.{length};
 ghost use Rattle.reading.specs.Pattern.{extentOf, WellFormedPattern};
 ghost use Rattle.reading.specs.File.{patternAt, isPattern, patternsAt};
