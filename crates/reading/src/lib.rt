@@ -44,7 +44,7 @@ pub struct Reading {
     pub rule: Numbered,
 }
 
-// Whether a pattern covers a code. Nothing else looks at a pattern's slots.
+// Whether a pattern covers a code. All but the reading of a pattern record asks this and leaves mask and slots alone.
 pub fn covers(p: Pattern, code: u8) -> bool
     ensures { λ r. ⌜ r ≡ covers p code ⌝ }
 {

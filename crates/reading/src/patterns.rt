@@ -2,6 +2,7 @@
 use crate::Answer;
 use crate::Extent;
 use crate::Pattern;
+use crate::blank_rule;
 use crate::kinds::PATTERN;
 ghost use mathlib.Core.Path.{_≡_};
 ghost use Prim.Native.Nat.{_<_};
@@ -95,17 +96,9 @@ fn answer(found: PatternRead) -> Answer
 pub(crate) fn read_patterns(bytes: &[u8]) -> Head
     ensures { λ r. ⌜ HeadOf (patternsAt 32 (now (bytes .entry)) 0) r ⌝ }
 {
-    let pattern = Pattern {
-        mask: 0,
-        first: 0,
-        last: 0,
-    };
-    let none = Extent {
-        lowest: 0,
-        count: 0,
-    };
-    let mut list = [pattern; 32];
-    let mut extents = [none; 32];
+    let blank = blank_rule();
+    let mut list = blank.patterns;
+    let mut extents = blank.extents;
     let mut at = 0;
     let mut n = 0;
     while is_pattern(bytes, at) {

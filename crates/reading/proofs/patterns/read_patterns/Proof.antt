@@ -1,5 +1,5 @@
 -- `patterns::read_patterns` meets its contract. The loop keeps what is read so far; the measure is how many patterns are left.
-use mathlib.Core.Path.{_≡_, sym, ap, _∙_}
+use mathlib.Core.Path.{_≡_, sym, ap, _∙_, subst}
 use mathlib.Core.Bool.{true}
 use mathlib.Core.List.{List}
 use Prim.Native.Nat.{ℕ, _+_, _-_}
@@ -8,6 +8,7 @@ use borrow.Author.Needs.{needs}
 use Rattle.reading.specs.Outcome.{accepted}
 use Rattle.reading.specs.File.{isPattern, patternAt}
 use Rattle.reading.specs.Answers.{patternOutcome, patternAnswer}
+use Rattle.reading.specs.declared.Numbered.{Numbered}
 use Rattle.reading.proofs.Heads.{Begun, none-begun, one-begun, all-begun, begun-refused}
 use Rattle.reading.proofs.PatternBytes.{PatternStands, pattern-stands, one-stands}
 use Rattle.reading.proofs.patterns.read_patterns.Statement.{statement}
@@ -20,13 +21,13 @@ abbrev μ-loop : tie.MeasureT-loop
 μ-loop bytes list₀ extents₀ at₀ n₀ list extents at n = 32 - n
 
 -- a pattern record begins at `at`
-begins : (c : tie.Then1 Inv-loop μ-loop) → isPattern (c .before .before .before .before .args .bytes .now) (c .before .before .loop .at) ≡ true
+begins : (c : tie.Then1 Inv-loop μ-loop) → isPattern (c .before .before .before .before .before .before .before .args .bytes .now) (c .before .before .loop .at) ≡ true
 begins c = sym (c .before .is-pattern .ensures) ∙ c .if1 .taken
 
 -- the pattern that was read stands there
 module _ (c : tie.After-known-told Inv-loop μ-loop) where
   abbrev s : List ℕ
-  s = c .before .before .before .before .before .before .before .before .args .bytes .now
+  s = c .before .before .before .before .before .before .before .before .before .before .before .args .bytes .now
 
   abbrev place : ℕ
   place = c .before .before .before .before .before .before .loop .at
@@ -39,11 +40,16 @@ module _ (c : tie.After-known-told Inv-loop μ-loop) where
 
   stands : PatternStands s place left (c .before .found .given .0 .0)
   stands =
-      let file = c .before .before .before .before .before .before .before in
+      let file = c .before .before .before .before .before .before .before .before .before .before in
       pattern-stands s place left _ (omega (arith, file .shared-slice-known .given (place + 1))) is-read
 
+blank-rule-requires : tie.Need-blank-rule-requires Inv-loop μ-loop
+blank-rule-requires c κs = search needs
+
 loop-holds : tie.Need-loop-holds Inv-loop μ-loop
-loop-holds c = none-begun _
+loop-holds c =
+    let file = c .before .before .before .before .args .bytes .now in
+    subst (λ (b : Numbered). Begun file (b .patterns) (b .extents) 0 0) (sym (c .before .before .blank-rule .ensures)) (none-begun file)
 
 is-pattern-requires : tie.Need-is-pattern-requires Inv-loop μ-loop
 is-pattern-requires c κs = search needs
@@ -52,7 +58,7 @@ sub-read-pattern : tie.Need-sub-read-pattern Inv-loop μ-loop
 sub-read-pattern c = omega (arith, c .before .before .loop .inv .few)
 
 read-pattern-requires : tie.Need-read-pattern-requires Inv-loop μ-loop
-read-pattern-requires c κs = one-stands (c .before .before .before .before .args .bytes .now) (c .before .before .loop .at) (begins c) .inside
+read-pattern-requires c κs = one-stands (c .before .before .before .before .before .before .before .args .bytes .now) (c .before .before .loop .at) (begins c) .inside
 
 enum-known-found : tie.Need-enum-known-found Inv-loop μ-loop
 enum-known-found c = search needs
@@ -108,6 +114,7 @@ read-patterns-spec =
     (tie.spec
     Inv-loop
     μ-loop
+    blank-rule-requires
     loop-holds
     is-pattern-requires
     sub-read-pattern
