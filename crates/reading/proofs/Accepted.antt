@@ -11,9 +11,10 @@ use Rattle.reading.specs.Formula.{Formula, truth, falsity, both, necessi
 use Rattle.reading.specs.Rule.{Rule, WellFormedRule, encodePatterns, encodeFormula, encode, Bytes}
 use Rattle.reading.specs.Outcome.{Outcome, accepted, refused}
 use Rattle.reading.specs.File.{isPattern, patternsAt, Parsed, formulaOf, ended, ruleOf}
-use Rattle.reading.specs.Numbered.{readingOf}
-use Rattle.reading.specs.Promises.{AcceptsEncodings, OneRule, AnswersAccepted, HandsUp}
+use Rattle.reading.specs.Numbered.{numbered, readingOf}
+use Rattle.reading.specs.Promises.{AcceptsEncodings, OneRule, AnswersAccepted}
 use Rattle.reading.specs.declared.Answer.the-variants.{Accepted}
+use Rattle.reading.specs.declared.Reading.{Reading}
 use Rattle.reading.proofs.Outcomes.{accepted-is, accepted-by, then-accepts, passes}
 use Rattle.reading.proofs.Places.{first-byte, rest-after}
 use Rattle.reading.proofs.PatternBytes.{PatternsStand, patterns-accept}
@@ -26,11 +27,11 @@ unfolding ruleOf
 rule-stands s bytes r e =
     let head = accepted-by (patternsAt 32 s 0) _ e in
     let ps = head .0 in
-    let body = accepted-by (formulaOf s (length (ps .list)) (ps .next) 64 0 0) (ended s (ps .list)) (head .2) in
+    let body = accepted-by (formulaOf s (length (ps .list)) (ps .next) 64 []) (ended s (ps .list)) (head .2) in
     let f = body .0 in
     let end = passes (ltb (f .next) (length s)) 3 (f .next) _ (body .2) in
     let patterns = patterns-accept s bytes 0 32 ps .0 (head .1) in
-    let formula = formula-accepts s (length (ps .list)) (ps .next) 64 0 0 f .0 (body .1) in
+    let formula = formula-accepts s (length (ps .list)) (ps .next) 64 [] f .0 (body .1) in
     let bp = encodePatterns (ps .list) in
     let bf = encodeFormula (f .formula) in
     let none : drop (f .next) s ≡ [] = drop-of-length-le s (ltb-false _ _ (end .0)) in
@@ -70,7 +71,7 @@ rule-read s bytes r w e =
     } in
     let n = length (r .patterns) in
     let f : Parsed = record { formula = r .formula; next = next + length bf; left = 64 - size (r .formula) } in
-    let formula : FormulaStands s n next 64 0 0 f = record {
+    let formula : FormulaStands s n next 64 [] f = record {
       well-formed = w .formula;
       bytes = from ∙ ap (λ (l : List ℕ). bf ++ l) (sym none);
       ends = refl;
@@ -78,7 +79,7 @@ rule-read s bytes r w e =
     } in
     let ends : length s ≤ next + length bf = omega (arith, ap length e, length-append bp bf) in
     then-accepts _ (patterns-accept s bytes 0 32 _ .1 patterns) (
-    then-accepts _ (formula-accepts s n next 64 0 0 f .1 formula) (rw (le-ltb (next + length bf) (length s) ends)))
+    then-accepts _ (formula-accepts s n next 64 [] f .1 formula) (rw (le-ltb (next + length bf) (length s) ends)))
 
 -- ---- the promises
 
@@ -92,15 +93,14 @@ one-rule r r′ w w′ e =
     let read′ = reading-accepts (encode r) bytes r′ .1 (w′, e) in
     accepted-is (sym read ∙ read′)
 
-pub answer-accepted : AnswersAccepted
-answer-accepted s bytes = (
-  λ e. on (ruleOf s) refl e,
-  λ h. ap (λ (o : Outcome Rule). readingOf o .answer) (reading-accepts s bytes (h .0) .1 (h .1, h .2)),
-)
-  where
-    on : (o : Outcome Rule) → ruleOf s ≡ o → readingOf o .answer ≡ Accepted → (r : Rule) × WellFormedRule r × (s ≡ encode r)
-    on (accepted r) e a = let h = reading-accepts s bytes r .0 e in (r, h .0, h .1)
-    on (refused number place) e a = let z : _≡_ {A = ℕ} 0 1 = cc in absurd (omega arith)
-
-pub reading-of-encoding : HandsUp
+-- the encoding of a rule is read as that rule, by number
+pub reading-of-encoding : (r : Rule) → WellFormedRule r → readingOf (ruleOf (encode r)) ≡ record { answer = Accepted; rule = numbered r }
 reading-of-encoding r w = ap readingOf (reading-accepts (encode r) (encoding-is-bytes r w) r .1 (w, refl))
+
+pub answer-accepted : AnswersAccepted
+answer-accepted s bytes = (λ e. on (ruleOf s) refl e, λ h. rw (h .2) (ap (λ (x : Reading). x .answer) (reading-of-encoding (h .0) (h .1))))
+  where
+    on : (o : Outcome Rule) → ruleOf s ≡ o → readingOf o .answer ≡ Accepted
+        → (r : Rule) × WellFormedRule r × (s ≡ encode r) × (readingOf (ruleOf s) .rule ≡ numbered r)
+    on (accepted r) e a = let h = reading-accepts s bytes r .0 e in (r, h .0, h .1, rw e)
+    on (refused number place) e a = let z : _≡_ {A = ℕ} 0 1 = cc in absurd (omega arith)

@@ -1,11 +1,12 @@
 -- The encoding of a well-formed rule is a list of bytes, at most 255 of them.
 use mathlib.Core.Path.{_≡_, refl}
+use mathlib.Core.Bool.{true, false}
 use mathlib.Core.List.{List, [], _∷_}
-use Prim.Native.Nat.{ℕ, suc, _+_, _*_, _≤_, _<_}
+use Prim.Native.Nat.{ℕ, _+_, _*_, _≤_, _<_}
 use native.Mathlib.Omega.{arith}
-use lib.ListN.{length, length-append}
+use lib.ListN.{length, length-append, length-map}
 use Rattle.reading.specs.Pattern.{WellFormedPattern}
-use Rattle.reading.specs.Formula.{Formula, truth, falsity, both, necessity, max, variable, size, WellFormed}
+use Rattle.reading.specs.Formula.{Formula, truth, falsity, both, necessity, max, variable, size, Guards, guarded, WellFormed}
 use Rattle.reading.specs.Rule.{Rule, All, WellFormedRule, encodePatterns, encodeFormula, encode, Bytes}
 use Rattle.reading.specs.declared.Pattern.{Pattern}
 use Rattle.reading.proofs.AllLaws.{all-append}
@@ -19,23 +20,23 @@ patterns-are-bytes (p ∷ l) w =
     (omega arith, (omega (arith, h .byte), (omega (arith, h .in-order, h .slots), (omega (arith, h .slots), patterns-are-bytes l (w .1)))))
 
 -- a variable's depth is below the maxes around it, each of which is a node
-formula-is-bytes : (n : ℕ) → n ≤ 256 → (f : Formula) (m u : ℕ) → m + size f ≤ 256 → WellFormed n m u f → Bytes (encodeFormula f)
-formula-is-bytes n few truth m u fits w = (omega arith, tt)
-formula-is-bytes n few falsity m u fits w = (omega arith, tt)
-formula-is-bytes n few (both f g) m u fits w = (
+formula-is-bytes : (n : ℕ) → n ≤ 256 → (f : Formula) (g : Guards) → length g + size f ≤ 256 → WellFormed n g f → Bytes (encodeFormula f)
+formula-is-bytes n few truth g fits w = (omega arith, tt)
+formula-is-bytes n few falsity g fits w = (omega arith, tt)
+formula-is-bytes n few (both f f′) g fits w = (
   omega arith,
-  all-append (λ b. b < 256) (encodeFormula f) (encodeFormula g)
-      (formula-is-bytes n few f m u (omega arith) (w .0)) (formula-is-bytes n few g m u (omega arith) (w .1)),
+  all-append (λ b. b < 256) (encodeFormula f) (encodeFormula f′)
+      (formula-is-bytes n few f g (omega arith) (w .0)) (formula-is-bytes n few f′ g (omega arith) (w .1)),
 )
-formula-is-bytes n few (necessity p f) m u fits w = (omega arith, (omega (arith, w .0), formula-is-bytes n few f m 0 (omega arith) (w .1)))
-formula-is-bytes n few (max f) m u fits w = (omega arith, formula-is-bytes n few f (suc m) (suc u) (omega arith) w)
-formula-is-bytes n few (variable d) m u fits w = (omega arith, (omega (arith, w .0), tt))
+formula-is-bytes n few (necessity p f) g fits w = (omega arith, (omega (arith, w .0), formula-is-bytes n few f (guarded g) (omega (arith, length-map g (λ b. true))) (w .1)))
+formula-is-bytes n few (max f) g fits w = (omega arith, formula-is-bytes n few f (false ∷ g) (omega arith) w)
+formula-is-bytes n few (variable d) g fits w = (omega arith, (omega (arith, w .0), tt))
 
 pub encoding-is-bytes : (r : Rule) → WellFormedRule r → Bytes (encode r)
 encoding-is-bytes r w =
     all-append (λ b. b < 256) (encodePatterns (r .patterns)) (encodeFormula (r .formula))
     (patterns-are-bytes (r .patterns) (w .patterns))
-    (formula-is-bytes (length (r .patterns)) (omega (arith, w .few-patterns)) (r .formula) 0 0 (omega (arith, w .few-nodes)) (w .formula))
+    (formula-is-bytes (length (r .patterns)) (omega (arith, w .few-patterns)) (r .formula) [] (omega (arith, w .few-nodes)) (w .formula))
 
 -- ---- length
 
@@ -52,17 +53,17 @@ length-formula (max f) = omega (arith, length-formula f)
 length-formula (variable d) = omega arith
 
 -- a formula outside every max has a node without a body
-length-closed : (f : Formula) (n u : ℕ) → WellFormed n 0 u f → length (encodeFormula f) < 2 * size f
-length-closed truth n u w = omega arith
-length-closed falsity n u w = omega arith
-length-closed (both f g) n u w = omega (arith, length-append (encodeFormula f) (encodeFormula g), length-formula f, length-formula g)
-length-closed (necessity p f) n u w = omega (arith, length-closed f n 0 (w .1))
-length-closed (max f) n u w = omega (arith, length-formula f)
-length-closed (variable d) n u w = omega (arith, w .0)
+length-closed : (f : Formula) (n : ℕ) → WellFormed n [] f → length (encodeFormula f) < 2 * size f
+length-closed truth n w = omega arith
+length-closed falsity n w = omega arith
+length-closed (both f g) n w = omega (arith, length-append (encodeFormula f) (encodeFormula g), length-formula f, length-formula g)
+length-closed (necessity p f) n w = omega (arith, length-closed f n (w .1))
+length-closed (max f) n w = omega (arith, length-formula f)
+length-closed (variable d) n w = omega (arith, w .0)
 
 pub length-encoding : (r : Rule) → WellFormedRule r → length (encode r) ≤ 255
 length-encoding r w =
-    let closed = length-closed (r .formula) (length (r .patterns)) 0 (w .formula) in
+    let closed = length-closed (r .formula) (length (r .patterns)) (w .formula) in
     omega (
       arith,
       length-append (encodePatterns (r .patterns)) (encodeFormula (r .formula)),

@@ -8,12 +8,13 @@ use lib.ListN.{length, set, replicate, length-append, length-map}
 use lib.Seq.{set-at}
 use Rattle.reading.specs.Pattern.{extentOf}
 use Rattle.reading.specs.Outcome.{Outcome, accepted, refused, andThen}
-use Rattle.reading.specs.File.{Patterns, isPattern, patternAt, patternsAt, onePattern}
+use Rattle.reading.specs.File.{Patterns, isPattern, patternAt, patternsAt, withPattern}
 use Rattle.reading.specs.Numbered.{padded, noPattern, noExtent}
-use Rattle.reading.specs.Answers.{HeadOf}
+use Rattle.reading.specs.Answers.{patternRead, HeadOf}
 use Rattle.reading.specs.declared.Pattern.{Pattern}
 use Rattle.reading.specs.declared.Extent.{Extent}
 use Rattle.reading.specs.declared.Answer as Answer′
+use Rattle.reading.specs.declared.patterns.PatternRead.the-variants as PatternRead
 use Rattle.reading.specs.declared.patterns.Head.{Head}
 use Rattle.reading.proofs.PatternBytes.{none-read}
 
@@ -37,13 +38,13 @@ prepend-none : (o : Outcome Patterns) → o ≡ prepend [] o
 prepend-none (accepted qs) = refl
 prepend-none (refused number place) = refl
 
-prepend-one : (ps : List Pattern) (p : Pattern) (o : Outcome Patterns) → prepend ps (andThen o (onePattern p)) ≡ prepend (ps ++ p ∷ []) o
+prepend-one : (ps : List Pattern) (p : Pattern) (o : Outcome Patterns) → prepend ps (andThen o (withPattern p)) ≡ prepend (ps ++ p ∷ []) o
 prepend-one ps p (accepted qs) = rw (append-assoc ps (p ∷ []) (qs .list))
 prepend-one ps p (refused number place) = refl
 
 module _ (s : List ℕ) (at : ℕ) where
   one-more : (left : ℕ) {p : Pattern} → isPattern s at ≡ true → patternAt s at (suc left) ≡ accepted p
-      → patternsAt (suc left) s at ≡ andThen (patternsAt left s (at + 4)) (onePattern p)
+      → patternsAt (suc left) s at ≡ andThen (patternsAt left s (at + 4)) (withPattern p)
   unfolding patternsAt
   one-more left e h = rw (e, h)
 
@@ -52,6 +53,16 @@ module _ (s : List ℕ) (at : ℕ) where
   unfolding patternsAt
   one-refused zero e h = rw e (cc)
   one-refused (suc left) e h = rw (e, h)
+
+-- ---- what `read_pattern` found
+
+pub found-pattern : (o : Outcome Pattern) {p : Pattern} → PatternRead.Read p ≡ patternRead o → o ≡ accepted p
+found-pattern (accepted p) e = cc
+found-pattern (refused number place) e = let z : _≡_ {A = ℕ} 0 1 = cc in absurd (omega arith)
+
+pub no-pattern-found : (o : Outcome Pattern) {number place : ℕ} → PatternRead.Refused number place ≡ patternRead o → o ≡ refused number place
+no-pattern-found (accepted p) e = let z : _≡_ {A = ℕ} 0 1 = cc in absurd (omega arith)
+no-pattern-found (refused number place) e = cc
 
 -- ---- the loop
 

@@ -6,6 +6,8 @@ pub mod Products
 pub mod Extents
 pub mod AllLaws
 pub mod Places
+pub mod Scopes
+pub mod Checks
 pub mod NodeBytes
 pub mod Sound
 pub mod Steps
@@ -18,8 +20,6 @@ pub mod NodeLaws
 pub mod Listings
 pub mod NumberedLaws
 pub mod Examples
-pub mod Checks
-pub mod Scopes
 pub mod Stores
 pub mod Parts
 pub mod Heads

@@ -1,18 +1,18 @@
 -- The nodes of a formula: each number below its size names one, the maxes around a node are nodes before it, and all is well formed
 -- inside them.
-use mathlib.Core.Path.{_≡_, refl, subst}
+use mathlib.Core.Path.{_≡_, refl, ap, subst, _∙_}
 use mathlib.Core.Bool.{Bool, true, false}
-use mathlib.Core.List.{List}
+use mathlib.Core.List.{List, []}
 use Prim.Native.Nat.{ℕ, zero, suc, _+_, _-_, _≤_, _<_}
 use native.Mathlib.Omega.{arith}
-use lib.ListN.{length}
+use lib.ListN.{length, getD, drop, length-map}
 use lib.Dec.{ltb}
 use borrow.Author.Tests.{ltb-true, ltb-false}
 use Rattle.reading.specs.Formula.{Formula, truth, falsity, both, necessity, max, variable, size, WellFormed}
-use Rattle.reading.specs.Nodes.{Max, Node, whole, first, second, after, body, Around}
+use Rattle.reading.specs.Nodes.{EnclosingMax, noMax, Node, whole, first, second, after, body, guardsAt}
 
 -- the nodes of a node's formula are nodes of the whole
-pub node-fits : {root : Formula} {k : ℕ} {ms : List Max} {f : Formula} → Node root k ms f → k + size f ≤ size root
+pub node-fits : {root : Formula} {k : ℕ} {ms : List EnclosingMax} {f : Formula} → Node root k ms f → k + size f ≤ size root
 node-fits whole = omega arith
 node-fits (first n) = omega (arith, node-fits n)
 node-fits (second n) = omega (arith, node-fits n)
@@ -23,13 +23,13 @@ node-fits (body n) = omega (arith, node-fits n)
 
 -- a node with a number, whatever its maxes and its formula
 abbrev pub Numbers : (root : Formula) → ℕ → Type 0
-Numbers root k = (ms : List Max) × (f : Formula) × Node root k ms f
+Numbers root k = (ms : List EnclosingMax) × (f : Formula) × Node root k ms f
 
 moved : (root : Formula) {j k : ℕ} → j ≡ k → Numbers root j → Numbers root k
 moved root e h = subst (Numbers root) e h
 
 -- the first node of a formula is its own, and the others are those of its parts
-node-or-part : {root : Formula} {k : ℕ} {ms : List Max} {f : Formula} → Node root k ms f
+node-or-part : {root : Formula} {k : ℕ} {ms : List EnclosingMax} {f : Formula} → Node root k ms f
     → ((i : ℕ) → suc i < size f → Numbers root (suc k + i)) → (i : ℕ) → i < size f → Numbers root (k + i)
 node-or-part {root} {ms = ms} {f = f} n part zero h = moved root (omega arith) (ms, f, n)
 node-or-part {root} n part (suc i) h = moved root (omega arith) (part i h)
@@ -46,7 +46,7 @@ one-or-other root k a b one other i h = on (ltb i a) refl
         moved root (omega arith) (other (i - a) (omega arith))
 
 -- node i of the formula of node k is node k + i of the whole
-node-below : {root : Formula} {k : ℕ} {ms : List Max} (f : Formula) → Node root k ms f → (i : ℕ) → i < size f → Numbers root (k + i)
+node-below : {root : Formula} {k : ℕ} {ms : List EnclosingMax} (f : Formula) → Node root k ms f → (i : ℕ) → i < size f → Numbers root (k + i)
 node-below truth n = node-or-part n (λ i h. absurd (omega arith))
 node-below falsity n = node-or-part n (λ i h. absurd (omega arith))
 node-below {root} {k} (both f g) n = node-or-part n (one-or-other root k (size f) (size g) (node-below f (first n)) (node-below g (second n)))
@@ -59,10 +59,15 @@ node-exists root k h = moved root (omega arith) (node-below root whole k h)
 
 -- ---- the maxes around a node
 
-later : {root : Formula} {k k′ : ℕ} {ms : List Max} {d : ℕ} → k < k′ → Around root k ms d → Around root k′ ms d
+-- max d of those around node k is a node before k, with the body and inside the maxes that the list says
+pub record Around (root : Formula) (k : ℕ) (ms : List EnclosingMax) (d : ℕ) : Type 0 where
+  pub node : Node root (getD ms d noMax .number) (drop (suc d) ms) (max (getD ms d noMax .body))
+  pub before : getD ms d noMax .number < k
+
+later : {root : Formula} {k k′ : ℕ} {ms : List EnclosingMax} {d : ℕ} → k < k′ → Around root k ms d → Around root k′ ms d
 later h a = record { node = a .node; before = omega arith }
 
-pub max-around : {root : Formula} {k : ℕ} {ms : List Max} {f : Formula} → Node root k ms f → (d : ℕ) → d < length ms → Around root k ms d
+pub max-around : {root : Formula} {k : ℕ} {ms : List EnclosingMax} {f : Formula} → Node root k ms f → (d : ℕ) → d < length ms → Around root k ms d
 max-around whole d h = absurd (omega arith)
 max-around (first n) d h = later (omega arith) (max-around n d h)
 max-around (second n) d h = later (omega arith) (max-around n d h)
@@ -72,19 +77,23 @@ max-around (body {k} {ms} {f} n) (suc d) h =
     let a : Around _ k ms d = max-around n d (omega arith) in
     record { node = a .node; before = omega arith }
 
--- ---- well-formedness inside the maxes
+-- ---- well-formedness where a node stands
 
-pub well-formed-at : {root : Formula} {k : ℕ} {ms : List Max} {f : Formula} (n : ℕ) → WellFormed n 0 0 root → Node root k ms f
-    → (u : ℕ) × (u ≤ length ms) × WellFormed n (length ms) u f
-well-formed-at n w whole = (0, omega arith, w)
-well-formed-at n w (first m) = let (u, h, v) = well-formed-at n w m in (u, h, v .0)
-well-formed-at n w (second m) = let (u, h, v) = well-formed-at n w m in (u, h, v .1)
-well-formed-at n w (after m) = let (u, h, v) = well-formed-at n w m in (0, omega arith, v .1)
-well-formed-at n w (body m) = let (u, h, v) = well-formed-at n w m in (suc u, omega arith, v)
+pub guards-around : {root : Formula} {k : ℕ} {ms : List EnclosingMax} {f : Formula} (node : Node root k ms f) → length (guardsAt node) ≡ length ms
+guards-around whole = refl
+guards-around (first n) = guards-around n
+guards-around (second n) = guards-around n
+guards-around (after n) = length-map (guardsAt n) (λ b. true) ∙ guards-around n
+guards-around (body n) = ap suc (guards-around n)
 
-pub variable-bound : {root : Formula} {k : ℕ} {ms : List Max} {d : ℕ} (n : ℕ) → WellFormed n 0 0 root → Node root k ms (variable d) → d < length ms
-variable-bound n w m = well-formed-at n w m .2 .0
+pub well-formed-at : {root : Formula} {k : ℕ} {ms : List EnclosingMax} {f : Formula} (n : ℕ) → WellFormed n [] root → (node : Node root k ms f)
+    → WellFormed n (guardsAt node) f
+well-formed-at n w whole = w
+well-formed-at n w (first m) = well-formed-at n w m .0
+well-formed-at n w (second m) = well-formed-at n w m .1
+well-formed-at n w (after m) = well-formed-at n w m .1
+well-formed-at n w (body m) = well-formed-at n w m
 
-pub pattern-bound : {root : Formula} {k : ℕ} {ms : List Max} {p : ℕ} {f : Formula} (n : ℕ) → WellFormed n 0 0 root
-    → Node root k ms (necessity p f) → p < n
-pattern-bound n w m = well-formed-at n w m .2 .0
+pub variable-bound : {root : Formula} {k : ℕ} {ms : List EnclosingMax} {d : ℕ} (n : ℕ) → WellFormed n [] root
+    → Node root k ms (variable d) → d < length ms
+variable-bound n w m = rw (guards-around m) at (well-formed-at n w m .0)

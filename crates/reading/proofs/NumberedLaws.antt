@@ -3,15 +3,16 @@ use mathlib.Core.Path.{_≡_, refl, _∙_}
 use mathlib.Core.List.{List, [], _∷_, _++_, map}
 use Prim.Native.Nat.{ℕ, zero, suc, _-_, _<_}
 use native.Mathlib.Omega.{arith}
-use lib.ListN.{length, getD, drop, replicate, List·getD-map}
+use lib.ListN.{length, getD, replicate, List·getD-map}
 use Rattle.reading.specs.Pattern.{extentOf}
 use Rattle.reading.specs.Formula.{Formula, truth, falsity, both, necessity, max, variable, size, WellFormed}
 use Rattle.reading.specs.Rule.{Rule}
-use Rattle.reading.specs.Numbered.{kinds, args, padded, numbered, noPattern, noExtent}
+use Rattle.reading.specs.Numbered.{kind, argument, numberOf, kinds, args, padded, numbered, noPattern, noExtent}
 use Rattle.reading.specs.Promises.{NumbersNodes, NumbersPatterns}
-use Rattle.reading.specs.Nodes.{Max, Node, noMax, Around}
-use Rattle.reading.proofs.NodeLaws.{node-exists, node-fits, max-around, variable-bound}
-use Rattle.reading.proofs.Listings.{Lists, listed-size, listed-at, node-unique}
+use Rattle.reading.specs.Nodes.{EnclosingMax, noMax, Node, first, second, after, body}
+use Rattle.reading.specs.Nodes.{Resolves, is-truth, is-falsity, is-both, is-necessity, is-max, is-variable}
+use Rattle.reading.proofs.NodeLaws.{node-exists, node-fits, Around, max-around, guards-around, well-formed-at, variable-bound}
+use Rattle.reading.proofs.Listings.{listed-size, listed-at, node-unique}
 
 -- ---- filling up
 
@@ -31,48 +32,34 @@ module _ {A : Type 0} (x : A) where
 
 -- ---- kinds and arguments
 
--- of the maxes around a node their numbers are kept
-abbrev numberOf : Max → ℕ
-numberOf m = m .number
-
-kinds-list : Lists numberOf (λ k ms f. getD (kinds f) 0 0) (λ k ms f. kinds f)
-kinds-list k ms truth = refl
-kinds-list k ms falsity = refl
-kinds-list k ms (both f g) = refl
-kinds-list k ms (necessity p f) = refl
-kinds-list k ms (max f) = refl
-kinds-list k ms (variable d) = refl
-
-args-list : Lists numberOf (λ k ms f. getD (args k ms f) 0 0) args
-args-list k ms truth = refl
-args-list k ms falsity = refl
-args-list k ms (both f g) = refl
-args-list k ms (necessity p f) = refl
-args-list k ms (max f) = refl
-args-list k ms (variable d) = refl
-
-pub kinds-size : (f : Formula) → length (kinds f) ≡ size f
-kinds-size f = listed-size numberOf _ (λ k ms f. kinds f) kinds-list 0 [] f
+pub kinds-size : (k : ℕ) (ms : List ℕ) (f : Formula) → length (kinds k ms f) ≡ size f
+kinds-size = listed-size numberOf (λ k ms f. kind f)
 
 pub args-size : (k : ℕ) (ms : List ℕ) (f : Formula) → length (args k ms f) ≡ size f
-args-size k ms f = listed-size numberOf _ args args-list k ms f
+args-size = listed-size numberOf argument
 
-module _ (r : Rule) {k : ℕ} {ms : List Max} where
-  pub node-kind : {f : Formula} → Node (r .formula) k ms f → getD (numbered r .kinds) k 0 ≡ getD (kinds f) 0 0
-  node-kind n = padded-at 0 64 (kinds (r .formula)) k ∙ listed-at numberOf _ (λ k ms f. kinds f) kinds-list (r .formula) 0 n
+module _ (r : Rule) {k : ℕ} {ms : List EnclosingMax} where
+  pub node-kind : {f : Formula} → Node (r .formula) k ms f → getD (numbered r .kinds) k 0 ≡ kind f
+  node-kind n = padded-at 0 64 (kinds 0 [] (r .formula)) k ∙ listed-at numberOf (λ k ms f. kind f) (r .formula) 0 n
 
-  pub node-arg : {f : Formula} → Node (r .formula) k ms f → getD (numbered r .args) k 0 ≡ getD (args k (map (λ (m : Max). m .number) ms) f) 0 0
-  node-arg n = padded-at 0 64 (args 0 [] (r .formula)) k ∙ listed-at numberOf _ args args-list (r .formula) 0 n
+  pub node-argument : {f : Formula} → Node (r .formula) k ms f → getD (numbered r .args) k 0 ≡ argument k (map numberOf ms) f
+  node-argument n = padded-at 0 64 (args 0 [] (r .formula)) k ∙ listed-at numberOf argument (r .formula) 0 n
 
-  -- the argument of a variable is the number of its max, which stands before it
-  pub variable-arg : {d : ℕ} → Node (r .formula) k ms (variable d) → getD (numbered r .args) k 0 ≡ getD ms d noMax .number
-  variable-arg {d} n = node-arg n ∙ List·getD-map (λ (m : Max). m .number) ms d noMax
-
-  pub variable-max : {d : ℕ} (n : ℕ) → WellFormed n 0 0 (r .formula) → Node (r .formula) k ms (variable d)
-      → Node (r .formula) (getD (numbered r .args) k 0) (drop (suc d) ms) (max (getD ms d noMax .body)) × (getD (numbered r .args) k 0 < k)
-  variable-max {d} n w m =
+  -- what the kind and the argument of a node say of it
+  said : (f : Formula) (n : ℕ) → WellFormed n [] (r .formula) → Node (r .formula) k ms f
+      → Resolves (r .formula) k ms (kind f) (argument k (map numberOf ms) f) f
+  said truth n w m = is-truth
+  said falsity n w m = is-falsity
+  said (both f g) n w m = is-both (first m) (second m)
+  said (necessity p f) n w m = is-necessity (after m)
+  said (max f) n w m = is-max (body m)
+  said (variable d) n w m =
       let a : Around (r .formula) k ms d = max-around m d (variable-bound n w m) in
-      rw (variable-arg m) (a .node, a .before)
+      rw (List·getD-map numberOf ms d noMax) (is-variable refl (a .node) (a .before))
+
+  pub node-resolves : {f : Formula} (n : ℕ) → WellFormed n [] (r .formula) → Node (r .formula) k ms f
+      → Resolves (r .formula) k ms (getD (numbered r .kinds) k 0) (getD (numbered r .args) k 0) f
+  node-resolves {f} n w m = rw (node-kind m, node-argument m) (said f n w m)
 
 -- ---- patterns
 
@@ -94,9 +81,10 @@ numbers-nodes r = record {
   exists = node-exists (r .formula);
   unique = node-unique;
   fits = node-fits;
-  kind = node-kind r;
-  arg = node-arg r;
-  around = max-around;
+  kind-is = node-kind r;
+  argument-is = node-argument r;
+  well-formed = λ n w node. (well-formed-at n w node, guards-around node);
+  resolves = node-resolves r;
 }
 
 pub numbers-patterns : (r : Rule) → NumbersPatterns r

@@ -7,14 +7,15 @@ use Prim.Native.Nat.{ℕ, zero, suc, _+_, _≤_, _<_}
 use native.Mathlib.Omega.{arith}
 use lib.ListN.{length, getD, drop}
 use lib.Dec.{ltb, leb, eqb}
-use borrow.Author.Tests.{ltb-true, ltb-false, leb-false, eqb-true, eqb-false, lt-ltb, le-ltb, lt-leb, ne-eqb}
+use borrow.Author.Tests.{ltb-true, ltb-false, leb-false, eqb-true, eqb-false, lt-ltb}
 use Rattle.reading.specs.Pattern.{WellFormedPattern}
 use Rattle.reading.specs.Rule.{All, Bytes, encodePatterns}
-use Rattle.reading.specs.Outcome.{Outcome, accepted, refused}
-use Rattle.reading.specs.File.{patternAt, isPattern, Patterns, onePattern, patternsAt}
+use Rattle.reading.specs.Outcome.{Outcome, accepted}
+use Rattle.reading.specs.File.{patternAt, isPattern, Patterns, withPattern, patternsAt}
 use Rattle.reading.specs.declared.Pattern.{Pattern}
 use Rattle.reading.proofs.AllLaws.{all-getD}
 use Rattle.reading.proofs.Outcomes.{accepted-is, never-accepted, accepted-by, passes}
+use Rattle.reading.proofs.Checks.{pattern-accepted}
 use Rattle.reading.proofs.Places.{Byte, from-byte, byte-of, first-byte, rest-of}
 
 -- ---- one pattern
@@ -28,20 +29,15 @@ pub record PatternStands (s : List ℕ) (at left : ℕ) (p : Pattern) : Type 0 w
   pub last : Byte s (at + 3) (p .last)
 
 module _ (s : List ℕ) (at left : ℕ) (p : Pattern) where
-  pattern-read : PatternStands s at left p → patternAt s at left ≡ accepted p
-  pattern-read h =
+  pattern-reads : PatternStands s at left p → patternAt s at left ≡ accepted p
+  pattern-reads h =
       let w = h .well-formed in
-      rw (
-        ne-eqb left 0 (λ e. omega (arith, h .some-left)),
-        lt-leb (length s) (at + 3) (h .last .inside),
-        h .mask .is,
-        h .first .is,
-        h .last .is,
-        ne-eqb (p .mask) 0 (λ e. omega (arith, w .some-kind)),
-        le-ltb 31 (p .first) (omega (arith, w .in-order, w .slots)),
-        le-ltb 31 (p .last) (w .slots),
-        le-ltb (p .last) (p .first) (w .in-order),
-      )
+      let mask = h .mask .is in
+      let first = h .first .is in
+      let last = h .last .is in
+      pattern-accepted s at left (λ e. omega (arith, h .some-left)) (h .last .inside) (λ e. omega (arith, w .some-kind))
+      (omega (arith, w .in-order, w .slots)) (omega (arith, w .slots)) (omega (arith, w .in-order))
+      ∙ rw (mask, first, last)
 
   pub pattern-stands : getD s (at + 1) 0 < 256 → patternAt s at left ≡ accepted p → PatternStands s at left p
   pattern-stands mask e =
@@ -129,7 +125,7 @@ patterns-read s (p ∷ l) at (suc left) next h =
       ends = omega (arith, h .ends);
       over = h .over;
     } in
-    rw (lt-ltb at (length s) (b .inside), b .is, pattern-read s at (suc left) p one, patterns-read s l (at + 4) left next rest)
+    rw (lt-ltb at (length s) (b .inside), b .is, pattern-reads s at (suc left) p one, patterns-read s l (at + 4) left next rest)
 
 -- where there is no pattern there are none, else `more` was accepted
 some-or-none : (s : List ℕ) (at left : ℕ) (ps : Patterns) (more : Outcome Patterns)
@@ -141,12 +137,12 @@ some-or-none s at left ps more some false is e =
 
 patterns-stand : (left : ℕ) (s : List ℕ) (at : ℕ) (ps : Patterns) → Bytes s → patternsAt left s at ≡ accepted ps → PatternsStand s at left ps
 unfolding patternsAt
-patterns-stand zero s at ps bytes e = some-or-none s at zero ps (refused 4 at) (λ b e′. absurd (never-accepted e′)) (isPattern s at) refl e
+patterns-stand zero s at ps bytes e = some-or-none s at zero ps _ (λ b e′. absurd (never-accepted e′)) (isPattern s at) refl e
 patterns-stand (suc left) s at ps bytes e =
     some-or-none s at (suc left) ps _ (λ b e′.
     let one = accepted-by (patternAt s at (suc left)) _ e′ in
     let p = one .0 in
-    let more = accepted-by (patternsAt left s (at + 4)) (onePattern p) (one .2) in
+    let more = accepted-by (patternsAt left s (at + 4)) (withPattern p) (one .2) in
     let rest = patterns-stand left s (at + 4) (more .0) bytes (more .1) in
     subst (λ (x : Patterns). PatternsStand s at (suc left) x) (accepted-is (more .2))
     (more-stand s at left p (more .0) b (pattern-stands s at (suc left) p (all-getD (λ b. b < 256) s (at + 1) 0 bytes (omega arith)) (one .1)) rest))

@@ -8,12 +8,12 @@ use lib.ListN.{length, getD, take}
 use lib.Seq.{take-all, getD-take, length-take-le}
 use lib.Dec.{ltb, leb}
 use borrow.Author.Tests.{lt-ltb, lt-leb, ltb-true, ltb-false}
-use Rattle.reading.specs.Outcome.{Outcome, accepted, refused, andThen}
+use Rattle.reading.specs.Formula.{Guards}
+use Rattle.reading.specs.Outcome.{Outcome, accepted, andThen}
 use Rattle.reading.specs.File.{patternAt, isPattern, Patterns, patternsAt}
-use Rattle.reading.specs.File.{necessityAt, variableAt, nodeAt, Parsed, formulaAt, formulaOf, ended, ruleOf}
-use Rattle.reading.specs.Promises.{SettledByFirstBytes}
+use Rattle.reading.specs.File.{NodeRecord, necessityAt, variableAt, nodeAt, Parsed, formulaAt, formulaOf, ended, ruleOf}
+use Rattle.reading.specs.Promises.{SettledByFirstBytes, NotByFewer}
 use Rattle.reading.specs.declared.Pattern.{Pattern}
-use Rattle.reading.specs.declared.formulas.Record.{Record}
 use Rattle.reading.proofs.Outcomes.{accepted-is, never-accepted, accepted-by, both-agree}
 use Rattle.reading.proofs.Encoding.{length-formula}
 use Rattle.reading.proofs.NodeBytes.{NodeStands, bare, of-necessity, of-variable, node-accepts}
@@ -50,20 +50,20 @@ abbrev Room : (bound at left : ℕ) → Type 0
 Room bound at left = (left < bound) × (at + 2 * left ≤ 256)
 
 -- after a node there is room for its parts, and after a formula for the next one
-module _ (bound : ℕ) (s : List ℕ) (n at left m u : ℕ) where
-  node-next : {r : Record} → NodeStands s n at m u r → r .next ≤ at + 2
+module _ (bound : ℕ) (s : List ℕ) (n at left : ℕ) (g : Guards) where
+  node-next : {r : NodeRecord} → NodeStands s n at g r → r .next ≤ at + 2
   node-next (bare k b) = omega arith
   node-next (of-necessity h b a) = omega arith
   node-next (of-variable h k b a) = omega arith
 
-  after-node : (r : Record) → Room (suc bound) at left → nodeAt s n at left m u ≡ accepted r
-      → NodeStands s n at m u r × Room bound (r .next) (left - 1)
+  after-node : (r : NodeRecord) → Room (suc bound) at left → nodeAt s n at left g ≡ accepted r
+      → NodeStands s n at g r × Room bound (r .next) (left - 1)
   after-node r h e =
-      let node = node-accepts s n at left m u r .0 e in
+      let node = node-accepts s n at left g r .0 e in
       let two : r .next ≤ at + 2 = node-next (node .1) in
       (node .1, (omega (arith, node .0), omega (arith, node .0)))
 
-  after-formula : (f : Parsed) → Room bound at left → FormulaStands s n at left m u f → Room bound (f .next) (f .left)
+  after-formula : (f : Parsed) → Room bound at left → FormulaStands s n at left g f → Room bound (f .next) (f .left)
   after-formula f h stands = (
     omega (arith, stands .nodes),
     omega (arith, stands .nodes, stands .ends, length-formula (f .formula)),
@@ -83,25 +83,25 @@ module _ (s t : List ℕ) (a : Agree s t) where
   necessity-agrees : (n at : ℕ) → at + 1 < 257 → necessityAt s n at ≡ necessityAt t n at
   necessity-agrees n at h = rw (inside (at + 1) h .0, inside (at + 1) h .1, a .same (at + 1) h)
 
-  variable-agrees : (m u at : ℕ) → at + 1 < 257 → variableAt s m u at ≡ variableAt t m u at
-  variable-agrees m u at h = rw (inside (at + 1) h .0, inside (at + 1) h .1, a .same (at + 1) h)
+  variable-agrees : (g : Guards) (at : ℕ) → at + 1 < 257 → variableAt s g at ≡ variableAt t g at
+  variable-agrees g at h = rw (inside (at + 1) h .0, inside (at + 1) h .1, a .same (at + 1) h)
 
-  node-agrees : (n at left m u : ℕ) → at + 2 * left ≤ 256 → nodeAt s n at left m u ≡ nodeAt t n at left m u
-  node-agrees n at zero m u h =
+  node-agrees : (n at left : ℕ) (g : Guards) → at + 2 * left ≤ 256 → nodeAt s n at left g ≡ nodeAt t n at left g
+  node-agrees n at zero g h =
       let here = inside at (omega arith) in
       rw (here .0, here .1, a .same at (omega arith))
-  node-agrees n at (suc left) m u h =
+  node-agrees n at (suc left) g h =
       let here = inside at (omega arith) in
-      rw (here .0, here .1, a .same at (omega arith), necessity-agrees n at (omega arith), variable-agrees m u at (omega arith))
+      rw (here .0, here .1, a .same at (omega arith), necessity-agrees n at (omega arith), variable-agrees g at (omega arith))
 
-  formula-agrees : (bound n at left m u : ℕ) → Room bound at left → formulaOf s n at left m u ≡ formulaOf t n at left m u
-  formula-agrees zero n at left m u h = absurd (omega arith)
-  formula-agrees (suc bound) n at left m u h =
-      rw (formula-step s n at left m u, formula-step t n at left m u)
-      (both-agree (nodeAt s n at left m u) (nodeAt t n at left m u) _ _ (node-agrees n at left m u (h .1)) (λ r e.
-      let (stands, room) = after-node bound s n at left m u r h e in
+  formula-agrees : (bound n at left : ℕ) (g : Guards) → Room bound at left → formulaOf s n at left g ≡ formulaOf t n at left g
+  formula-agrees zero n at left g h = absurd (omega arith)
+  formula-agrees (suc bound) n at left g h =
+      rw (formula-step s n at left g, formula-step t n at left g)
+      (both-agree (nodeAt s n at left g) (nodeAt t n at left g) _ _ (node-agrees n at left g (h .1)) (λ r e.
+      let (stands, room) = after-node bound s n at left g r h e in
       parts-same s n (Room bound) (after-formula bound s n) (formulaOf s n) (formulaOf t n) (formula-sound s n) (formula-agrees bound n)
-      at (left - 1) m u stands room))
+      at (left - 1) g stands room))
 
   patterns-agree : (left at : ℕ) → at + 4 * left ≤ 128 → patternsAt left s at ≡ patternsAt left t at
   unfolding patternsAt
@@ -113,11 +113,11 @@ module _ (s t : List ℕ) (a : Agree s t) where
   ended-agrees ps f h = rw (lt-ltb (f .next) (length s) (omega arith), lt-ltb (f .next) (length t) (omega arith))
 
   formula-ends : (ps : List Pattern) (n at : ℕ) → at ≤ 128
-      → andThen (formulaOf s n at 64 0 0) (ended s ps) ≡ andThen (formulaOf t n at 64 0 0) (ended t ps)
+      → andThen (formulaOf s n at 64 []) (ended s ps) ≡ andThen (formulaOf t n at 64 []) (ended t ps)
   formula-ends ps n at h =
       let room : Room 65 at 64 = (omega arith, omega arith) in
-      both-agree (formulaOf s n at 64 0 0) (formulaOf t n at 64 0 0) _ _ (formula-agrees 65 n at 64 0 0 room) (λ f e.
-      let (fewer, fits) = after-formula 65 s n at 64 0 0 f room (formula-sound s n at 64 0 0 f e) in
+      both-agree (formulaOf s n at 64 []) (formulaOf t n at 64 []) _ _ (formula-agrees 65 n at 64 [] room) (λ f e.
+      let (fewer, fits) = after-formula 65 s n at 64 [] f room (formula-sound s n at 64 [] f e) in
       ended-agrees ps f (omega arith))
 
   rule-agrees : ruleOf s ≡ ruleOf t
@@ -147,6 +147,6 @@ times (suc n) bytes rest = bytes ++ times n bytes rest
 longest : List ℕ
 longest = times 32 (1 ∷ 1 ∷ 0 ∷ 0 ∷ []) (times 64 (5 ∷ 0 ∷ []) (2 ∷ []))
 
-pub no-fewer : (s : List ℕ) × (ruleOf (take 256 s) ≡ refused 1 256) × (ruleOf s ≡ refused 4 256)
+pub no-fewer : NotByFewer
 unfolding longest times ruleOf patternsAt formulaOf formulaAt
 no-fewer = (longest, refl, refl)

@@ -10,7 +10,7 @@ use Rattle.reading.specs.Formula.{size}
 use Rattle.reading.specs.Outcome.{Outcome, accepted, refused, andThen}
 use Rattle.reading.specs.File.{Patterns, patternsAt, Parsed, formulaOf, ended, ruleOf}
 use Rattle.reading.specs.Numbered.{kinds, args, padded, blank, readingOf}
-use Rattle.reading.specs.Answers.{HeadOf, headOf, IsScope, enclosing, Reads, formulaAnswer}
+use Rattle.reading.specs.Answers.{HeadOf, headOf, IsScope, enclosing, guardsOf, Reads, formulaAnswer}
 use Rattle.reading.specs.declared.Answer.{Answer}
 use Rattle.reading.specs.declared.Answer as Answer′
 use Rattle.reading.specs.declared.Reading.{Reading}
@@ -59,7 +59,7 @@ pub record AfterPatterns (s : List ℕ) (h : Head) (ks gs : List ℕ) (found : F
   pub ps : Patterns
   pub read : patternsAt 32 s 0 ≡ accepted ps
   pub is : h ≡ headOf ps
-  pub reads : Reads (formulaOf s (length (ps .list)) (ps .next) 64 0 0) 64 [] (replicate 64 0) (replicate 64 0) ks gs found
+  pub reads : Reads (formulaOf s (length (ps .list)) (ps .next) 64 []) 64 [] (replicate 64 0) (replicate 64 0) ks gs found
 
 -- and after the formula of f
 pub record AfterFormula (s : List ℕ) (h : Head) (ks gs : List ℕ) (rest : Rest) : Type 0 where
@@ -69,7 +69,7 @@ pub record AfterFormula (s : List ℕ) (h : Head) (ks gs : List ℕ) (rest : Res
   pub is : h ≡ headOf ps
   pub is-rest : rest ≡ record { next = f .next; left = f .left }
   pub nodes : size (f .formula) + f .left ≡ 64
-  pub kinds-are : ks ≡ padded 64 0 (kinds (f .formula))
+  pub kinds-are : ks ≡ padded 64 0 (kinds 0 [] (f .formula))
   pub args-are : gs ≡ padded 64 0 (args 0 [] (f .formula))
 
 -- what `read_rule` returns after a formula
@@ -102,13 +102,13 @@ module _ {s : List ℕ} {h : Head} {ks gs : List ℕ} {rest : Rest} (x : AfterFo
       rw (x .says, le-ltb _ _ over) (cc)
 
 then-formula : (s : List ℕ) (ps : Patterns) → patternsAt 32 s 0 ≡ accepted ps
-    → ruleOf s ≡ andThen (formulaOf s (length (ps .list)) (ps .next) 64 0 0) (ended s (ps .list))
+    → ruleOf s ≡ andThen (formulaOf s (length (ps .list)) (ps .next) 64 []) (ended s (ps .list))
 unfolding ruleOf
 then-formula s ps e = rw e
 
 module _ (s : List ℕ) (h : Head) (is : HeadOf (patternsAt 32 s 0) h) (ok : h .answer ≡ Answer′.the-variants.Accepted)
-    (sc : Scope) (outer : IsScope sc [] 0 0) (ks gs : List ℕ) (found : FormulaRead)
-    (reads : Reads (formulaOf s (h .count) (h .next) 64 (sc .count) (sc .unguarded)) 64 (enclosing sc)
+    (sc : Scope) (outer : IsScope sc 0 [] []) (ks gs : List ℕ) (found : FormulaRead)
+    (reads : Reads (formulaOf s (h .count) (h .next) 64 (guardsOf (sc .count) (sc .unguarded))) 64 (enclosing sc)
     (replicate 64 0) (replicate 64 0) ks gs found) where
   after-patterns : AfterPatterns s h ks gs found
   after-patterns = go (accepted-head (patternsAt 32 s 0) h is ok)
@@ -117,35 +117,35 @@ module _ (s : List ℕ) (h : Head) (is : HeadOf (patternsAt 32 s 0) h) (ok : h .
       go (ps, read, e) =
           let next : h .next ≡ ps .next = ap (λ (x : Head). x .next) e in
           let count : h .count ≡ length (ps .list) = ap (λ (x : Head). x .count) e in
-          record { ps = ps; read = read; is = e; reads = rw (outer .maxes, outer .counted, outer .guards, next, count) at reads }
+          record { ps = ps; read = read; is = e; reads = rw (outer .numbers, outer .guards, next, count) at reads }
 
   pub formula-refused : {number place : ℕ} → found ≡ FormulaRead′.the-variants.Refused number place
       → (a : Answer) → a ≡ formulaAnswer found → (r : Reading) → r ≡ record { answer = a; rule = blank } → r ≡ readingOf (ruleOf s)
   formula-refused {number} {place} e a is-a r is-r =
       let p = after-patterns in
-      let refusal : formulaOf s (length (p .ps .list)) (p .ps .next) 64 0 0 ≡ refused number place = not-read _ (sym (p .reads .answer) ∙ e) in
+      let refusal : formulaOf s (length (p .ps .list)) (p .ps .next) 64 [] ≡ refused number place = not-read _ (sym (p .reads .answer) ∙ e) in
       is-r ∙ rw (then-formula s (p .ps) (p .read), refusal, is-a, e)
 
   module _ (rest : Rest) (e : found ≡ FormulaRead′.the-variants.Read rest) where
     pub after-formula : AfterFormula s h ks gs rest
     after-formula = go after-patterns
       where
-        with-formula : (p : AfterPatterns s h ks gs found) (f : Parsed) → formulaOf s (length (p .ps .list)) (p .ps .next) 64 0 0 ≡ accepted f
+        with-formula : (p : AfterPatterns s h ks gs found) (f : Parsed) → formulaOf s (length (p .ps .list)) (p .ps .next) 64 [] ≡ accepted f
             → rest ≡ record { next = f .next; left = f .left } → AfterFormula s h ks gs rest
         with-formula p f read is-rest =
             let w = rw read at (p .reads .written) in
-            let fits = formula-sound s (length (p .ps .list)) (p .ps .next) 64 0 0 f read .nodes in record {
+            let fits = formula-sound s (length (p .ps .list)) (p .ps .next) 64 [] f read .nodes in record {
               ps = p .ps;
               f = f;
               says = then-formula s (p .ps) (p .read) ∙ rw read;
               is = p .is;
               is-rest = is-rest;
               nodes = fits;
-              kinds-are = w .0 ∙ sets-blank 64 0 (kinds (f .formula)) (omega (arith, kinds-size (f .formula)));
+              kinds-are = w .0 ∙ sets-blank 64 0 (kinds 0 [] (f .formula)) (omega (arith, kinds-size 0 [] (f .formula)));
               args-are = w .1 ∙ sets-blank 64 0 (args 0 [] (f .formula)) (omega (arith, args-size 0 [] (f .formula)));
             }
 
         go : AfterPatterns s h ks gs found → AfterFormula s h ks gs rest
         go p =
-            let a = was-read (formulaOf s (length (p .ps .list)) (p .ps .next) 64 0 0) (sym (p .reads .answer) ∙ e) in
+            let a = was-read (formulaOf s (length (p .ps .list)) (p .ps .next) 64 []) (sym (p .reads .answer) ∙ e) in
             with-formula p (a .0) (a .1) (a .2)

@@ -1,12 +1,14 @@
 -- What the reader's own enums, structures and arrays stand for. No public contract cites these.
 use Prim.Native.Nat.{ℕ, zero, suc, _+_, _-_, _≤_}
 use mathlib.Core.Path.{_≡_}
-use mathlib.Core.List.{List, [], _∷_, map}
-use lib.ListN.{length, getD}
+use mathlib.Core.List.{List, [], _∷_, _++_, map}
+use mathlib.Core.Bool.{true, false}
+use lib.ListN.{length, getD, replicate}
 use lib.Seq.{sets}
 use Rattle.reading.specs.Pattern.{extentOf}
 use Rattle.reading.specs.Outcome.{Outcome, accepted, refused}
-use Rattle.reading.specs.File.{Patterns, Parsed}
+use Rattle.reading.specs.File.{Patterns, Symbol, Truth, Falsity, Both, Max, Necessity, Variable, NodeRecord, Parsed}
+use Rattle.reading.specs.Formula.{Guards}
 use Rattle.reading.specs.Numbered.{kinds, args, padded, noPattern, noExtent}
 use Rattle.reading.specs.declared.Pattern.{Pattern}
 use Rattle.reading.specs.declared.Answer.{Answer}
@@ -15,23 +17,39 @@ use Rattle.reading.specs.declared.patterns.PatternRead.{PatternRead}
 use Rattle.reading.specs.declared.patterns.PatternRead as PatternRead′
 use Rattle.reading.specs.declared.patterns.Head.{Head}
 use Rattle.reading.specs.declared.formulas.Scope.{Scope}
-use Rattle.reading.specs.declared.formulas.Record.{Record}
 use Rattle.reading.specs.declared.formulas.NodeRead.{NodeRead}
 use Rattle.reading.specs.declared.formulas.NodeRead as NodeRead′
 use Rattle.reading.specs.declared.formulas.FormulaRead.{FormulaRead}
 use Rattle.reading.specs.declared.formulas.FormulaRead as FormulaRead′
 
--- ---- the paper's number and values of each case
+-- ---- the case of each outcome; a refusal has the paper's number and place
 
-abbrev pub patternOutcome : PatternRead → Outcome Pattern
-patternOutcome (PatternRead′.the-variants.Read p) = accepted p
-patternOutcome (PatternRead′.the-variants.Refused number place) = refused number place
+abbrev pub patternRead : Outcome Pattern → PatternRead
+patternRead (accepted p) = PatternRead′.the-variants.Read p
+patternRead (refused number place) = PatternRead′.the-variants.Refused number place
 
-abbrev pub nodeOutcome : NodeRead → Outcome Record
-nodeOutcome (NodeRead′.the-variants.Read r) = accepted r
-nodeOutcome (NodeRead′.the-variants.Refused number place) = refused number place
+-- the kind of a symbol, and what its body has
+abbrev pub kindOf : Symbol → ℕ
+kindOf Truth = 2
+kindOf Falsity = 3
+kindOf Both = 4
+kindOf (Necessity p) = 5
+kindOf Max = 6
+kindOf (Variable d) = 7
 
--- a formula's answer has the place after it and the nodes left; its nodes are in the arrays
+abbrev pub bodyOf : Symbol → ℕ
+bodyOf Truth = 0
+bodyOf Falsity = 0
+bodyOf Both = 0
+bodyOf (Necessity p) = p
+bodyOf Max = 0
+bodyOf (Variable d) = d
+
+abbrev pub nodeRead : Outcome NodeRecord → NodeRead
+nodeRead (accepted r) = NodeRead′.the-variants.Read (record { kind = kindOf (r .symbol); body = bodyOf (r .symbol); next = r .next })
+nodeRead (refused number place) = NodeRead′.the-variants.Refused number place
+
+-- a formula's case has the place after it and the nodes left; its nodes are in the arrays
 abbrev pub formulaRead : Outcome Parsed → FormulaRead
 formulaRead (accepted f) = FormulaRead′.the-variants.Read (record { next = f .next; left = f .left })
 formulaRead (refused number place) = FormulaRead′.the-variants.Refused number place
@@ -46,7 +64,7 @@ abbrev pub formulaAnswer : FormulaRead → Answer
 formulaAnswer (FormulaRead′.the-variants.Read r) = Answer′.the-variants.Accepted
 formulaAnswer (FormulaRead′.the-variants.Refused number place) = Answer′.the-variants.Refused number place
 
--- a node that was read is not passed up: its case is never used
+-- no caller passes a node up that was read, so any case will do for it
 abbrev pub passedUp : NodeRead → FormulaRead
 passedUp (NodeRead′.the-variants.Read r) = FormulaRead′.the-variants.Refused 0 0
 passedUp (NodeRead′.the-variants.Refused number place) = FormulaRead′.the-variants.Refused number place
@@ -73,14 +91,19 @@ unfoldable pub lastFirst : ℕ → List ℕ → List ℕ
 lastFirst zero ns = []
 lastFirst (suc n) ns = getD ns n 0 ∷ lastFirst n ns
 
--- innermost first
+-- their numbers, innermost first
 abbrev pub enclosing : Scope → List ℕ
 enclosing sc = lastFirst (sc .count) (sc .nodes)
 
-pub record IsScope (sc : Scope) (ms : List ℕ) (count unguarded : ℕ) : Type 0 where
-  pub maxes : enclosing sc ≡ ms
+-- which of so many are guarded, where the innermost `unguarded` are not
+unfoldable pub guardsOf : (count unguarded : ℕ) → Guards
+guardsOf count unguarded = replicate unguarded false ++ replicate (count - unguarded) true
+
+pub record IsScope (sc : Scope) (count : ℕ) (ms : List ℕ) (g : Guards) : Type 0 where
   pub counted : sc .count ≡ count
-  pub guards : sc .unguarded ≡ unguarded
+  pub numbers : enclosing sc ≡ ms
+  pub guards : guardsOf (sc .count) (sc .unguarded) ≡ g
+  pub order : sc .unguarded ≤ sc .count
   pub room : length (sc .nodes) ≡ 64
 
 -- ---- the arrays of nodes
@@ -88,12 +111,12 @@ pub record IsScope (sc : Scope) (ms : List ℕ) (count unguarded : ℕ) : Type 0
 -- each max around a record took one of the 64 nodes
 pub record Fit (left : ℕ) (sc : Scope) : Type 0 where
   pub few : sc .count + left ≤ 64
-  pub guards : sc .unguarded ≤ sc .count
+  pub order : sc .unguarded ≤ sc .count
   pub room : length (sc .nodes) ≡ 64
 
 -- the nodes of a formula that is read go to their numbers, from k on
 abbrev pub Written : Outcome Parsed → ℕ → List ℕ → (ks gs ks′ gs′ : List ℕ) → Type 0
-Written (accepted f) k ms ks gs ks′ gs′ = (ks′ ≡ sets ks k (kinds (f .formula))) × (gs′ ≡ sets gs k (args k ms (f .formula)))
+Written (accepted f) k ms ks gs ks′ gs′ = (ks′ ≡ sets ks k (kinds k ms (f .formula))) × (gs′ ≡ sets gs k (args k ms (f .formula)))
 Written (refused number place) k ms ks gs ks′ gs′ = Unit
 
 pub record Reads (o : Outcome Parsed) (left : ℕ) (ms : List ℕ) (ks gs ks′ gs′ : List ℕ) (r : FormulaRead) : Type 0 where

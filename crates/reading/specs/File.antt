@@ -1,14 +1,14 @@
--- What the bytes of a rule file say. `at` is the place of a record; the checks of each record stand in the order of the paper's table.
+-- What the bytes of a rule file say. The checks of each record stand in the order of the paper's table, a line each.
+-- s is the file, `at` the place of a record, n the number of patterns, and g says which of the maxes around a node are guarded.
 use Prim.Native.Nat.{ℕ, zero, suc, _+_, _-_}
 use mathlib.Core.List.{List, [], _∷_}
-use mathlib.Core.Bool.{Bool, cond, _||_, _&&_}
+use mathlib.Core.Bool.{Bool, false, cond, _||_, _&&_, not}
 use lib.ListN.{length, getD}
 use lib.Dec.{ltb, leb, eqb}
-use Rattle.reading.specs.Formula.{Formula, truth, falsity, both, necessity, max, variable}
+use Rattle.reading.specs.Formula.{Formula, truth, falsity, both, necessity, max, variable, Guards, guarded}
 use Rattle.reading.specs.Rule.{Rule}
 use Rattle.reading.specs.Outcome.{Outcome, accepted, refused, refuse, andThen}
 use Rattle.reading.specs.declared.Pattern.{Pattern}
-use Rattle.reading.specs.declared.formulas.Record.{Record}
 
 -- ---- the patterns
 
@@ -34,47 +34,67 @@ pub record Patterns : Type 0 where
   pub list : List Pattern
   pub next : ℕ
 
-abbrev pub onePattern : Pattern → Patterns → Outcome Patterns
-onePattern p ps = accepted (record { list = p ∷ ps .list; next = ps .next })
+abbrev pub withPattern : Pattern → Patterns → Outcome Patterns
+withPattern p ps = accepted (record { list = p ∷ ps .list; next = ps .next })
 
--- The patterns from `at` on, with `left` of the 32 left.
+-- The patterns from `at` on, with `left` of the 32 left. Where none is left, one more is refused by `patternAt`.
 unfoldable pub patternsAt : (left : ℕ) → List ℕ → (at : ℕ) → Outcome Patterns
-patternsAt zero s at = cond (isPattern s at) (refused 4 at) (accepted (record { list = []; next = at }))
+patternsAt zero s at =
+    cond (isPattern s at)
+    (andThen (patternAt s at zero) (λ p. accepted (record { list = p ∷ []; next = at })))
+    (accepted (record { list = []; next = at }))
 patternsAt (suc left) s at =
     cond (isPattern s at)
-    (andThen (patternAt s at (suc left)) (λ p. andThen (patternsAt left s (at + 4)) (onePattern p)))
+    (andThen (patternAt s at (suc left)) (λ p. andThen (patternsAt left s (at + 4)) (withPattern p)))
     (accepted (record { list = []; next = at }))
 
 -- ---- one node record
 
--- a kind 5 record, after n patterns
-abbrev pub necessityAt : List ℕ → (n at : ℕ) → Outcome Record
+-- What a node record says of its node: the symbol, and the pattern number or the depth in its body.
+pub data Symbol : Type 0 where
+  Truth Falsity Both Max : Symbol
+  Necessity Variable : ℕ → Symbol
+
+-- a symbol, and the place after its record
+pub record NodeRecord : Type 0 where
+  pub symbol : Symbol
+  pub next : ℕ
+
+-- a kind 5 record
+abbrev pub necessityAt : List ℕ → (n at : ℕ) → Outcome NodeRecord
 necessityAt s n at =
     let pattern = getD s (at + 1) 0 in
     refuse (leb (length s) (at + 1)) 1 (length s)
     (refuse (leb n pattern) 6 at
-    (accepted (record { kind = 5; argument = pattern; next = at + 2 })))
+    (accepted (record { symbol = Necessity pattern; next = at + 2 })))
 
--- a kind 7 record, inside m maxes of which the innermost u have no necessity below them
-abbrev pub variableAt : List ℕ → (m u at : ℕ) → Outcome Record
-variableAt s m u at =
+-- a kind 7 record
+abbrev pub variableAt : List ℕ → Guards → (at : ℕ) → Outcome NodeRecord
+variableAt s g at =
     let depth = getD s (at + 1) 0 in
     refuse (leb (length s) (at + 1)) 1 (length s)
-    (refuse (leb m depth) 6 at
-    (refuse (ltb depth u) 7 at
-    (accepted (record { kind = 7; argument = depth; next = at + 2 }))))
+    (refuse (leb (length g) depth) 6 at
+    (refuse (not (getD g depth false)) 7 at
+    (accepted (record { symbol = Variable depth; next = at + 2 }))))
+
+-- a record without a body
+abbrev pub bareAt : Symbol → (at : ℕ) → Outcome NodeRecord
+bareAt x at = accepted (record { symbol = x; next = at + 1 })
 
 -- The record due at `at` in a formula that isn't whole, with `left` of the 64 nodes left.
-abbrev pub nodeAt : List ℕ → (n at left m u : ℕ) → Outcome Record
-nodeAt s n at left m u =
+abbrev pub nodeAt : List ℕ → (n at left : ℕ) → Guards → Outcome NodeRecord
+nodeAt s n at left g =
     let kind = getD s at 0 in
     refuse (leb (length s) at) 1 (length s)
     (refuse (eqb kind 0 || ltb 7 kind) 2 at
     (refuse (eqb kind 1) 3 at
     (refuse (eqb left 0) 4 at
+    (cond (eqb kind 2) (bareAt Truth at)
+    (cond (eqb kind 3) (bareAt Falsity at)
+    (cond (eqb kind 4) (bareAt Both at)
     (cond (eqb kind 5) (necessityAt s n at)
-    (cond (eqb kind 7) (variableAt s m u at)
-    (accepted (record { kind = kind; argument = 0; next = at + 1 })))))))
+    (cond (eqb kind 6) (bareAt Max at)
+    (variableAt s g at)))))))))
 
 -- ---- a formula: a node, then its parts
 
@@ -84,29 +104,29 @@ pub record Parsed : Type 0 where
   pub next : ℕ
   pub left : ℕ
 
-abbrev pub leaf : Formula → (next left : ℕ) → Outcome Parsed
-leaf f next left = accepted (record { formula = f; next = next; left = left })
+abbrev pub parsed : Formula → (next left : ℕ) → Outcome Parsed
+parsed f next left = accepted (record { formula = f; next = next; left = left })
 
+-- a formula made of one that was read
 abbrev pub under : (Formula → Formula) → Parsed → Outcome Parsed
-under g f = leaf (g (f .formula)) (f .next) (f .left)
+under make f = parsed (make (f .formula)) (f .next) (f .left)
 
--- The parts of a node, each read by `read` at a place with so many nodes left, inside m maxes of which u are unguarded.
-abbrev pub partsBy : (read : (at left m u : ℕ) → Outcome Parsed) → Record → (left m u : ℕ) → Outcome Parsed
-partsBy read r left m u =
-    cond (eqb (r .kind) 2) (leaf truth (r .next) left)
-    (cond (eqb (r .kind) 3) (leaf falsity (r .next) left)
-    (cond (eqb (r .kind) 4) (andThen (read (r .next) left m u) (λ f. andThen (read (f .next) (f .left) m u) (under (both (f .formula)))))
-    (cond (eqb (r .kind) 5) (andThen (read (r .next) left m 0) (under (necessity (r .argument))))
-    (cond (eqb (r .kind) 6) (andThen (read (r .next) left (suc m) (suc u)) (under max))
-    (leaf (variable (r .argument)) (r .next) left)))))
+-- The formula of a symbol whose parts begin at `next`. A part is read by `read`: at a place, with so many nodes left, inside such maxes.
+abbrev pub partsBy : (read : (at left : ℕ) → Guards → Outcome Parsed) → Symbol → (next left : ℕ) → Guards → Outcome Parsed
+partsBy read Truth next left g = parsed truth next left
+partsBy read Falsity next left g = parsed falsity next left
+partsBy read Both next left g = andThen (read next left g) (λ f. andThen (read (f .next) (f .left) g) (under (both (f .formula))))
+partsBy read (Necessity p) next left g = andThen (read next left (guarded g)) (under (necessity p))
+partsBy read Max next left g = andThen (read next left (false ∷ g)) (under max)
+partsBy read (Variable d) next left g = parsed (variable d) next left
 
 -- The formula at `at`. Each node takes one of those left, so that a depth over `left` is never used up.
-unfoldable pub formulaAt : (depth : ℕ) → List ℕ → (n at left m u : ℕ) → Outcome Parsed
-formulaAt zero s n at left m u = refused 4 at
-formulaAt (suc depth) s n at left m u = andThen (nodeAt s n at left m u) (λ r. partsBy (formulaAt depth s n) r (left - 1) m u)
+unfoldable pub formulaAt : (depth : ℕ) → List ℕ → (n at left : ℕ) → Guards → Outcome Parsed
+formulaAt zero s n at left g = refused 4 at
+formulaAt (suc depth) s n at left g = andThen (nodeAt s n at left g) (λ r. partsBy (formulaAt depth s n) (r .symbol) (r .next) (left - 1) g)
 
-unfoldable pub formulaOf : List ℕ → (n at left m u : ℕ) → Outcome Parsed
-formulaOf s n at left m u = formulaAt (suc left) s n at left m u
+unfoldable pub formulaOf : List ℕ → (n at left : ℕ) → Guards → Outcome Parsed
+formulaOf s n at left g = formulaAt (suc left) s n at left g
 
 -- ---- the whole file
 
@@ -115,4 +135,4 @@ abbrev pub ended : List ℕ → List Pattern → Parsed → Outcome Rule
 ended s ps f = refuse (ltb (f .next) (length s)) 3 (f .next) (accepted (record { patterns = ps; formula = f .formula }))
 
 unfoldable pub ruleOf : List ℕ → Outcome Rule
-ruleOf s = andThen (patternsAt 32 s 0) (λ ps. andThen (formulaOf s (length (ps .list)) (ps .next) 64 0 0) (ended s (ps .list)))
+ruleOf s = andThen (patternsAt 32 s 0) (λ ps. andThen (formulaOf s (length (ps .list)) (ps .next) 64 []) (ended s (ps .list)))

@@ -5,7 +5,7 @@ pub mod Formula
 pub mod Rule
 pub mod Outcome
 pub mod File
-pub mod Numbered
 pub mod Nodes
+pub mod Numbered
 pub mod Promises
 pub mod Answers

@@ -1,27 +1,52 @@
 -- Which subformula a node number names: nodes are numbered from 0 in reading order.
 use Prim.Native.Nat.{ℕ, suc, _+_, _<_}
-use mathlib.Core.List.{List, [], _∷_}
+use mathlib.Core.Path.{_≡_}
+use mathlib.Core.Bool.{false}
+use mathlib.Core.List.{List, [], _∷_, _++_}
 use lib.ListN.{getD, drop}
-use Rattle.reading.specs.Formula.{Formula, truth, both, necessity, max, size}
+use Rattle.reading.specs.Formula.{Formula, truth, falsity, both, necessity, max, variable, size, Guards, guarded}
 
 -- a max node around a formula: its number and its body
-pub record Max : Type 0 where
+pub record EnclosingMax : Type 0 where
   pub number : ℕ
   pub body : Formula
 
--- Node k of the formula `root` is f, inside the maxes ms, innermost first.
-pub data Node (root : Formula) : ℕ → List Max → Formula → Type 0 where
-  whole : Node root 0 [] root
-  first : {k : ℕ} {ms : List Max} {f g : Formula} → Node root k ms (both f g) → Node root (suc k) ms f
-  second : {k : ℕ} {ms : List Max} {f g : Formula} → Node root k ms (both f g) → Node root (k + suc (size f)) ms g
-  after : {k : ℕ} {ms : List Max} {p : ℕ} {f : Formula} → Node root k ms (necessity p f) → Node root (suc k) ms f
-  body : {k : ℕ} {ms : List Max} {f : Formula} → Node root k ms (max f) → Node root (suc k) (record { number = k; body = f } ∷ ms) f
-
 -- stands for a max that isn't there
-abbrev pub noMax : Max
+abbrev pub noMax : EnclosingMax
 noMax = record { number = 0; body = truth }
 
--- max d of those around node k is a node before k, with the body and inside the maxes that the list says
-pub record Around (root : Formula) (k : ℕ) (ms : List Max) (d : ℕ) : Type 0 where
-  pub node : Node root (getD ms d noMax .number) (drop (suc d) ms) (max (getD ms d noMax .body))
-  pub before : getD ms d noMax .number < k
+-- Node k of the formula `root` is f, inside the maxes ms, innermost first.
+pub data Node (root : Formula) : ℕ → List EnclosingMax → Formula → Type 0 where
+  whole : Node root 0 [] root
+  first : {k : ℕ} {ms : List EnclosingMax} {f g : Formula} → Node root k ms (both f g) → Node root (suc k) ms f
+  second : {k : ℕ} {ms : List EnclosingMax} {f g : Formula} → Node root k ms (both f g) → Node root (k + suc (size f)) ms g
+  after : {k : ℕ} {ms : List EnclosingMax} {p : ℕ} {f : Formula} → Node root k ms (necessity p f) → Node root (suc k) ms f
+  body : {k : ℕ} {ms : List EnclosingMax} {f : Formula} → Node root k ms (max f) → Node root (suc k) (record { number = k; body = f } ∷ ms) f
+
+-- which of the maxes around a node are guarded there
+abbrev pub guardsAt : {root : Formula} {k : ℕ} {ms : List EnclosingMax} {f : Formula} → Node root k ms f → Guards
+guardsAt whole = []
+guardsAt (first n) = guardsAt n
+guardsAt (second n) = guardsAt n
+guardsAt (after n) = guarded (guardsAt n)
+guardsAt (body n) = false ∷ guardsAt n
+
+-- One element for each node of a formula that begins at node k, in reading order: `own` of its number, of the maxes around it, of each
+-- of which `keep` says what is kept, and of its formula.
+abbrev pub inOrder : {M A : Type 0} → (keep : EnclosingMax → M) → (own : ℕ → List M → Formula → A) → ℕ → List M → Formula → List A
+inOrder keep own k ms truth = own k ms truth ∷ []
+inOrder keep own k ms falsity = own k ms falsity ∷ []
+inOrder keep own k ms (both f g) = own k ms (both f g) ∷ (inOrder keep own (suc k) ms f ++ inOrder keep own (k + suc (size f)) ms g)
+inOrder keep own k ms (necessity p f) = own k ms (necessity p f) ∷ inOrder keep own (suc k) ms f
+inOrder keep own k ms (max f) = own k ms (max f) ∷ inOrder keep own (suc k) (keep (record { number = k; body = f }) ∷ ms) f
+inOrder keep own k ms (variable d) = own k ms (variable d) ∷ []
+
+-- What the kind and the argument of node k say: its formula, its parts by their numbers, and the max of a variable.
+pub data Resolves (root : Formula) (k : ℕ) (ms : List EnclosingMax) : (kind argument : ℕ) → Formula → Type 0 where
+  is-truth : Resolves root k ms 2 0 truth
+  is-falsity : Resolves root k ms 3 0 falsity
+  is-both : {m : ℕ} {f g : Formula} → Node root (suc k) ms f → Node root m ms g → Resolves root k ms 4 m (both f g)
+  is-necessity : {p : ℕ} {f : Formula} → Node root (suc k) ms f → Resolves root k ms 5 p (necessity p f)
+  is-max : {f : Formula} → Node root (suc k) (record { number = k; body = f } ∷ ms) f → Resolves root k ms 6 0 (max f)
+  is-variable : {m d : ℕ} {f : Formula} → getD ms d noMax ≡ record { number = m; body = f } → Node root m (drop (suc d) ms) (max f) → m < k
+      → Resolves root k ms 7 m (variable d)

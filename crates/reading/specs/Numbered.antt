@@ -1,35 +1,46 @@
 -- What the reader hands up: a rule's patterns and nodes by number, in arrays of fixed length.
 use Prim.Native.Nat.{ℕ, suc, _+_, _-_}
-use mathlib.Core.List.{List, [], _∷_, _++_, map}
+use mathlib.Core.List.{List, [], _++_, map}
 use lib.ListN.{length, getD, replicate}
 use Rattle.reading.specs.Pattern.{extentOf}
 use Rattle.reading.specs.Formula.{Formula, truth, falsity, both, necessity, max, variable, size}
 use Rattle.reading.specs.Rule.{Rule}
 use Rattle.reading.specs.Outcome.{Outcome, accepted, refused}
+use Rattle.reading.specs.Nodes.{EnclosingMax, inOrder}
 use Rattle.reading.specs.declared.Pattern.{Pattern}
 use Rattle.reading.specs.declared.Extent.{Extent}
-use Rattle.reading.specs.declared.Numbered.{Numbered}
+use Rattle.reading.specs.declared.NumberedRule.{NumberedRule}
 use Rattle.reading.specs.declared.Answer.the-variants.{Accepted, Refused}
 use Rattle.reading.specs.declared.Reading.{Reading}
 
--- the kind of each node, in reading order
-abbrev pub kinds : Formula → List ℕ
-kinds truth = 2 ∷ []
-kinds falsity = 3 ∷ []
-kinds (both f g) = 4 ∷ (kinds f ++ kinds g)
-kinds (necessity p f) = 5 ∷ kinds f
-kinds (max f) = 6 ∷ kinds f
-kinds (variable d) = 7 ∷ []
+-- the kind of a node
+abbrev pub kind : Formula → ℕ
+kind truth = 2
+kind falsity = 3
+kind (both f g) = 4
+kind (necessity p f) = 5
+kind (max f) = 6
+kind (variable d) = 7
 
--- The argument of each node of a formula that begins at node k, inside the max nodes ms, innermost first: the node of the second
--- part of a "both", the pattern of a necessity, the max node of a variable, and else 0.
+-- The argument of node k inside the max nodes ms, innermost first: the node of the second part of a "both", the pattern of a necessity,
+-- the max node of a variable, and else 0.
+abbrev pub argument : ℕ → List ℕ → Formula → ℕ
+argument k ms truth = 0
+argument k ms falsity = 0
+argument k ms (both f g) = k + suc (size f)
+argument k ms (necessity p f) = p
+argument k ms (max f) = 0
+argument k ms (variable d) = getD ms d 0
+
+abbrev pub numberOf : EnclosingMax → ℕ
+numberOf m = m .number
+
+-- the kinds and the arguments of the nodes of a formula that begins at node k
+abbrev pub kinds : ℕ → List ℕ → Formula → List ℕ
+kinds = inOrder numberOf (λ k ms f. kind f)
+
 abbrev pub args : ℕ → List ℕ → Formula → List ℕ
-args k ms truth = 0 ∷ []
-args k ms falsity = 0 ∷ []
-args k ms (both f g) = (k + suc (size f)) ∷ (args (suc k) ms f ++ args (k + suc (size f)) ms g)
-args k ms (necessity p f) = p ∷ args (suc k) ms f
-args k ms (max f) = 0 ∷ args (suc k) (k ∷ ms) f
-args k ms (variable d) = getD ms d 0 ∷ []
+args = inOrder numberOf argument
 
 -- a list filled up to n elements
 abbrev pub padded : {A : Type 0} → ℕ → A → List A → List A
@@ -41,18 +52,18 @@ noPattern = record { mask = 0; first = 0; last = 0 }
 abbrev pub noExtent : Extent
 noExtent = record { lowest = 0; count = 0 }
 
-abbrev pub numbered : Rule → Numbered
+abbrev pub numbered : Rule → NumberedRule
 numbered r = record {
   patterns = padded 32 noPattern (r .patterns);
   extents = padded 32 noExtent (map extentOf (r .patterns));
   npatterns = length (r .patterns);
-  kinds = padded 64 0 (kinds (r .formula));
+  kinds = padded 64 0 (kinds 0 [] (r .formula));
   args = padded 64 0 (args 0 [] (r .formula));
   nnodes = size (r .formula);
 }
 
 -- the rule of a refused file, which the paper leaves free
-abbrev pub blank : Numbered
+abbrev pub blank : NumberedRule
 blank = record {
   patterns = replicate 32 noPattern;
   extents = replicate 32 noExtent;
@@ -62,7 +73,7 @@ blank = record {
   nnodes = 0;
 }
 
--- the answer of each outcome, and the rule beside it
+-- The answer and the rule of each outcome; a refusal has the paper's number and place.
 abbrev pub readingOf : Outcome Rule → Reading
 readingOf (accepted r) = record { answer = Accepted; rule = numbered r }
 readingOf (refused number place) = record { answer = Refused number place; rule = blank }

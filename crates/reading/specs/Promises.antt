@@ -1,18 +1,18 @@
--- THE PROMISES of this crate, as statements over the definitions; proofs/ has a theorem of each type.
+-- What this crate promises, as statements over the definitions; proofs/ has a theorem of each of these types.
 use Prim.Native.Nat.{ℕ, _+_, _-_, _*_, _≤_, _<_}
 use mathlib.Core.Path.{_≡_}
 use mathlib.Core.Logic.{_↔_}
 use mathlib.Core.Bool.{true}
-use mathlib.Core.List.{List, map}
+use mathlib.Core.List.{List, [], map}
 use lib.ListN.{length, getD, take}
 use lib.Count.{ones, trailingZeros}
 use Rattle.reading.specs.Pattern.{covers, extentOf}
-use Rattle.reading.specs.Formula.{Formula, size}
+use Rattle.reading.specs.Formula.{Formula, size, WellFormed}
 use Rattle.reading.specs.Rule.{Rule, WellFormedRule, encode, Bytes}
-use Rattle.reading.specs.Outcome.{accepted}
+use Rattle.reading.specs.Outcome.{accepted, refused}
 use Rattle.reading.specs.File.{ruleOf}
-use Rattle.reading.specs.Numbered.{kinds, args, numbered, noPattern, noExtent, readingOf}
-use Rattle.reading.specs.Nodes.{Max, Node, Around}
+use Rattle.reading.specs.Numbered.{kind, argument, numberOf, numbered, noPattern, noExtent, readingOf}
+use Rattle.reading.specs.Nodes.{EnclosingMax, Node, guardsAt, Resolves}
 use Rattle.reading.specs.declared.Pattern.{Pattern}
 use Rattle.reading.specs.declared.Answer.the-variants.{Accepted}
 
@@ -24,32 +24,38 @@ AcceptsEncodings = (s : List ℕ) → Bytes s → (r : Rule) → (ruleOf s ≡ a
 abbrev pub OneRule : Type 0
 OneRule = (r r′ : Rule) → WellFormedRule r → WellFormedRule r′ → encode r ≡ encode r′ → r ≡ r′
 
--- The same of the very term that `read_rule` ensures: its answer, and the rule beside it.
+-- In terms of what `read_rule` ensures: it answers "accepted" exactly for encodings of well-formed rules, with that rule by number.
 abbrev pub AnswersAccepted : Type 0
-AnswersAccepted = (s : List ℕ) → Bytes s → (readingOf (ruleOf s) .answer ≡ Accepted) ↔ ((r : Rule) × WellFormedRule r × (s ≡ encode r))
+AnswersAccepted =
+    (s : List ℕ) → Bytes s → (readingOf (ruleOf s) .answer ≡ Accepted)
+    ↔ ((r : Rule) × WellFormedRule r × (s ≡ encode r) × (readingOf (ruleOf s) .rule ≡ numbered r))
 
-abbrev pub HandsUp : Type 0
-HandsUp = (r : Rule) → WellFormedRule r → readingOf (ruleOf (encode r)) ≡ record { answer = Accepted; rule = numbered r }
-
--- 2. The numbered nodes are those of the tree: each number below the size names one node, whose kind and argument stand at that
--- number, and each max around it is a node before it. (The parts of a node are the constructors of `Node`.)
+-- 2. The numbered nodes are those of the tree: each number below the size names one node, and the kind and the argument that stand at
+-- that number say its formula, its parts by their numbers, and the max of a variable. Each node is well formed where it stands.
 pub record NumbersNodes (r : Rule) : Type 0 where
-  pub exists : (k : ℕ) → k < size (r .formula) → (ms : List Max) × (f : Formula) × Node (r .formula) k ms f
-  pub unique : {k : ℕ} {ms ms′ : List Max} {f f′ : Formula} → Node (r .formula) k ms f → Node (r .formula) k ms′ f′ → (ms ≡ ms′) × (f ≡ f′)
-  pub fits : {k : ℕ} {ms : List Max} {f : Formula} → Node (r .formula) k ms f → k + size f ≤ size (r .formula)
-  pub kind : {k : ℕ} {ms : List Max} {f : Formula} → Node (r .formula) k ms f → getD (numbered r .kinds) k 0 ≡ getD (kinds f) 0 0
-  pub arg : {k : ℕ} {ms : List Max} {f : Formula} → Node (r .formula) k ms f
-      → getD (numbered r .args) k 0 ≡ getD (args k (map (λ (m : Max). m .number) ms) f) 0 0
-  pub around : {k : ℕ} {ms : List Max} {f : Formula} → Node (r .formula) k ms f → (d : ℕ) → d < length ms → Around (r .formula) k ms d
+  pub exists : (k : ℕ) → k < size (r .formula) → (ms : List EnclosingMax) × (f : Formula) × Node (r .formula) k ms f
+  pub unique : {k : ℕ} {ms ms′ : List EnclosingMax} {f f′ : Formula} → Node (r .formula) k ms f → Node (r .formula) k ms′ f′
+      → (ms ≡ ms′) × (f ≡ f′)
+  pub fits : {k : ℕ} {ms : List EnclosingMax} {f : Formula} → Node (r .formula) k ms f → k + size f ≤ size (r .formula)
+  pub kind-is : {k : ℕ} {ms : List EnclosingMax} {f : Formula} → Node (r .formula) k ms f → getD (numbered r .kinds) k 0 ≡ kind f
+  pub argument-is : {k : ℕ} {ms : List EnclosingMax} {f : Formula} → Node (r .formula) k ms f
+      → getD (numbered r .args) k 0 ≡ argument k (map numberOf ms) f
+  pub well-formed : {k : ℕ} {ms : List EnclosingMax} {f : Formula} (n : ℕ) → WellFormed n [] (r .formula) → (node : Node (r .formula) k ms f)
+      → WellFormed n (guardsAt node) f × (length (guardsAt node) ≡ length ms)
+  pub resolves : {k : ℕ} {ms : List EnclosingMax} {f : Formula} (n : ℕ) → WellFormed n [] (r .formula) → Node (r .formula) k ms f
+      → Resolves (r .formula) k ms (getD (numbered r .kinds) k 0) (getD (numbered r .args) k 0) f
 
 -- and the numbered patterns those of the rule
 pub record NumbersPatterns (r : Rule) : Type 0 where
   pub pattern : (i : ℕ) → getD (numbered r .patterns) i noPattern ≡ getD (r .patterns) i noPattern
   pub extent : (i : ℕ) → i < length (r .patterns) → getD (numbered r .extents) i noExtent ≡ extentOf (getD (r .patterns) i noPattern)
 
--- 3. What a file says is settled by its first 257 bytes.
+-- 3. What a file says is settled by its first 257 bytes, and not by 256.
 abbrev pub SettledByFirstBytes : Type 0
 SettledByFirstBytes = (s : List ℕ) (n : ℕ) → 257 ≤ n → ruleOf (take n s) ≡ ruleOf s
+
+abbrev pub NotByFewer : Type 0
+NotByFewer = (s : List ℕ) × (ruleOf (take 256 s) ≡ refused 1 256) × (ruleOf s ≡ refused 4 256)
 
 -- 4. Of a well-formed pattern: its lowest code is the least that it covers, the trailing zeros of the mask give it, and the ones of
 -- the mask times the slot width give its count. (That the count is how many codes it covers is its definition.)

@@ -18,7 +18,7 @@ All P (x ∷ xs) = P x × All P xs
 -- a well-formed rule within 32 patterns and 64 nodes
 pub record WellFormedRule (r : Rule) : Type 0 where
   pub patterns : All WellFormedPattern (r .patterns)
-  pub formula : WellFormed (length (r .patterns)) 0 0 (r .formula)
+  pub formula : WellFormed (length (r .patterns)) [] (r .formula)
   pub few-patterns : length (r .patterns) ≤ 32
   pub few-nodes : size (r .formula) ≤ 64
 

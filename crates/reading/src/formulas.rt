@@ -8,9 +8,11 @@ use crate::kinds::VARIABLE;
 ghost use mathlib.Core.Path.{_≡_};
 ghost use Prim.Native.Nat.{_+_, _-_, _≤_, _<_};
 ghost use mathlib.Core.List.{[], _∷_};
+ghost use mathlib.Core.Bool.{false};
 ghost use lib.ListN.{length, getD};
+ghost use Rattle.reading.specs.Formula.{guarded};
 ghost use Rattle.reading.specs.File.{necessityAt, variableAt, nodeAt, formulaOf};
-ghost use Rattle.reading.specs.Answers.{nodeOutcome, passedUp, formulaAnswer, enclosing, IsScope, Fit, Reads};
+ghost use Rattle.reading.specs.Answers.{nodeRead, passedUp, formulaAnswer, enclosing, guardsOf, IsScope, Fit, Reads};
 
 // The max nodes around a record, outermost first. The innermost `unguarded` of them have no necessity below them yet.
 pub(crate) struct Scope {
@@ -19,10 +21,10 @@ pub(crate) struct Scope {
     pub(crate) nodes: [u8; 64],
 }
 
-// A node record: its kind, its body's byte or 0, and the place after it.
+// A node record: its kind, the pattern number or the depth in its body, or 0, and the place after it.
 pub(crate) struct Record {
     pub(crate) kind: u8,
-    pub(crate) argument: u8,
+    pub(crate) body: u8,
     pub(crate) next: usize,
 }
 
@@ -47,7 +49,7 @@ pub(crate) enum FormulaRead {
 impl Scope {
     // Inside no max.
     pub(crate) fn outermost() -> Self
-        ensures { λ r. ⌜ IsScope r [] 0 0 ⌝ }
+        ensures { λ r. ⌜ IsScope r 0 [] [] ⌝ }
     {
         let nodes = [0u8; 64];
         Scope {
@@ -59,8 +61,8 @@ impl Scope {
 
     // Inside one more max, node k.
     fn inside_max(mut self, k: u8) -> Self
-        requires { ⌜ (self .count < 64) × (self .unguarded ≤ 64) × (length (self .nodes) ≡ 64) ⌝ }
-        ensures { λ r. ⌜ IsScope r (k ∷ enclosing self) (self .count + 1) (self .unguarded + 1) ⌝ }
+        requires { ⌜ (self .count < 64) × (self .unguarded ≤ self .count) × (length (self .nodes) ≡ 64) ⌝ }
+        ensures { λ r. ⌜ IsScope r (self .count + 1) (k ∷ enclosing self) (false ∷ guardsOf (self .count) (self .unguarded)) ⌝ }
     {
         let n = self.count;
         self.nodes[n] = k;
@@ -71,8 +73,8 @@ impl Scope {
 
     // Below a necessity.
     fn guarded(mut self) -> Self
-        requires { ⌜ length (self .nodes) ≡ 64 ⌝ }
-        ensures { λ r. ⌜ IsScope r (enclosing self) (self .count) 0 ⌝ }
+        requires { ⌜ (self .unguarded ≤ self .count) × (length (self .nodes) ≡ 64) ⌝ }
+        ensures { λ r. ⌜ IsScope r (self .count) (enclosing self) (guarded (guardsOf (self .count) (self .unguarded))) ⌝ }
     {
         self.unguarded = 0;
         self
@@ -92,7 +94,7 @@ impl Scope {
 // The necessity at `at`, whose body is a pattern number.
 fn read_necessity(bytes: &[u8], patterns: usize, at: usize) -> NodeRead
     requires { ⌜ at < length (now bytes) ⌝ }
-    ensures { λ r. ⌜ nodeOutcome r ≡ necessityAt (now (bytes .entry)) patterns at ⌝ }
+    ensures { λ r. ⌜ r ≡ nodeRead (necessityAt (now (bytes .entry)) patterns at) ⌝ }
 {
     if bytes.len() <= at + 1 {
         return NodeRead::Refused(1, bytes.len());
@@ -103,15 +105,15 @@ fn read_necessity(bytes: &[u8], patterns: usize, at: usize) -> NodeRead
     }
     NodeRead::Read(Record {
         kind: NECESSITY,
-        argument: pattern,
+        body: pattern,
         next: at + 2,
     })
 }
 
 // The variable at `at`, whose body is a depth, inside so many max nodes of which the innermost `unguarded` are unguarded.
 fn read_variable(bytes: &[u8], maxes: usize, unguarded: usize, at: usize) -> NodeRead
-    requires { ⌜ at < length (now bytes) ⌝ }
-    ensures { λ r. ⌜ nodeOutcome r ≡ variableAt (now (bytes .entry)) maxes unguarded at ⌝ }
+    requires { ⌜ (at < length (now bytes)) × (unguarded ≤ maxes) ⌝ }
+    ensures { λ r. ⌜ r ≡ nodeRead (variableAt (now (bytes .entry)) (guardsOf maxes unguarded) at) ⌝ }
 {
     if bytes.len() <= at + 1 {
         return NodeRead::Refused(1, bytes.len());
@@ -125,7 +127,7 @@ fn read_variable(bytes: &[u8], maxes: usize, unguarded: usize, at: usize) -> Nod
     }
     NodeRead::Read(Record {
         kind: VARIABLE,
-        argument: depth,
+        body: depth,
         next: at + 2,
     })
 }
@@ -139,7 +141,8 @@ fn read_node(
     maxes: usize,
     unguarded: usize,
 ) -> NodeRead
-    ensures { λ r. ⌜ nodeOutcome r ≡ nodeAt (now (bytes .entry)) patterns at left maxes unguarded ⌝ }
+    requires { ⌜ unguarded ≤ maxes ⌝ }
+    ensures { λ r. ⌜ r ≡ nodeRead (nodeAt (now (bytes .entry)) patterns at left (guardsOf maxes unguarded)) ⌝ }
 {
     if bytes.len() <= at {
         return NodeRead::Refused(1, bytes.len());
@@ -165,7 +168,7 @@ fn read_node(
     }
     NodeRead::Read(Record {
         kind,
-        argument: 0,
+        body: 0,
         next: at + 1,
     })
 }
@@ -192,7 +195,7 @@ pub(crate) fn read_formula(
     args: &mut [u8; 64],
 ) -> FormulaRead
     requires { ⌜ Fit left scope ⌝ }
-    ensures { λ r. ⌜ Reads (formulaOf (now (bytes .entry)) patterns at left (scope .count) (scope .unguarded)) left (enclosing scope)
+    ensures { λ r. ⌜ Reads (formulaOf (now (bytes .entry)) patterns at left (guardsOf (scope .count) (scope .unguarded))) left (enclosing scope)
         (now (kinds .entry)) (now (args .entry)) (now (kinds .exit)) (now (args .exit)) r ⌝ }
 {
     let found = read_node(bytes, patterns, at, left, scope.count, scope.unguarded);
@@ -202,9 +205,9 @@ pub(crate) fn read_formula(
     let k = 64 - left;
     let kind = node.kind;
     let next = node.next;
-    let argument = node.argument;
+    let body = node.body;
     kinds[k] = kind;
-    args[k] = argument;
+    args[k] = body;
     if kind == BOTH {
         let first = read_formula(bytes, patterns, next, left - 1, scope, kinds, args);
         let FormulaRead::Read(rest) = first else {
@@ -224,7 +227,7 @@ pub(crate) fn read_formula(
         return read_formula(bytes, patterns, next, left - 1, inner, kinds, args);
     }
     if kind == VARIABLE {
-        args[k] = scope.max_of(argument);
+        args[k] = scope.max_of(body);
         return FormulaRead::Read(Rest {
             next,
             left: left - 1,
@@ -236,7 +239,7 @@ pub(crate) fn read_formula(
     })
 }
 
-// The answer about a file with this formula.
+// The answer to a file whose formula was found so.
 pub(crate) fn answer(found: FormulaRead) -> Answer
     ensures { λ r. ⌜ r ≡ formulaAnswer found ⌝ }
 {

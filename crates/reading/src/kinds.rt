@@ -1,4 +1,4 @@
-// The kind bytes of records, by the names of what they begin. Those of tt and ff are not asked for by name.
+// The kind bytes of records. No code has to tell tt and ff apart.
 pub(crate) const PATTERN: u8 = 1;
 
 pub(crate) const BOTH: u8 = 4;

@@ -23,7 +23,7 @@ pub struct Extent {
 
 // A rule by number. Pattern i is patterns[i], with its extents[i]. Node k is of kind kinds[k], and its first part is node k + 1.
 // Its args[k] is the node of the second part of a "both", the pattern of a necessity, the max node of a variable, and else 0.
-pub struct Numbered {
+pub struct NumberedRule {
     pub patterns: [Pattern; 32],
     pub extents: [Extent; 32],
     pub npatterns: usize,
@@ -41,7 +41,7 @@ pub enum Answer {
 // What reading a rule file gives. The rule of a refused file is blank.
 pub struct Reading {
     pub answer: Answer,
-    pub rule: Numbered,
+    pub rule: NumberedRule,
 }
 
 // Whether a pattern covers a code. All but the reading of a pattern record asks this and leaves mask and slots alone.
@@ -60,7 +60,7 @@ pub fn covers(p: Pattern, code: u8) -> bool
 }
 
 // The rule of a refused file.
-fn blank_rule() -> Numbered
+fn blank_rule() -> NumberedRule
     ensures { λ r. ⌜ r ≡ blank ⌝ }
 {
     let pattern = Pattern {
@@ -76,7 +76,7 @@ fn blank_rule() -> Numbered
     let extents = [extent; 32];
     let kinds = [0u8; 64];
     let args = [0u8; 64];
-    Numbered {
+    NumberedRule {
         patterns,
         extents,
         npatterns: 0,
@@ -119,7 +119,7 @@ pub fn read_rule(bytes: &[u8]) -> Reading
     }
     let patterns = head.list;
     let extents = head.extents;
-    let rule = Numbered {
+    let rule = NumberedRule {
         patterns,
         extents,
         npatterns,

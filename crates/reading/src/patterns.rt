@@ -9,7 +9,7 @@ ghost use Prim.Native.Nat.{_<_};
 ghost use lib.ListN.{length};
 ghost use Rattle.reading.specs.Pattern.{extentOf, WellFormedPattern};
 ghost use Rattle.reading.specs.File.{patternAt, isPattern, patternsAt};
-ghost use Rattle.reading.specs.Answers.{patternOutcome, patternAnswer, HeadOf};
+ghost use Rattle.reading.specs.Answers.{patternRead, patternAnswer, HeadOf};
 
 // What reading a pattern record finds: the pattern, or the number and place of a refusal.
 pub(crate) enum PatternRead {
@@ -45,7 +45,7 @@ fn extent(p: Pattern) -> Extent
 // The pattern record at `at`, with `left` of the 32 patterns left.
 fn read_pattern(bytes: &[u8], at: usize, left: usize) -> PatternRead
     requires { ⌜ at < length (now bytes) ⌝ }
-    ensures { λ r. ⌜ patternOutcome r ≡ patternAt (now (bytes .entry)) at left ⌝ }
+    ensures { λ r. ⌜ r ≡ patternRead (patternAt (now (bytes .entry)) at left) ⌝ }
 {
     if left == 0 {
         return PatternRead::Refused(4, at);
@@ -82,7 +82,7 @@ fn is_pattern(bytes: &[u8], at: usize) -> bool
     }
 }
 
-// The answer about a file with this pattern record.
+// The answer to a file one of whose patterns was found so.
 fn answer(found: PatternRead) -> Answer
     ensures { λ r. ⌜ r ≡ patternAnswer found ⌝ }
 {

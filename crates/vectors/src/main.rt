@@ -4,7 +4,7 @@ use libc::STDIN_FILENO;
 use libc::STDOUT_FILENO;
 use reading::Answer;
 use reading::Extent;
-use reading::Numbered;
+use reading::NumberedRule;
 use reading::Pattern;
 use reading::Reading;
 ghost use Prim.Native.Nat.{_<_};
@@ -50,7 +50,7 @@ fn print_pattern(p: Pattern, e: Extent) {
     print_field(sum_of_codes(p));
 }
 
-fn print_patterns(rule: Numbered) {
+fn print_patterns(rule: NumberedRule) {
     let patterns = rule.patterns;
     let extents = rule.extents;
     let n = rule.npatterns;
@@ -67,7 +67,7 @@ fn print_node(kind: u8, arg: u8) {
     print_field(arg as u64);
 }
 
-fn print_nodes(rule: Numbered) {
+fn print_nodes(rule: NumberedRule) {
     let kinds = rule.kinds;
     let args = rule.args;
     let n = rule.nnodes;

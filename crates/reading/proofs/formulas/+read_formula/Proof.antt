@@ -4,8 +4,9 @@ use native.Mathlib.Omega.{arith}
 use borrow.Author.Needs.{needs}
 use borrow.Fn.Kinds.{In}
 use borrow.Fn.PlainCycle.{Measures, is, falls, and}
-use Rattle.reading.proofs.NodeBytes.{NodeStands}
-use Rattle.reading.proofs.Parts.{node-stands, rest-left, node-refused, is-leaf, is-variable, is-bound}
+use Rattle.reading.specs.Answers.{guardsOf}
+use Rattle.reading.proofs.Scopes.{guards-length}
+use Rattle.reading.proofs.Parts.{Found, found-is, rest-left, node-refused, is-leaf, is-variable, is-bound}
 use Rattle.reading.proofs.Parts.{is-necessity, is-max, first-refused, is-both}
 use Rattle.reading.proofs.formulas.read_formula.Reads as reads
 use Rattle.reading.proofs.formulas.read_formula.Kinds as kinds
@@ -45,17 +46,17 @@ claims t = (
 )
 
 module _ (t : ℕ) where
-  -- the node that was read stands in the file, and so one was left
-  stands : (c : lts.After-known-told (claims t) (at t) reads.Post) →
+  -- what was found of the node, where one was read
+  found : (c : lts.After-known-told (claims t) (at t) reads.Post) →
       let x = c .before .before .before .before .before .args in
-      (0 < x .left) × NodeStands (x .bytes .now) (x .patterns) (x .at) (x .scope .count) (x .scope .unguarded) (c .before .found .given .0 .0)
-  stands c =
+      Found (x .bytes .now) (x .patterns) (x .at) (x .left) (guardsOf (x .scope .count) (x .scope .unguarded)) (c .before .found .given .0 .0)
+  found c =
       let x = c .before .before .before .before .before .args in
-      node-stands (x .bytes .now) (x .patterns) (x .at) (x .left) (x .scope .count) (x .scope .unguarded) _ _
-      (c .before .before .before .read-node .ensures) (c .before .found .given .1)
+      found-is (x .bytes .now) (x .patterns) (x .at) (x .left) (guardsOf (x .scope .count) (x .scope .unguarded)) _
+      (c .before .before .before .read-node .ensures) _ (c .before .found .given .1)
 
   positive : (c : lts.After-known-told (claims t) (at t) reads.Post) → 0 < c .before .before .before .before .before .args .left
-  positive c = stands c .0
+  positive c = found c .one-left
 
   few : (c : lts.After-known-told (claims t) (at t) reads.Post) → c .before .before .before .before .before .args .left ≤ 64
   few c = omega (arith, c .before .before .before .before .before .pre)
@@ -73,7 +74,7 @@ module _ (t : ℕ) where
   passed-up-requires c κs = search needs
 
   returns : lts.Need-returns (claims t) (at t) reads.Post
-  returns c = node-refused _ _ _ _ _ _ _ _ (c .before .before .before .read-node .ensures) (c .before .enum-told .given .1) (c .passed-up .ensures)
+  returns c = node-refused _ _ _ _ _ _ _ _ _ (c .before .before .before .read-node .ensures) (c .before .enum-told .given .1) (c .passed-up .ensures)
 
   sub-k : lts.Need-sub-k (claims t) (at t) reads.Post
   sub-k c = search needs
@@ -100,11 +101,10 @@ module _ (t : ℕ) where
   returns-2 c =
       let r = c .before .before in
       let a = r .before .before .before .before in
-      first-refused _ _ _ _ _ _ _ _ _ (a .before .before .before .read-node .ensures) (a .before .found .given .1)
-      (r .before .before .before .if1 .taken) (few a) _ (r .read-formula .ensures) (c .enum-told2 .given .1)
+      first-refused _ _ _ _ _ _ _ _ _ (found a) (r .before .before .before .if1 .taken) (few a) _ (r .read-formula .ensures) (c .enum-told2 .given .1)
 
   sub-args : lts.Need-sub-args (claims t) (at t) reads.Post
-  sub-args c = omega (arith, rest-left _ _ _ _ _ _ _ _ (c .before .before .before .read-formula .ensures) (c .before .first .given .1))
+  sub-args c = omega (arith, rest-left _ _ _ _ _ _ _ (c .before .before .before .read-formula .ensures) (c .before .first .given .1))
 
   cast-args : lts.Need-cast-args (claims t) (at t) reads.Post
   cast-args c = search needs
@@ -117,15 +117,15 @@ module _ (t : ℕ) where
       let k = c .before .before .before in
       let r = k .before .before in
       let a = r .before .before .before .before in
-      omega (arith, rest-left _ _ _ _ _ _ _ _ (r .read-formula .ensures) (k .first .given .1), positive a, a .before .before .before .before .before .pre)
+      omega (arith, rest-left _ _ _ _ _ _ _ (r .read-formula .ensures) (k .first .given .1), positive a, a .before .before .before .before .before .pre)
 
   returns-3 : lts.Need-returns-3 (claims t) (at t) reads.Post
   returns-3 c =
       let k = c .before .before .before in
       let r = k .before .before .before in
       let a = r .before .before .before .before in
-      is-both _ _ _ _ _ _ _ _ _ (a .before .before .before .read-node .ensures) (a .before .found .given .1)
-      (r .before .before .before .if1 .taken) (few a) _ (r .read-formula .ensures) _ (k .before .first .given .1) (c .read-formula2 .ensures)
+      is-both _ _ _ _ _ _ _ _ _ (found a) (r .before .before .before .if1 .taken) (few a) _ (r .read-formula .ensures) _
+      (k .before .first .given .1) (c .read-formula2 .ensures)
 
   guarded-requires : lts.Need-guarded-requires (claims t) (at t) reads.Post
   guarded-requires c κs = search needs
@@ -140,8 +140,8 @@ module _ (t : ℕ) where
   returns-4 c =
       let g = c .before .before .before in
       let a = g .before .before .before in
-      is-necessity _ _ _ _ _ _ _ _ _ (a .before .before .before .read-node .ensures) (a .before .found .given .1)
-      (few a) (g .before .if2 .taken) (g .guarded .result) (g .guarded .ensures) (c .read-formula3 .ensures)
+      let i = g .guarded .ensures in
+      is-necessity _ _ _ _ _ _ _ _ _ (found a) (few a) (g .before .if2 .taken) (rw (i .numbers, i .guards) at (c .read-formula3 .ensures))
 
   cast-inside-max : lts.Need-cast-inside-max (claims t) (at t) reads.Post
   cast-inside-max c = search needs
@@ -159,11 +159,13 @@ module _ (t : ℕ) where
   returns-5 c =
       let m = c .before .before .before in
       let a = m .before .before .before .before in
-      is-max _ _ _ _ _ _ _ _ _ (a .before .before .before .read-node .ensures) (a .before .found .given .1)
-      (few a) (m .before .if3 .taken) (m .inside-max .result) (m .inside-max .ensures) (c .read-formula4 .ensures)
+      let i = m .inside-max .ensures in
+      is-max _ _ _ _ _ _ _ _ _ (found a) (few a) (m .before .if3 .taken) (rw (i .numbers, i .guards) at (c .read-formula4 .ensures))
 
   max-of-requires : lts.Need-max-of-requires (claims t) (at t) reads.Post
-  max-of-requires c κs = let a = c .before .before .before .before in omega (arith, positive a, is-bound (stands a .1) (c .if4 .taken))
+  max-of-requires c κs =
+      let a = c .before .before .before .before in
+      omega (arith, positive a, is-bound (found a) (c .if4 .taken), guards-length _ _ (c .before .before .before .before .before .before .before .before .before .pre .1 .order))
 
   element-write-args-3 : lts.Need-element-write-args-3 (claims t) (at t) reads.Post
   element-write-args-3 c = omega (arith, positive (c .before .before .before .before .before))
@@ -174,8 +176,7 @@ module _ (t : ℕ) where
   returns-6 : lts.Need-returns-6 (claims t) (at t) reads.Post
   returns-6 c =
       let a = c .before .before .before .before .before in
-      is-variable _ _ _ _ _ _ _ _ _ (a .before .before .before .read-node .ensures) (a .before .found .given .1)
-      (c .before .if4 .taken) (c .max-of .result) (c .max-of .ensures)
+      is-variable _ _ _ _ _ _ _ _ _ (found a) (c .before .if4 .taken) (c .max-of .result) (c .max-of .ensures)
 
   sub-t45 : lts.Need-sub-t45 (claims t) (at t) reads.Post
   sub-t45 c = omega (arith, positive (c .before .before .before .before))
@@ -183,8 +184,7 @@ module _ (t : ℕ) where
   returns-7 : lts.Need-returns-7 (claims t) (at t) reads.Post
   returns-7 c =
       let a = c .before .before .before .before in
-      is-leaf _ _ _ _ _ _ _ _ _ (a .before .before .before .read-node .ensures) (a .before .found .given .1)
-      (c .before .before .before .if1 .left) (c .before .before .if2 .left) (c .before .if3 .left) (c .if4 .left)
+      is-leaf _ _ _ _ _ _ _ _ _ (found a) (c .before .before .before .if1 .left) (c .before .before .if2 .left) (c .before .if3 .left) (c .if4 .left)
 
 pub +read-formula-spec : {M : Type 1} → statement M
 +read-formula-spec =

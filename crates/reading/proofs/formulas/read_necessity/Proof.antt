@@ -1,7 +1,7 @@
 -- `formulas::read_necessity` meets its contract: each return is a row of the table.
 use Prim.Native.Nat.{_+_}
 use native.Mathlib.Omega.{arith}
-use Rattle.reading.proofs.Checks.{necessity-cut, no-such-pattern, is-necessity}
+use Rattle.reading.proofs.Checks.{necessity-cut, no-such-pattern, necessity-read}
 use borrow.Author.Needs.{needs}
 use Rattle.reading.proofs.formulas.read_necessity.Statement.{statement}
 use Rattle.reading.proofs.formulas.read_necessity.Tie as tie
@@ -28,7 +28,7 @@ add-t5 : tie.Need-add-t5
 add-t5 c = search needs
 
 returns-3 : tie.Need-returns-3
-returns-3 c = search is-necessity
+returns-3 c = search necessity-read
 
 pub read-necessity-spec : {M : Type 1} → statement M
 read-necessity-spec =

@@ -1,5 +1,5 @@
 -- `patterns::read_pattern` meets its contract: each return is a row of the table.
-use Rattle.reading.proofs.Checks.{no-pattern-left, pattern-cut, no-kind, first-over, last-over, first-past-last, is-pattern}
+use Rattle.reading.proofs.Checks.{no-pattern-left, pattern-cut, no-kind, first-over, last-over, first-past-last, pattern-read}
 use borrow.Author.Needs.{needs}
 use Rattle.reading.proofs.patterns.read_pattern.Statement.{statement}
 use Rattle.reading.proofs.patterns.read_pattern.Tie as tie
@@ -44,7 +44,7 @@ returns-6 : tie.Need-returns-6
 returns-6 c = search first-past-last
 
 returns-7 : tie.Need-returns-7
-returns-7 c = search is-pattern
+returns-7 c = search pattern-read
 
 pub read-pattern-spec : {M : Type 1} → statement M
 read-pattern-spec =

@@ -7,9 +7,9 @@ use native.Mathlib.Omega.{arith}
 use borrow.Author.Needs.{needs}
 use Rattle.reading.specs.Outcome.{accepted}
 use Rattle.reading.specs.File.{isPattern, patternAt}
-use Rattle.reading.specs.Answers.{patternOutcome, patternAnswer}
-use Rattle.reading.specs.declared.Numbered.{Numbered}
-use Rattle.reading.proofs.Heads.{Begun, none-begun, one-begun, all-begun, begun-refused}
+use Rattle.reading.specs.Answers.{patternAnswer}
+use Rattle.reading.specs.declared.NumberedRule.{NumberedRule}
+use Rattle.reading.proofs.Heads.{Begun, none-begun, one-begun, all-begun, begun-refused, found-pattern, no-pattern-found}
 use Rattle.reading.proofs.PatternBytes.{PatternStands, pattern-stands, one-stands}
 use Rattle.reading.proofs.patterns.read_patterns.Statement.{statement}
 use Rattle.reading.proofs.patterns.read_patterns.Tie as tie
@@ -36,7 +36,7 @@ module _ (c : tie.After-known-told Inv-loop μ-loop) where
   left = 32 - c .before .before .before .before .before .before .loop .n
 
   is-read : patternAt s place left ≡ accepted (c .before .found .given .0 .0)
-  is-read = sym (c .before .before .before .read-pattern .ensures) ∙ ap patternOutcome (c .before .found .given .1)
+  is-read = found-pattern (patternAt s place left) (sym (c .before .found .given .1) ∙ c .before .before .before .read-pattern .ensures)
 
   stands : PatternStands s place left (c .before .found .given .0 .0)
   stands =
@@ -49,7 +49,7 @@ blank-rule-requires c κs = search needs
 loop-holds : tie.Need-loop-holds Inv-loop μ-loop
 loop-holds c =
     let file = c .before .before .before .before .args .bytes .now in
-    subst (λ (b : Numbered). Begun file (b .patterns) (b .extents) 0 0) (sym (c .before .before .blank-rule .ensures)) (none-begun file)
+    subst (λ (b : NumberedRule). Begun file (b .patterns) (b .extents) 0 0) (sym (c .before .before .blank-rule .ensures)) (none-begun file)
 
 is-pattern-requires : tie.Need-is-pattern-requires Inv-loop μ-loop
 is-pattern-requires c κs = search needs
@@ -74,7 +74,7 @@ returns c =
     let r = c .before .before .before in
     let told = c .before .enum-told .given .1 in
     begun-refused _ _ _ _ _ (r .before .before .before .loop .inv) _ _ _ (begins (r .before))
-    (sym (r .read-pattern .ensures) ∙ ap patternOutcome told) (c .answer .ensures ∙ ap patternAnswer told)
+    (no-pattern-found _ (sym told ∙ r .read-pattern .ensures)) (c .answer .ensures ∙ ap patternAnswer told)
 
 mul-list : tie.Need-mul-list Inv-loop μ-loop
 mul-list c = omega (arith, stands c .some-left)

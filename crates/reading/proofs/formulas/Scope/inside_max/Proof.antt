@@ -2,7 +2,7 @@
 use mathlib.Core.Path.{refl, _∙_}
 use native.Mathlib.Omega.{arith}
 use lib.ListN.{length-set}
-use Rattle.reading.proofs.Scopes.{push}
+use Rattle.reading.proofs.Scopes.{push, guards-max}
 use borrow.Author.Needs.{needs}
 use Rattle.reading.proofs.formulas.Scope.inside_max.Statement.{statement}
 use Rattle.reading.proofs.formulas.Scope.inside_max.Tie as tie
@@ -19,9 +19,10 @@ add-self-2 c = search needs
 returns : tie.Need-returns
 returns c =
     let sc = c .args .t1 in record {
-      maxes = push (sc .count) (sc .nodes) (c .args .k) (omega arith);
       counted = refl;
-      guards = refl;
+      numbers = push (sc .count) (sc .nodes) (c .args .k) (omega arith);
+      guards = guards-max (sc .count) (sc .unguarded);
+      order = omega arith;
       room = length-set (sc .nodes) (sc .count) (c .args .k) ∙ c .pre .2;
     }
 
