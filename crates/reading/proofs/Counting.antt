@@ -21,15 +21,6 @@ least-is (suc n) (suc low) holds h t f =
     rw (f zero (omega arith))
     (ap suc (least-is n low (λ i. holds (suc i)) (omega arith) t (λ i l. f (suc i) (omega arith))))
 
-pub least-le : (n : ℕ) (holds : ℕ → Bool) → least n holds ≤ n
-unfolding least
-least-le zero holds = omega arith
-least-le (suc n) holds = on (holds zero) (least-le n (λ i. holds (suc i)))
-  where
-    on : (b : Bool) {m : ℕ} → m ≤ n → cond b zero (suc m) ≤ suc n
-    on true h = omega arith
-    on false h = omega arith
-
 pub least-holds : (n : ℕ) (holds : ℕ → Bool) → least n holds < n → holds (least n holds) ≡ true
 unfolding least
 least-holds zero holds h = absurd (omega arith)
@@ -53,7 +44,7 @@ least-below (suc n) holds i h = on (holds zero) refl i h (least-below n (λ j. h
 
 -- ---- how many
 
--- the definition's two equations, for where it is shut
+-- the two equations of the definition, where it doesn't unfold
 pub howMany-zero : (holds : ℕ → Bool) → howMany 0 holds ≡ 0
 unfolding howMany
 howMany-zero holds = refl

@@ -28,7 +28,9 @@ formula-is-bytes n few (both f f′) g fits w = (
   all-append (λ b. b < 256) (encodeFormula f) (encodeFormula f′)
       (formula-is-bytes n few f g (omega arith) (w .0)) (formula-is-bytes n few f′ g (omega arith) (w .1)),
 )
-formula-is-bytes n few (necessity p f) g fits w = (omega arith, (omega (arith, w .0), formula-is-bytes n few f (guarded g) (omega (arith, length-map g (λ b. true))) (w .1)))
+formula-is-bytes n few (necessity p f) g fits w =
+    let same : length (guarded g) ≡ length g = length-map g (λ b. true) in
+    (omega arith, (omega (arith, w .0), formula-is-bytes n few f (guarded g) (omega arith) (w .1)))
 formula-is-bytes n few (max f) g fits w = (omega arith, formula-is-bytes n few f (false ∷ g) (omega arith) w)
 formula-is-bytes n few (variable d) g fits w = (omega arith, (omega (arith, w .0), tt))
 

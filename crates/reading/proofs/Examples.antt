@@ -1,7 +1,9 @@
--- The paper's files that concern reading alone, as rows of one theorem over the definitions: the small ones, and the number-pool rule.
+-- The paper's examples that concern reading alone, as rows of one theorem over the definitions: codes of the number-pool rule, the small
+-- files, and the number-pool rule itself.
 use mathlib.Core.Path.{_≡_, refl}
 use mathlib.Core.List.{[], _∷_}
 use Prim.Native.Nat.{ℕ}
+use Rattle.reading.specs.Code.{codeOf, issue, cancel, sync}
 use Rattle.reading.specs.Pattern.{bit, covers, least, howMany, extentOf}
 use Rattle.reading.specs.Formula.{truth, falsity, both, necessity, max, variable}
 use Rattle.reading.specs.Outcome.{accepted, refused}
@@ -13,7 +15,10 @@ abbrev pattern : (mask first last : ℕ) → Pattern
 pattern mask first last = record { mask = mask; first = first; last = last }
 
 pub small-files :
-    (ruleOf [] ≡ refused 1 0)
+    (codeOf issue 5 ≡ 5)
+    × (codeOf cancel 5 ≡ 37)
+    × (codeOf sync 0 ≡ 128)
+    × (ruleOf [] ≡ refused 1 0)
     × (ruleOf (2 ∷ []) ≡ accepted (record { patterns = []; formula = truth }))
     × (ruleOf (3 ∷ []) ≡ accepted (record { patterns = []; formula = falsity }))
     × (ruleOf (2 ∷ 2 ∷ []) ≡ refused 3 1)
@@ -33,4 +38,4 @@ pub small-files :
     × (extentOf (pattern 1 5 5) ≡ record { lowest = 5; count = 1 })
     × (extentOf (pattern 16 0 31) ≡ record { lowest = 128; count = 32 })
 unfolding ruleOf patternsAt formulaOf formulaAt bit covers least howMany
-small-files = (refl, refl, refl, refl, refl, refl, refl, refl, refl, refl, refl, refl, refl, refl, refl, refl)
+small-files = (refl, refl, refl, refl, refl, refl, refl, refl, refl, refl, refl, refl, refl, refl, refl, refl, refl, refl, refl)

@@ -1,7 +1,7 @@
 -- What a pattern covers: the trailing zeros of its mask give the lowest code, and the ones how many codes.
 use mathlib.Core.Path.{_≡_, refl, sym, _∙_}
 use mathlib.Core.Logic.{_↔_}
-use mathlib.Core.Bool.{Bool, true, false, _&&_, true≢false, false≢true}
+use mathlib.Core.Bool.{true, true≢false, and-eq-true-iff}
 use Prim.Native.Nat.{ℕ, _+_, _-_, _*_, _≤_, _<_}
 use native.Mathlib.Nat.{lt-of-not-le}
 use native.Mathlib.Decide.{decLe}
@@ -18,10 +18,6 @@ use Rattle.reading.proofs.Counting.{least-holds, least-below, howMany-l
 use Rattle.reading.proofs.Counting.{between, least-between, howMany-between}
 use Rattle.reading.proofs.Products.{ofBoth, least-of-both, howMany-of-both}
 
-both-true : (a b : Bool) → (a && b) ≡ true → (a ≡ true) × (b ≡ true)
-both-true true b h = (refl, h)
-both-true false b h = absurd (false≢true h)
-
 pub covers-means :
     (p : Pattern) (code : ℕ)
     → (covers p code ≡ true)
@@ -29,8 +25,8 @@ pub covers-means :
 unfolding covers
 covers-means p code = (
   λ h.
-      let parts = both-true (isSet (p .mask) (kindOf code)) (between (p .first) (p .last) (slotOf code)) h in
-      let ends = both-true (leb (p .first) (slotOf code)) (leb (slotOf code) (p .last)) (parts .1) in (
+      let parts = and-eq-true-iff (isSet (p .mask) (kindOf code)) (between (p .first) (p .last) (slotOf code)) .0 h in
+      let ends = and-eq-true-iff (leb (p .first) (slotOf code)) (leb (slotOf code) (p .last)) .0 (parts .1) in (
         eqb-true (bit (kindOf code) (p .mask)) 1 (parts .0),
         leb-true (p .first) (slotOf code) (ends .0),
         leb-true (slotOf code) (p .last) (ends .1),

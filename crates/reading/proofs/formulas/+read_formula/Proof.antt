@@ -165,7 +165,8 @@ module _ (t : ℕ) where
   max-of-requires : lts.Need-max-of-requires (claims t) (at t) reads.Post
   max-of-requires c κs =
       let a = c .before .before .before .before in
-      omega (arith, positive a, is-bound (found a) (c .if4 .taken), guards-length _ _ (c .before .before .before .before .before .before .before .before .before .pre .1 .order))
+      let order = a .before .before .before .before .before .pre .1 .order in
+      omega (arith, positive a, is-bound (found a) (c .if4 .taken), guards-length _ _ order)
 
   element-write-args-3 : lts.Need-element-write-args-3 (claims t) (at t) reads.Post
   element-write-args-3 c = omega (arith, positive (c .before .before .before .before .before))

@@ -21,7 +21,9 @@ abbrev μ-loop : tie.MeasureT-loop
 μ-loop bytes list₀ extents₀ at₀ n₀ list extents at n = 32 - n
 
 -- a pattern record begins at `at`
-begins : (c : tie.Then1 Inv-loop μ-loop) → isPattern (c .before .before .before .before .before .before .before .args .bytes .now) (c .before .before .loop .at) ≡ true
+begins : (c : tie.Then1 Inv-loop μ-loop) →
+    let l = c .before .before in
+    isPattern (l .before .before .before .before .before .args .bytes .now) (l .loop .at) ≡ true
 begins c = sym (c .before .is-pattern .ensures) ∙ c .if1 .taken
 
 -- the pattern that was read stands there
@@ -58,7 +60,9 @@ sub-read-pattern : tie.Need-sub-read-pattern Inv-loop μ-loop
 sub-read-pattern c = omega (arith, c .before .before .loop .inv .few)
 
 read-pattern-requires : tie.Need-read-pattern-requires Inv-loop μ-loop
-read-pattern-requires c κs = one-stands (c .before .before .before .before .before .before .before .args .bytes .now) (c .before .before .loop .at) (begins c) .inside
+read-pattern-requires c κs =
+    let l = c .before .before in
+    one-stands (l .before .before .before .before .before .args .bytes .now) (l .loop .at) (begins c) .inside
 
 enum-known-found : tie.Need-enum-known-found Inv-loop μ-loop
 enum-known-found c = search needs
