@@ -1,40 +1,20 @@
 """The rule files on which the reader is tried. They are the same at each run."""
+from itertools import product
 from random import Random
 
 import known
+from shapes import BOTH, FALSITY, FULL, LONGEST, MAX, ONE, TRUTH, after, pattern, variable
+from shapes import bad_rules, longest_rules, random_rules
 
 # Numbers at the edges of what a record's bytes can mean.
 EDGES = [0, 1, 2, 3, 4, 5, 6, 7, 8, 16, 31, 32, 33, 63, 64, 127, 128, 255]
-TRUTH = bytes([2])
-BOTH = bytes([4])
-MAX = bytes([6])
-
-
-def pattern(mask, first, last):
-    return bytes([1, mask, first, last])
-
-
-def after(number):
-    return bytes([5, number])
-
-
-def variable(depth):
-    return bytes([7, depth])
-
-
-ONE = pattern(1, 5, 5)
-FULL = ONE * 32
-
-# The longest beginning that has no fault: whatever byte comes next is refused.
-LONGEST = FULL + after(31) * 64
 
 
 def tiny_files():
     """Every file of one byte, many of two, and every file of three that a few kinds make."""
     one = [bytes([a]) for a in range(256)]
-    two = [bytes([a, b]) for a in EDGES for b in EDGES]
-    few = [0, 2, 4, 5, 6, 7]
-    three = [bytes([a, b, c]) for a in few for b in few for c in few]
+    two = [bytes(pair) for pair in product(EDGES, repeat=2)]
+    three = [bytes(triple) for triple in product([0, 2, 4, 5, 6, 7], repeat=3)]
     return one + two + three
 
 
@@ -45,8 +25,7 @@ def pattern_files():
     good = masks + slots
     full = [b"".join(good[i : i + 32]) + TRUTH for i in range(0, len(good), 32)]
     edges = [0, 1, 5, 30, 31, 32, 33, 63, 128, 255]
-    odd = [pattern(mask, first, last) for mask in (0, 1, 128) for first in edges for last in edges]
-    return full + [ONE + p + TRUTH for p in odd]
+    return full + [ONE + pattern(*odd) + TRUTH for odd in product((0, 1, 128), edges, edges)]
 
 
 def limit_formulas():
@@ -63,103 +42,101 @@ def limit_formulas():
 
 def limit_files():
     """The limits of patterns and of nodes, each beside the other."""
-    counts = [0, 1, 31, 32, 33, 34]
-    files = [ONE * count + formula for count in counts for formula in limit_formulas()]
+    files = [ONE * count + formula for count in (0, 1, 31, 32) for formula in limit_formulas()]
     almost = FULL + after(31) * 63
-    files += [almost + end for end in (TRUTH, bytes([3]), variable(0), MAX, b"")]
+    files += [almost + end for end in (TRUTH, FALSITY, variable(0), MAX, b"")]
     files += [LONGEST + bytes([byte]) for byte in EDGES]
     return files + [LONGEST]
 
 
-def guard_files():
-    """Maxes above and below one necessity, then a variable."""
+def pair_files():
+    """Every two of a few records, most of them faulty, after each of the beginnings that the checks tell apart."""
+    heads = [b"", ONE, FULL, ONE + MAX, ONE + MAX + BOTH, ONE + MAX + after(0)]
+    heads += [MAX * 63, MAX * 64, TRUTH, MAX * 63 + TRUTH]
+    records = [b"", bytes([8]), ONE, pattern(0, 5, 5), pattern(0, 32, 0)[:3], TRUTH]
+    records += [after(0), after(32), variable(0), variable(64)]
+    return [head + first + second for head, first, second in product(heads, records, records)]
+
+
+def max_files():
+    """Maxes and then a variable: at once, and with one necessity among the maxes."""
     files = []
-    for maxes in (1, 2, 3, 4, 31, 61, 62, 63):
-        for above in sorted({0, 1, maxes // 2, maxes - 1, maxes}):
+    for maxes in range(1, 65):
+        for depth in sorted({0, 1, maxes // 2, maxes - 1, maxes, 64, 128, 255}):
+            files.append(MAX * maxes + variable(depth))
+    for maxes in (1, 2, 3, 4, 31, 61, 62):
+        for above in range(maxes + 1):
             below = maxes - above
-            for depth in sorted({0, 1, max(below - 1, 0), below, maxes - 1, maxes, maxes + 1, 63, 64, 255}):
+            for depth in sorted({0, max(below - 1, 0), below, maxes - 1, maxes, 255}):
                 files.append(ONE + MAX * above + after(0) + MAX * below + variable(depth))
     return files
 
 
-def random_pattern(random):
-    first = random.choice([0, 31, random.randrange(32)])
-    last = random.choice([first, 31, random.randrange(first, 32)])
-    return pattern(random.randrange(1, 256), first, last)
+def both_files():
+    """Variables in both parts of a "both", with a necessity above it, in one part, in each or in none."""
+    steps = [b"", after(0), MAX, after(0) + MAX, MAX + after(0)]
+    parts = [TRUTH] + [step + variable(depth) for step in steps for depth in (0, 1)]
+    heads = [MAX, MAX * 2, after(0) + MAX, MAX + after(0), MAX * 2 + after(0), MAX + after(0) + MAX]
+    return [ONE + head + BOTH + left + right for head, left, right in product(heads, parts, parts)]
 
 
-def random_formula(random, nodes, patterns, scope, is_bold=False):
-    """A formula of so many nodes. The scope says of each enclosing max, innermost first, whether its variable
-    may be used here. A bold formula uses variables that no necessity guards too."""
-    if nodes == 1:
-        usable = [depth for depth, is_usable in enumerate(scope) if is_usable]
-        if usable and random.randrange(4) > 0:
-            return variable(random.choice([usable[0], usable[-1], random.choice(usable)]))
-        return bytes([random.choice([2, 3])])
-    kinds = [6]
-    if nodes > 2:
-        kinds += [4, 4]
-    if patterns > 0:
-        kinds += [5, 5]
-    kind = random.choice(kinds)
-    if kind == 4:
-        left = random.randrange(1, nodes - 1)
-        parts = [random_formula(random, size, patterns, scope, is_bold) for size in (left, nodes - 1 - left)]
-        return BOTH + parts[0] + parts[1]
-    if kind == 5:
-        number = random.choice([0, patterns - 1, random.randrange(patterns)])
-        return after(number) + random_formula(random, nodes - 1, patterns, [True] * len(scope), is_bold)
-    return MAX + random_formula(random, nodes - 1, patterns, [is_bold] + scope, is_bold)
+def both_in_both_files():
+    """A "both" as the first or as the second part of another, alone or under a necessity or a max."""
+    parts = [step + variable(depth) for step in (b"", after(0)) for depth in (0, 1)]
+    inner = [BOTH, after(0) + BOTH, MAX + BOTH]
+    files = []
+    for head, both, (a, b, c) in product((MAX, MAX * 2), inner, product(parts, repeat=3)):
+        files.append(ONE + head + BOTH + both + a + b + c)
+        files.append(ONE + head + BOTH + a + both + b + c)
+    return files
 
 
-def random_rule(random, patterns, nodes, is_bold=False):
-    records = [random_pattern(random) for _ in range(patterns)]
-    return b"".join(records) + random_formula(random, nodes, patterns, [], is_bold)
-
-
-def random_rules(random):
-    """Rules of every small size and of the largest."""
-    rules = []
-    for patterns in (0, 1, 2, 3, 8, 31, 32):
-        for nodes in (1, 2, 3, 4, 5, 8, 13, 21, 34, 63, 64):
-            rules += [random_rule(random, patterns, nodes) for _ in range(6)]
-    return rules
-
-
-def bad_rules(random):
-    """Rules of too many nodes, and rules with variables that no necessity guards."""
-    rules = []
-    for patterns in (0, 1, 5, 14, 32):
-        for nodes in (65, 66, 90):
-            rules += [random_rule(random, patterns, nodes) for _ in range(4)]
-        for nodes in (2, 3, 5, 9, 20, 40, 64):
-            rules += [random_rule(random, patterns, nodes, True) for _ in range(6)]
-    return rules
+def chain_files():
+    """Up to 20 boths, each the first or each the second part of the one above. Every part has a necessity of its
+    own, but for one or none."""
+    files = []
+    for count in (1, 2, 3, 10, 20):
+        for bare in range(count + 2):
+            parts = [variable(0) if part == bare else after(0) + variable(0) for part in range(count + 1)]
+            files.append(ONE + MAX + BOTH * count + b"".join(parts))
+            files.append(ONE + MAX + BOTH + BOTH.join(parts[:-1]) + parts[-1])
+    return files
 
 
 def beginnings(rule):
     return [rule[:length] for length in range(len(rule))]
 
 
-def changed(random, rule, count):
-    """The rule with one byte changed, by turns to any byte and to one at the edges."""
-    files = []
-    for turn in range(count):
-        at = random.randrange(len(rule))
-        byte = random.randrange(256) if turn % 2 == 0 else random.choice(EDGES)
-        files.append(rule[:at] + bytes([byte]) + rule[at + 1 :])
-    return files
+def noise(random, most):
+    return bytes(random.randrange(256) for _ in range(random.randrange(1, most + 1)))
+
+
+def replaced(rule, at, byte):
+    return rule[:at] + bytes([byte]) + rule[at + 1 :]
+
+
+def changed(random, rule):
+    """The rule with one byte changed, to any byte or to one at the edges."""
+    at = random.randrange(len(rule))
+    return replaced(rule, at, random.choice([random.randrange(256), random.choice(EDGES)]))
+
+
+def pool_files():
+    """The paper's rule cut short, and with each of its bytes changed."""
+    pool = known.bytes_of(known.POOL)
+    return beginnings(pool) + [replaced(pool, at, byte) for at, byte in product(range(len(pool)), EDGES)]
 
 
 def spoiled_files(random, rules):
-    """Rules cut short, changed in one byte, and with bytes after them."""
-    pool = known.bytes_of(known.POOL)
-    files = beginnings(pool) + [pool[:at] + bytes([byte]) + pool[at + 1 :] for at in range(len(pool)) for byte in EDGES]
-    for patterns, nodes in ((0, 9), (2, 12), (3, 30), (32, 64)):
-        files += beginnings(random_rule(random, patterns, nodes))
+    """Each rule with bytes after it, with one byte changed, and with two faults."""
+    files = []
     for rule in rules:
-        files += changed(random, rule, 3)
-        files.append(rule + bytes([random.choice(EDGES)]))
+        tails = [bytes([10]), bytes([random.choice(EDGES)]), noise(random, 1), noise(random, 30)]
+        files += [rule + tail for tail in tails]
+        once = [changed(random, rule) for _ in range(5)]
+        files += once + [changed(random, once[0]), changed(random, once[1])]
+        files.append(once[2][: random.randrange(len(rule))])
+        files.append(once[3] + noise(random, 30))
     return files
 
 
@@ -167,7 +144,7 @@ def noise_files(random):
     """Random bytes, random kinds, and random kinds after patterns."""
     files = []
     for _ in range(150):
-        files.append(bytes(random.randrange(256) for _ in range(random.randrange(1, 40))))
+        files.append(noise(random, 39))
         for head in (b"", ONE * 8, FULL):
             files.append(head + bytes(random.randrange(9) for _ in range(random.randrange(1, 40))))
             files.append(head + bytes(random.randrange(2, 8) for _ in range(random.randrange(1, 80))))
@@ -192,8 +169,13 @@ def long_files():
 def files():
     """Every file, none of them twice."""
     random = Random(1)
-    rules = random_rules(random)
+    longest, drawn = longest_rules(random), random_rules(random)
+    rules = longest + drawn
     every = [file for file, line in known.answers()]
-    every += tiny_files() + pattern_files() + limit_files() + guard_files()
-    every += rules + bad_rules(random) + spoiled_files(random, rules) + noise_files(random) + long_files()
+    every += tiny_files() + pattern_files() + limit_files() + pair_files()
+    every += max_files() + both_files() + both_in_both_files() + chain_files()
+    every += rules + bad_rules(random) + pool_files() + spoiled_files(random, rules)
+    for rule in longest + drawn[::31]:
+        every += beginnings(rule)
+    every += noise_files(random) + long_files()
     return list(dict.fromkeys(every))

@@ -1,4 +1,4 @@
-"""Rule files whose answers were typed from the paper, by hand: its small files, and two faults in one file."""
+"""Rule files whose answers were typed from the paper, by hand: its small files, two faults in one file, and guards."""
 
 ONE = "1 1 5 5 "
 FULL = ONE * 32
@@ -97,6 +97,7 @@ AT_ONE_RECORD = [
 # Two faults at two records: the left one.
 AT_TWO_RECORDS = [
     ("1 0 5 5 9", "refused 5 at 0"),
+    ("1 0 5 5 1 0 5 5 2", "refused 5 at 0"),
     ("1 0 5 5 1 1 5", "refused 5 at 0"),
     (ONE + "1 1 32 32", "refused 5 at 4"),
     (ONE * 31 + "1 0 5 5 " + ONE, "refused 5 at 124"),
@@ -127,6 +128,12 @@ GUARDS = [
     (ONE + "6 4 5 0 7 0 7 0", "refused 7 at 10"),
     (ONE + "6 4 6 2 5 0 7 0", "accepted p 1 5 5 5 1 5 n 6 0 n 4 4 n 6 0 n 2 0 n 5 0 n 7 0"),
     (ONE + "6 4 6 2 5 0 7 1", "refused 6 at 10"),
+    # a necessity guards every max around it, not the innermost alone
+    (ONE + "6 6 5 0 7 0", "accepted p 1 5 5 5 1 5 n 6 0 n 6 0 n 5 0 n 7 1"),
+    (ONE + "6 6 5 0 7 1", "accepted p 1 5 5 5 1 5 n 6 0 n 6 0 n 5 0 n 7 0"),
+    # no necessity at all: each of the 63 maxes that fit above a variable is unguarded
+    ("6 " * 63 + "7 62", "refused 7 at 63"),
+    ("6 " * 63 + "7 63", "refused 6 at 63"),
 ]
 
 

@@ -5,6 +5,7 @@ file. Each case has one line on its standard output. With --check nothing is wri
 compared with what would be.
 """
 import sys
+from argparse import ArgumentParser
 from pathlib import Path
 
 import cases
@@ -33,6 +34,9 @@ def check_typed_answers():
 
 
 def main():
+    parser = ArgumentParser(description=__doc__, allow_abbrev=False)
+    parser.add_argument("--check", action="store_true")
+    is_check = parser.parse_args().check
     check_typed_answers()
     files = cases.files()
     lines = [line_of(data) for data in files]
@@ -40,7 +44,7 @@ def main():
     stdout = "".join(line + "\n" for line in lines).encode()
     for name, content in (("stdin", stdin), ("stdout", stdout)):
         path = CRATE / name
-        if "--check" not in sys.argv:
+        if not is_check:
             path.write_bytes(content)
         elif not path.is_file() or path.read_bytes() != content:
             sys.exit(f"crates/vectors/{name} is not what tests/write_vectors.py writes")

@@ -129,7 +129,7 @@ fn answer_case(buf: &mut [u8]) -> bool {
     answer_file(&mut buf[..n])
 }
 
-// A proved loop has to end, and nothing says that the input does: the loop counts down from a number that no run uses up.
+// A proved loop has to end, and nothing says that the input does: so it has as many turns as 64 bits can count.
 fn answer_cases(buf: &mut [u8]) {
     let mut turns = u64::MAX;
     while turns > 0 && answer_case(buf) {
