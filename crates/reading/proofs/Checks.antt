@@ -1,10 +1,9 @@
 -- The rows of the refusal table: where the checks before it pass and its own doesn't, its refusal is the record's case. And what a
 -- record is where every check passes.
-use mathlib.Core.Path.{_≡_, refl, sym, ap}
+use mathlib.Core.Path.{_≡_, sym, ap}
 use mathlib.Core.Bool.{true, false}
 use mathlib.Core.List.{List}
-use Prim.Native.Nat.{ℕ, zero, suc, _+_, _≤_, _<_}
-use native.Mathlib.Omega.{arith}
+use Prim.Native.Nat.{ℕ, _+_, _≤_, _<_}
 use lib.ListN.{length, getD}
 use borrow.Author.Tests.{le-leb, lt-leb, le-ltb, lt-ltb, eq-eqb, ne-eqb}
 use Rattle.reading.specs.Formula.{Guards}
@@ -133,19 +132,3 @@ module _ (s : List ℕ) (n at left : ℕ) (g : Guards) where
 
             pub node-variable : getD s at 0 ≡ 7 → (r : NodeRead′) → r ≡ nodeRead (variableAt s g at) → r ≡ nodeRead (nodeAt s n at left g)
             node-variable h r e = simp (lt-leb _ _ b, h, ne-eqb _ _ l) e
-
-            bare-kind : (k : ℕ) → getD s at 0 ≡ k → (k ≡ 0 → ⊥) → k ≤ 7 → (k ≡ 1 → ⊥) → (k ≡ 5 → ⊥) → (k ≡ 7 → ⊥)
-                → NodeRead.Read (record { kind = k; body = 0; next = at + 1 }) ≡ nodeRead (nodeAt s n at left g)
-            bare-kind zero e h0 h h1 h5 h7 = absurd (h0 refl)
-            bare-kind (suc zero) e h0 h h1 h5 h7 = absurd (h1 refl)
-            bare-kind (suc (suc zero)) e h0 h h1 h5 h7 = simp (lt-leb _ _ b, e, ne-eqb _ _ l)
-            bare-kind (suc (suc (suc zero))) e h0 h h1 h5 h7 = simp (lt-leb _ _ b, e, ne-eqb _ _ l)
-            bare-kind (suc (suc (suc (suc zero)))) e h0 h h1 h5 h7 = simp (lt-leb _ _ b, e, ne-eqb _ _ l)
-            bare-kind (suc (suc (suc (suc (suc zero))))) e h0 h h1 h5 h7 = absurd (h5 refl)
-            bare-kind (suc (suc (suc (suc (suc (suc zero)))))) e h0 h h1 h5 h7 = simp (lt-leb _ _ b, e, ne-eqb _ _ l)
-            bare-kind (suc (suc (suc (suc (suc (suc (suc zero))))))) e h0 h h1 h5 h7 = absurd (h7 refl)
-            bare-kind (suc (suc (suc (suc (suc (suc (suc (suc k)))))))) e h0 h h1 h5 h7 = absurd (omega arith)
-
-            pub node-bare : (getD s at 0 ≡ 5 → ⊥) → (getD s at 0 ≡ 7 → ⊥)
-                → NodeRead.Read (record { kind = getD s at 0; body = 0; next = at + 1 }) ≡ nodeRead (nodeAt s n at left g)
-            node-bare h5 h7 = bare-kind (getD s at 0) refl z t p h5 h7

@@ -1,5 +1,5 @@
 -- A node record is accepted exactly where a node is left and the record's bytes, within its limits, stand at its place.
-use mathlib.Core.Path.{_≡_, refl, subst, _∙_}
+use mathlib.Core.Path.{_≡_, refl, sym, ap, subst, _∙_}
 use mathlib.Core.Bool.{true, false, cond, not, _||_}
 use mathlib.Core.Logic.{_↔_}
 use mathlib.Core.List.{List}
@@ -11,7 +11,8 @@ use borrow.Author.Tests.{ltb-false, leb-false, eqb-false, lt-leb, ne-eqb, not-fa
 use Rattle.reading.specs.Formula.{Guards}
 use Rattle.reading.specs.Outcome.{Outcome, accepted}
 use Rattle.reading.specs.File.{Symbol, Truth, Falsity, Both, Necessity, Max, Variable, NodeRecord, necessityAt, variableAt, bareAt, nodeAt}
-use Rattle.reading.specs.Answers.{kindOf}
+use Rattle.reading.specs.Answers.{kindByte, nodeRead}
+use Rattle.reading.specs.declared.formulas.NodeRead.the-variants as NodeRead
 use Rattle.reading.proofs.Outcomes.{accepted-is, passes, neither}
 use Rattle.reading.proofs.Places.{Byte}
 use Rattle.reading.proofs.Checks.{necessity-accepted, variable-accepted}
@@ -25,7 +26,7 @@ pub data Bare : Symbol → Type 0 where
 
 -- The record r stands at `at`, after n patterns, inside maxes of which g says whether they are guarded.
 pub data NodeStands (s : List ℕ) (n at : ℕ) (g : Guards) : NodeRecord → Type 0 where
-  bare : {x : Symbol} → Bare x → Byte s at (kindOf x) → NodeStands s n at g (record { symbol = x; next = at + 1 })
+  bare : {x : Symbol} → Bare x → Byte s at (kindByte x) → NodeStands s n at g (record { symbol = x; next = at + 1 })
   of-necessity : {p : ℕ} → p < n → Byte s at 5 → Byte s (at + 1) p → NodeStands s n at g (record { symbol = Necessity p; next = at + 2 })
   of-variable : {d : ℕ} → d < length g → getD g d false ≡ true → Byte s at 7 → Byte s (at + 1) d
       → NodeStands s n at g (record { symbol = Variable d; next = at + 2 })
@@ -44,7 +45,7 @@ module _ (s : List ℕ) (n at left : ℕ) (g : Guards) where
   begins : {k : ℕ} → 0 < left → Byte s at k → (eqb k 0 || ltb 7 k) ≡ false → eqb k 1 ≡ false → nodeAt s n at left g ≡ ofKind k
   begins pos b known node = rw (lt-leb (length s) at (b .inside), b .is, known, node, ne-eqb left 0 (λ z. omega arith))
 
-  bare-read : {x : Symbol} → Bare x → Byte s at (kindOf x) → 0 < left → nodeAt s n at left g ≡ bareAt x at
+  bare-read : {x : Symbol} → Bare x → Byte s at (kindByte x) → 0 < left → nodeAt s n at left g ≡ bareAt x at
   bare-read bare-truth b pos = begins pos b refl refl
   bare-read bare-falsity b pos = begins pos b refl refl
   bare-read bare-both b pos = begins pos b refl refl
@@ -56,6 +57,24 @@ module _ (s : List ℕ) (n at left : ℕ) (g : Guards) where
       begins pos b refl refl ∙ necessity-accepted s n at (a .inside) (rw (a .is) h) ∙ rw (a .is)
   node-read pos (of-variable h guard b a) =
       begins pos b refl refl ∙ variable-accepted s g at (a .inside) (rw (a .is) h) (rw (a .is) guard) ∙ rw (a .is)
+
+  -- a kind that is none of the others is that of a record without a body
+  bare-kind : (k : ℕ) → Byte s at k → 0 < left → (k ≡ 0 → ⊥) → k ≤ 7 → (k ≡ 1 → ⊥) → (k ≡ 5 → ⊥) → (k ≡ 7 → ⊥)
+      → NodeRead.Read (record { kind = k; body = 0; next = at + 1 }) ≡ nodeRead (nodeAt s n at left g)
+  bare-kind zero b pos h0 h h1 h5 h7 = absurd (h0 refl)
+  bare-kind (suc zero) b pos h0 h h1 h5 h7 = absurd (h1 refl)
+  bare-kind (suc (suc zero)) b pos h0 h h1 h5 h7 = sym (ap nodeRead (bare-read bare-truth b pos))
+  bare-kind (suc (suc (suc zero))) b pos h0 h h1 h5 h7 = sym (ap nodeRead (bare-read bare-falsity b pos))
+  bare-kind (suc (suc (suc (suc zero)))) b pos h0 h h1 h5 h7 = sym (ap nodeRead (bare-read bare-both b pos))
+  bare-kind (suc (suc (suc (suc (suc zero))))) b pos h0 h h1 h5 h7 = absurd (h5 refl)
+  bare-kind (suc (suc (suc (suc (suc (suc zero)))))) b pos h0 h h1 h5 h7 = sym (ap nodeRead (bare-read bare-max b pos))
+  bare-kind (suc (suc (suc (suc (suc (suc (suc zero))))))) b pos h0 h h1 h5 h7 = absurd (h7 refl)
+  bare-kind (suc (suc (suc (suc (suc (suc (suc (suc k)))))))) b pos h0 h h1 h5 h7 = absurd (omega arith)
+
+  pub node-bare : at < length s → (getD s at 0 ≡ 0 → ⊥) → getD s at 0 ≤ 7 → (getD s at 0 ≡ 1 → ⊥) → (left ≡ 0 → ⊥)
+      → (getD s at 0 ≡ 5 → ⊥) → (getD s at 0 ≡ 7 → ⊥)
+      → NodeRead.Read (record { kind = getD s at 0; body = 0; next = at + 1 }) ≡ nodeRead (nodeAt s n at left g)
+  node-bare i h0 h h1 l h5 h7 = bare-kind (getD s at 0) (record { inside = i; is = refl }) (omega arith) h0 h h1 h5 h7
 
   module _ (r : NodeRecord) where
     read-as : {x : NodeRecord} → NodeStands s n at g x → accepted x ≡ accepted r → NodeStands s n at g r

@@ -11,7 +11,7 @@ use Rattle.reading.specs.Formula.{Formula, both, necessity, max, size, G
 use Rattle.reading.specs.Outcome.{Outcome, accepted, refused, andThen}
 use Rattle.reading.specs.File.{Symbol, Truth, Falsity, Both, Necessity, Max, Variable, NodeRecord, nodeAt, Parsed, under, partsBy, formulaOf}
 use Rattle.reading.specs.Numbered.{kinds, args}
-use Rattle.reading.specs.Answers.{kindOf, bodyOf, nodeRead, formulaRead, passedUp, Reads}
+use Rattle.reading.specs.Answers.{kindByte, bodyByte, nodeRead, formulaRead, passedUp, Reads}
 use Rattle.reading.specs.declared.formulas.Record.{Record}
 use Rattle.reading.specs.declared.formulas.Rest.{Rest}
 use Rattle.reading.specs.declared.formulas.NodeRead.{NodeRead}
@@ -95,7 +95,7 @@ abbrev symbolFor : (kind body : ℕ) → Symbol
 symbolFor k b =
     cond (eqb k 2) Truth (cond (eqb k 3) Falsity (cond (eqb k 4) Both (cond (eqb k 5) (Necessity b) (cond (eqb k 6) Max (Variable b)))))
 
-symbol-is : (x : Symbol) → symbolFor (kindOf x) (bodyOf x) ≡ x
+symbol-is : (x : Symbol) → symbolFor (kindByte x) (bodyByte x) ≡ x
 symbol-is Truth = refl
 symbol-is Falsity = refl
 symbol-is Both = refl
@@ -105,7 +105,7 @@ symbol-is (Variable d) = refl
 
 -- the record of a node that was found
 found-node : (o : Outcome NodeRecord) {node : Record} → NodeRead′.Read node ≡ nodeRead o
-    → (r : NodeRecord) × (o ≡ accepted r) × (node ≡ record { kind = kindOf (r .symbol); body = bodyOf (r .symbol); next = r .next })
+    → (r : NodeRecord) × (o ≡ accepted r) × (node ≡ record { kind = kindByte (r .symbol); body = bodyByte (r .symbol); next = r .next })
 found-node (accepted r) e = (r, refl, cc)
 found-node (refused number place) e = let z : _≡_ {A = ℕ} 0 1 = cc in absurd (omega arith)
 
@@ -118,8 +118,8 @@ pub record Found (s : List ℕ) (n at left : ℕ) (g : Guards) (node : Record) :
   pub symbol : Symbol
   pub one-left : 0 < left
   pub stands : NodeStands s n at g (record { symbol = symbol; next = node .next })
-  pub kind-is : node .kind ≡ kindOf symbol
-  pub body-is : node .body ≡ bodyOf symbol
+  pub kind-is : node .kind ≡ kindByte symbol
+  pub body-is : node .body ≡ bodyByte symbol
   pub step : formulaOf s n at left g ≡ partsBy (formulaOf s n) symbol (node .next) (left - 1) g
 
 module _ (s : List ℕ) (n at left : ℕ) (g : Guards) (found : NodeRead) (told : found ≡ nodeRead (nodeAt s n at left g)) where
@@ -127,7 +127,7 @@ module _ (s : List ℕ) (n at left : ℕ) (g : Guards) (found : NodeRead) (told 
   found-is node is = go (found-node (nodeAt s n at left g) (sym is ∙ told))
     where
       go : (r : NodeRecord) × (nodeAt s n at left g ≡ accepted r)
-          × (node ≡ record { kind = kindOf (r .symbol); body = bodyOf (r .symbol); next = r .next }) → Found s n at left g node
+          × (node ≡ record { kind = kindByte (r .symbol); body = bodyByte (r .symbol); next = r .next }) → Found s n at left g node
       go (r, e, node-is) =
           let next : node .next ≡ r .next = ap (λ (x : Record). x .next) node-is in
           let read = node-accepts s n at left g r .0 e in record {
@@ -147,14 +147,14 @@ module _ {s : List ℕ} {n at left : ℕ} {g : Guards} {node : Record} (f : Foun
   pub step-as : (x : Symbol) → symbolFor (node .kind) (node .body) ≡ x → formulaOf s n at left g ≡ partsBy (formulaOf s n) x (node .next) (left - 1) g
   step-as x e = f .step ∙ ap (λ (y : Symbol). partsBy (formulaOf s n) y (node .next) (left - 1) g) (symbol-told ∙ e)
 
-  body-as : (x : Symbol) → symbolFor (node .kind) (node .body) ≡ x → node .body ≡ bodyOf x
-  body-as x e = f .body-is ∙ ap bodyOf (symbol-told ∙ e)
+  body-as : (x : Symbol) → symbolFor (node .kind) (node .body) ≡ x → node .body ≡ bodyByte x
+  body-as x e = f .body-is ∙ ap bodyByte (symbol-told ∙ e)
 
 -- the depth of a variable names a max
 pub is-bound : {s : List ℕ} {n at left : ℕ} {g : Guards} {node : Record} → Found s n at left g node → node .kind ≡ 7 → node .body < length g
 is-bound {s} {n} {at} {left} {g} {node} f e = on (f .stands) (sym (f .kind-is) ∙ e) (f .body-is)
   where
-    on : {r : NodeRecord} → NodeStands s n at g r → kindOf (r .symbol) ≡ 7 → node .body ≡ bodyOf (r .symbol) → node .body < length g
+    on : {r : NodeRecord} → NodeStands s n at g r → kindByte (r .symbol) ≡ 7 → node .body ≡ bodyByte (r .symbol) → node .body < length g
     on (bare bare-truth b) k i = absurd (omega arith)
     on (bare bare-falsity b) k i = absurd (omega arith)
     on (bare bare-both b) k i = absurd (omega arith)
@@ -185,7 +185,7 @@ module _ (s : List ℕ) (n at left : ℕ) (g : Guards) (ms ks gs : List ℕ) whe
         → Whole (set ks (64 - left) (node .kind)) (set gs (64 - left) (node .body)) ended
     is-leaf h4 h5 h6 h7 = on (found .symbol) (found .kind-is) (found .body-is) (found .step)
       where
-        on : (x : Symbol) → node .kind ≡ kindOf x → node .body ≡ bodyOf x
+        on : (x : Symbol) → node .kind ≡ kindByte x → node .body ≡ bodyByte x
             → formulaOf s n at left g ≡ partsBy (formulaOf s n) x (node .next) (left - 1) g
             → Whole (set ks (64 - left) (node .kind)) (set gs (64 - left) (node .body)) ended
         on Truth k b e = whole e (record { answer = refl; written = (rw k, rw b) })

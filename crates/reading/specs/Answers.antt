@@ -28,25 +28,25 @@ abbrev pub patternRead : Outcome Pattern → PatternRead
 patternRead (accepted p) = PatternRead′.the-variants.Read p
 patternRead (refused number place) = PatternRead′.the-variants.Refused number place
 
--- the kind of a symbol, and what its body has
-abbrev pub kindOf : Symbol → ℕ
-kindOf Truth = 2
-kindOf Falsity = 3
-kindOf Both = 4
-kindOf (Necessity p) = 5
-kindOf Max = 6
-kindOf (Variable d) = 7
+-- the kind byte of a symbol, and the byte of its body
+abbrev pub kindByte : Symbol → ℕ
+kindByte Truth = 2
+kindByte Falsity = 3
+kindByte Both = 4
+kindByte (Necessity p) = 5
+kindByte Max = 6
+kindByte (Variable d) = 7
 
-abbrev pub bodyOf : Symbol → ℕ
-bodyOf Truth = 0
-bodyOf Falsity = 0
-bodyOf Both = 0
-bodyOf (Necessity p) = p
-bodyOf Max = 0
-bodyOf (Variable d) = d
+abbrev pub bodyByte : Symbol → ℕ
+bodyByte Truth = 0
+bodyByte Falsity = 0
+bodyByte Both = 0
+bodyByte (Necessity p) = p
+bodyByte Max = 0
+bodyByte (Variable d) = d
 
 abbrev pub nodeRead : Outcome NodeRecord → NodeRead
-nodeRead (accepted r) = NodeRead′.the-variants.Read (record { kind = kindOf (r .symbol); body = bodyOf (r .symbol); next = r .next })
+nodeRead (accepted r) = NodeRead′.the-variants.Read (record { kind = kindByte (r .symbol); body = bodyByte (r .symbol); next = r .next })
 nodeRead (refused number place) = NodeRead′.the-variants.Refused number place
 
 -- a formula's case has the place after it and the nodes left; its nodes are in the arrays
