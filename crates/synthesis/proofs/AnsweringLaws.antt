@@ -1,0 +1,70 @@
+-- What is computed as the first equation and as the answers of equations is what the definitions by opening say.
+use Prim.Native.Nat.{ℕ, suc}
+use mathlib.Core.Path.{_≡_, refl}
+use mathlib.Core.Logic.{_↔_}
+use mathlib.Core.Bool.{Bool, true, false, cond}
+use mathlib.Core.List.{List, []}
+use lib.Dec.{eqb}
+use lib.ListN.{length}
+use Rattle.reading.specs.Formula.{Formula, necessity, WellFormed}
+use Rattle.reading.specs.Rule.{Rule}
+use Rattle.reading.specs.Nodes.{EnclosingMax, Node, whole, after}
+use Rattle.synthesis.specs.Violation.{coveredBy}
+use Rattle.synthesis.specs.Monitor.{dropped, next}
+use Rattle.synthesis.specs.NodeSet.{Has, none, common}
+use Rattle.synthesis.specs.Opening.{Opens, Leads, leads, Answers, IsFirst}
+use Rattle.synthesis.specs.Answering.{opening, opensAround, falsities, reached, judged, firstOf, answerOf}
+use Rattle.synthesis.specs.Promises.{AnswersAsDefined}
+use Rattle.synthesis.proofs.NodeSetLaws.{has-none, has-common, none-of}
+use Rattle.synthesis.proofs.MemberLaws.{none-common, some-common}
+use Rattle.synthesis.proofs.NodeWise.{Reaches, falsities-has, reached-has}
+use Rattle.synthesis.proofs.OpeningLaws.{opens-as-defined}
+
+-- The set s is what the members of e lead to under c; so it is the answer, unless it has an ff node.
+judged-answers : (r : Rule) (e c s : ℕ) → ((m : ℕ) → Has s m ↔ Leads r e c m) → Answers r e c (judged (falsities 0 (r .formula)) s)
+judged-answers r e c s led = on (eqb (common s ffs) none) refl
+  where
+    ffs : ℕ
+    ffs = falsities 0 (r .formula)
+
+    on : (b : Bool) → eqb (common s ffs) none ≡ b → Answers r e c (cond b (next s) dropped)
+    on true h = (λ m l f. none-common s ffs h m (led m .1 l) (falsities-has (r .formula) m .1 f), led)
+    on false h = let m = some-common s ffs h in (m .0, led (m .0) .0 (m .1), falsities-has (r .formula) (m .0) .0 (m .2))
+
+judged-none : (ffs s : ℕ) → s ≡ none → judged ffs s ≡ next none
+judged-none ffs s e = rw (e, none-of (common none ffs) (λ n h. has-none n (has-common none ffs n .0 h .0)))
+
+module _ (r : Rule) (wf : WellFormed (length (r .patterns)) [] (r .formula)) where
+  after-opened : {n p : ℕ} {ms : List EnclosingMax} {f : Formula} → Node (r .formula) n ms (necessity p f) → (m : ℕ)
+      → Has (opening (suc n) (opensAround ms) f) m ↔ Opens (r .formula) (suc n) m
+  after-opened {n} {ms = ms} {f} node m = opens-as-defined (length (r .patterns)) (r .formula) wf (suc n) ms f (after node) m
+
+  reached-leads : (e c m : ℕ) → Has (reached (coveredBy (r .patterns)) e c 0 [] (r .formula)) m ↔ Leads r e c m
+  reached-leads e c m = (λ h. to (reaches .0 h), λ l. reaches .1 (from l))
+    where
+      reaches : Has (reached (coveredBy (r .patterns)) e c 0 [] (r .formula)) m ↔ Reaches (coveredBy (r .patterns)) (r .formula) e c m
+      reaches = reached-has (coveredBy (r .patterns)) (r .formula) e c m
+
+      to : Reaches (coveredBy (r .patterns)) (r .formula) e c m → Leads r e c m
+      to (n, p, ms, f, node, member, covers, h) = leads member node covers (after-opened node m .0 h)
+
+      from : Leads r e c m → Reaches (coveredBy (r .patterns)) (r .formula) e c m
+      from (leads {n} {p} {ms = ms} {f} member node covers o) = (n, p, ms, f, node, member, covers, after-opened node m .1 o)
+
+  is-first : IsFirst r (firstOf r)
+  unfolding firstOf
+  is-first m = opens-as-defined (length (r .patterns)) (r .formula) wf 0 [] (r .formula) whole m
+
+  answers : (e c : ℕ) → Answers r e c (answerOf r e c)
+  unfolding answerOf
+  answers e c = judged-answers r e c (reached (coveredBy (r .patterns)) e c 0 [] (r .formula)) (reached-leads e c)
+
+  nothing-led : (c m : ℕ) → Leads r none c m → ⊥
+  nothing-led c m (leads {n} member node covers o) = has-none n member
+
+  empty : (c : ℕ) → answerOf r none c ≡ next none
+  unfolding answerOf
+  empty c = judged-none (falsities 0 (r .formula)) _ (none-of _ (λ m h. nothing-led c m (reached-leads none c m .0 h)))
+
+  pub answers-as-defined : AnswersAsDefined r
+  answers-as-defined = record { first = is-first; answers = answers; empty = empty }

@@ -1,0 +1,130 @@
+-- The table that building leaves: it is the monitor of the rule's equations, each renamed to its row. The limit on equations is any
+-- below the mark for dropped; the promises are the cases of the paper's limit.
+use Prim.Native.Nat.{ℕ, _*_, _≤_, _<_}
+use mathlib.Core.Path.{_≡_, _∙_, ap, subst}
+use mathlib.Core.Bool.{false}
+use mathlib.Core.List.{List, []}
+use native.Mathlib.Omega.{arith}
+use lib.ListN.{length, getD}
+use Rattle.reading.specs.Formula.{WellFormed}
+use Rattle.reading.specs.Rule.{Rule, Bytes}
+use Rattle.reading.specs.Outcome.{accepted}
+use Rattle.reading.specs.File.{ruleOf}
+use Rattle.reading.proofs.Accepted.{reading-accepts}
+use Rattle.synthesis.specs.Monitor.{kept, verdicts, ended, Monitors}
+use Rattle.synthesis.specs.Answering.{firstOf, answerOf, hopeless}
+use Rattle.synthesis.specs.Search.{place}
+use Rattle.synthesis.specs.Table.{rowOf, tabled, filled}
+use Rattle.synthesis.specs.Building.{equationsOf, Synthesis, buildingOf, tableAfter}
+use Rattle.synthesis.specs.Promises.{TableMonitors, DropsViolations, TableDrops, SameAfterRows, TableRest, RefusesHopeless, RowInRange, EntriesInRange}
+use Rattle.synthesis.proofs.Places.{Member}
+use Rattle.synthesis.proofs.Rows.{entries-length, filled-length, filled-row, filled-rest}
+use Rattle.synthesis.proofs.MonitorLaws.{drops-violations}
+use Rattle.synthesis.proofs.Renaming.{Renames, renamed-runs, renamed-monitors}
+use Rattle.synthesis.proofs.Tables.{table-renames, table-range}
+use Rattle.synthesis.proofs.Synthesized.{made, synthesis-accepts, building-accepts, refused-eight, refuses-eight}
+use Rattle.synthesis.proofs.RuleMonitor.{rule-monitors, hopeless-iff}
+use Rattle.synthesis.proofs.Equations.{first-place, first-member, equations-closed}
+
+-- a file that is read is a rule with a well-formed formula
+well-formed : (s : List ℕ) → Bytes s → (r : Rule) → ruleOf s ≡ accepted r → WellFormed (length (r .patterns)) [] (r .formula)
+well-formed s bytes r e = reading-accepts s bytes r .0 e .0 .formula
+
+-- ---- a run over a table that goes as one over the equations
+
+pub record RunsAs (y : Synthesis) (table w : List ℕ) : Type 0 where
+  pub keeps : kept (tabled table) 0 w ≡ kept (answerOf (y .rule)) (firstOf (y .rule)) w
+  pub judges : verdicts (tabled table) 0 w ≡ verdicts (answerOf (y .rule)) (firstOf (y .rule)) w
+  pub ends : ended (tabled table) 0 w ≡ place (ended (answerOf (y .rule)) (firstOf (y .rule)) w) (y .equations)
+
+module _ (limit : ℕ) (s table : List ℕ) where
+  -- the table that building leaves
+  abbrev pub left : List ℕ
+  left = tableAfter (buildingOf limit s (length table)) table
+
+  -- the table of a rule
+  abbrev rowsFor : Rule → List ℕ
+  rowsFor r = filled 255 (answerOf r) (equationsOf limit r) 256 table
+
+  -- no check refuses the file, which is r, and its rows are inside the table
+  record Admits (r : Rule) : Type 0 where
+    read : ruleOf s ≡ accepted r
+    hopeful : hopeless r ≡ false
+    few : length (equationsOf limit r) ≤ limit
+    room : 256 * length (equationsOf limit r) ≤ length table
+
+  -- what holds of the table of each rule that is admitted, holds of what building leaves
+  leaves : (P : Synthesis → List ℕ → Type 0) → ((r : Rule) → Admits r → P (made limit r) (rowsFor r)) → (y : Synthesis)
+      → buildingOf limit s (length table) ≡ accepted y → P y left
+  leaves P holds y e =
+      let enough = building-accepts limit s (length table) y e in
+      rw e
+      (synthesis-accepts limit s (λ y. P y (tableAfter (accepted y) table))
+      (λ r read hopeful few. holds r (record { read = read; hopeful = hopeful; few = few; room = omega (arith, enough .0) })) y
+      (enough .1))
+
+  pub built-range : (k : ℕ) (y : Synthesis) → buildingOf limit s (length table) ≡ accepted y → k < length (y .equations)
+      → RowInRange (length (y .equations)) (rowOf 256 left k)
+  built-range k = leaves (λ y t. k < length (y .equations) → RowInRange (length (y .equations)) (rowOf 256 t k)) λ r admits h.
+      let l = equationsOf limit r in
+      record {
+        whole = ap length (filled-row 255 (answerOf r) l 256 table (admits .room) k h) ∙ entries-length 255 (answerOf r) l (getD l k 0) 256;
+        range = λ c b. table-range 256 255 (answerOf r) l (equations-closed limit r (admits .few)) table (admits .room) k c h b;
+      }
+
+  pub built-rest : (y : Synthesis) → buildingOf limit s (length table) ≡ accepted y → SameAfterRows (length (y .equations)) table left
+  built-rest = leaves (λ y t. SameAfterRows (length (y .equations)) table t) λ r admits.
+      let l = equationsOf limit r in
+      record { long = filled-length 255 (answerOf r) l 256 table (admits .room); rest = filled-rest 255 (answerOf r) l 256 table }
+
+  module _ (below : limit ≤ 255) where
+    rows-rename : (r : Rule) → Admits r
+        → Renames 256 (λ e. Member e (equationsOf limit r)) (answerOf r) (tabled (rowsFor r)) (λ e. place e (equationsOf limit r))
+    rows-rename r admits =
+        table-renames 256 255 (answerOf r) (equationsOf limit r) (equations-closed limit r (admits .few)) table (admits .room)
+        (omega (arith, admits .few))
+
+    pub built-runs : (w : List ℕ) → Bytes w → (y : Synthesis) → buildingOf limit s (length table) ≡ accepted y → RunsAs y left w
+    built-runs w bytes = leaves (λ y t. RunsAs y t w) λ r admits.
+        let l = equationsOf limit r in
+        let t = tabled (rowsFor r) in
+        let renames = rows-rename r admits in
+        let alike = renamed-runs 256 (λ e. Member e l) (answerOf r) t (λ e. place e l) renames (firstOf r) w (first-member limit r) bytes in
+        record {
+          keeps = rw (first-place limit r) at (alike .keeps);
+          judges = rw (first-place limit r) at (alike .judges);
+          ends = rw (first-place limit r) at (alike .ends);
+        }
+
+    module _ (bytes : Bytes s) where
+      pub built-monitors : (y : Synthesis) → buildingOf limit s (length table) ≡ accepted y → Monitors (y .rule) (tabled left) 0
+      built-monitors = leaves (λ y t. Monitors (y .rule) (tabled t) 0) λ r admits.
+          let l = equationsOf limit r in
+          let t = tabled (rowsFor r) in
+          let renames = rows-rename r admits in
+          let monitors = rule-monitors r (well-formed s bytes r (admits .read)) (admits .hopeful) in
+          subst (Monitors r t) (first-place limit r)
+          (renamed-monitors r (λ e. Member e l) (answerOf r) t (λ e. place e l) renames (firstOf r) (first-member limit r) monitors)
+
+      -- a code is dropped exactly when the codes kept so far, followed by it, violate the rule
+      pub built-drops : (y : Synthesis) → buildingOf limit s (length table) ≡ accepted y → DropsViolations (y .rule) (tabled left) 0
+      built-drops y e = drops-violations (y .rule) (tabled left) 0 (built-monitors y e)
+
+-- ---- the promises
+
+pub table-monitors : TableMonitors
+table-monitors limit s table below bytes = built-monitors limit s table below bytes
+
+pub table-drops : TableDrops
+table-drops limit s table below bytes = built-drops limit s table below bytes
+
+pub table-rest : TableRest
+table-rest = built-rest
+
+pub entries-in-range : EntriesInRange
+entries-in-range limit s table y e k = built-range limit s table k y e
+
+pub refuses-hopeless : RefusesHopeless
+refuses-hopeless limit s bytes r read =
+    let iff = hopeless-iff r (well-formed s bytes r read) in
+    (λ e. iff .0 (refused-eight limit s r read e), λ h. refuses-eight limit s r read (iff .1 h))

@@ -1,0 +1,254 @@
+-- Laws of the search for equations: what is found stays in its place, is distinct and reached, and is all once there are no more
+-- equations than turns.
+use Prim.Native.Nat.{ℕ, zero, suc, _+_, _≤_, _<_}
+use mathlib.Core.Path.{_≡_, refl, sym, _∙_, ap}
+use mathlib.Core.Bool.{Bool, true, false, cond}
+use mathlib.Core.List.{List, [], _∷_, _++_, append-assoc, append-nil}
+use native.Mathlib.Omega.{arith}
+use native.Mathlib.Nat.{zero-add, suc-add}
+use native.Mathlib.Decide.{decLt}
+use lib.Dec.{ltb}
+use lib.ListN.{length, getD, length-append, List·getD-append}
+use borrow.Author.Tests.{eq-eqb, ltb-true, ltb-false, lt-ltb, le-ltb}
+use Rattle.reading.specs.Rule.{All}
+use Rattle.reading.proofs.AllLaws.{all-append}
+use Rattle.synthesis.specs.Monitor.{Answer, dropped, next, cases, kept, ended}
+use Rattle.synthesis.specs.Search.{place, with, noted, turn, found}
+use Rattle.synthesis.proofs.Places.{Member, place-is, place-append, member-append, member-last, with-cases, Distinct, distinct-last}
+use Rattle.synthesis.proofs.Runs.{kept-last, ended-last}
+
+-- ---- lists that grow at the end
+
+abbrev pub Grows : List ℕ → List ℕ → Type 0
+Grows l m = (rest : List ℕ) × (m ≡ l ++ rest)
+
+pub grows-same : (l : List ℕ) → Grows l l
+grows-same l = ([], sym (append-nil l))
+
+pub grows-on : (l m n : List ℕ) → Grows l m → Grows m n → Grows l n
+grows-on l m n g h = (g .0 ++ h .0, rw (h .1, g .1) (append-assoc l (g .0) (h .0)))
+
+pub grows-member : (l m : List ℕ) (e : ℕ) → Grows l m → Member e l → Member e m
+grows-member l m e g h = rw (g .1) (member-append e l (g .0) h)
+
+pub grows-place : (l m : List ℕ) (e : ℕ) → Grows l m → Member e l → place e m ≡ place e l
+grows-place l m e g h = rw (g .1) (place-append e l (g .0) h)
+
+pub grows-at : (l m : List ℕ) (i : ℕ) → Grows l m → i < length l → getD m i 0 ≡ getD l i 0
+grows-at l m i g h = rw (g .1) (List·getD-append l (g .0) 0 i h)
+
+pub grows-length : (l m : List ℕ) → Grows l m → length l ≤ length m
+grows-length l m g = omega (arith, ap length (g .1), length-append l (g .0))
+
+pub with-grows : (l : List ℕ) (e : ℕ) → Grows l (with l e)
+with-grows l e = with-cases (Grows l) l e (λ h. grows-same l) (λ h. (e ∷ [], refl))
+
+pub with-member : (l : List ℕ) (e : ℕ) → Member e (with l e)
+with-member l e = with-cases (Member e) l e (λ h. h) (λ h. member-last e l)
+
+-- ---- one of the elements of which all have a property
+
+pub all-at : (P : ℕ → Type 0) (l : List ℕ) (i : ℕ) → All P l → i < length l → P (getD l i 0)
+all-at P [] i all h = absurd (omega arith)
+all-at P (x ∷ l) zero all h = all .0
+all-at P (x ∷ l) (suc i) all h = all-at P l i (all .1) (omega arith)
+
+module _ (codes : ℕ) (answer : ℕ → ℕ → Answer ℕ) where
+  -- ---- the answers of one equation
+
+  -- what every new equation keeps
+  noted-keeps : (P : List ℕ → Type 0) (e n : ℕ) (l : List ℕ)
+      → ((c e′ : ℕ) (m : List ℕ) → c < n → answer e c ≡ next e′ → P m → P (with m e′)) → P l → P (noted codes answer e n l)
+  unfolding noted
+  noted-keeps P e zero l step p = p
+  noted-keeps P e (suc n) l step p = on (answer e n) refl (noted-keeps P e n l (λ c e′ m h. step c e′ m (omega arith)) p)
+    where
+      on : (a : Answer ℕ) → answer e n ≡ a → P (noted codes answer e n l) → P (noted codes answer e (suc n) l)
+      on dropped q h = rw q h
+      on (next e′) q h = rw q (step n e′ (noted codes answer e n l) (omega arith) q h)
+
+  pub noted-grows : (e n : ℕ) (l : List ℕ) → Grows l (noted codes answer e n l)
+  noted-grows e n l = noted-keeps (Grows l) e n l (λ c e′ m h q g. grows-on l m (with m e′) g (with-grows m e′)) (grows-same l)
+
+  pub noted-member : (e n c e′ : ℕ) (l : List ℕ) → c < n → answer e c ≡ next e′ → Member e′ (noted codes answer e n l)
+  unfolding noted
+  noted-member e zero c e′ l h q = absurd (omega arith)
+  noted-member e (suc n) c e′ l h q = on (decLt c n) (answer e n) refl (noted-member e n c e′ l)
+    where
+      m : List ℕ
+      m = noted codes answer e n l
+
+      on : Dec (c < n) → (a : Answer ℕ) → answer e n ≡ a → (c < n → answer e c ≡ next e′ → Member e′ m) → Member e′ (cases a m (with m))
+      on (yes k) dropped z ih = ih k q
+      on (yes k) (next x) z ih = grows-member m (with m x) e′ (with-grows m x) (ih k q)
+      on (no k) a z ih =
+          let same : c ≡ n = omega arith in
+          let here : next e′ ≡ a = sym q ∙ rw same z in
+          rw (← here) (with-member m e′)
+
+  -- ---- turns
+
+  pub turn-cases : (P : List ℕ → Type 0) (k : ℕ) (l : List ℕ) → (k < length l → P (noted codes answer (getD l k 0) codes l))
+      → (length l ≤ k → P l) → P (turn codes answer k l)
+  turn-cases P k l some none = on (ltb k (length l)) refl
+    where
+      on : (b : Bool) → ltb k (length l) ≡ b → P (cond b (noted codes answer (getD l k 0) codes l) l)
+      on true q = some (ltb-true k (length l) q)
+      on false q = none (ltb-false k (length l) q)
+
+  pub turn-some : (k : ℕ) (l : List ℕ) → k < length l → turn codes answer k l ≡ noted codes answer (getD l k 0) codes l
+  turn-some k l h = rw (lt-ltb k (length l) h)
+
+  pub turn-none : (k : ℕ) (l : List ℕ) → length l ≤ k → turn codes answer k l ≡ l
+  turn-none k l h = rw (le-ltb k (length l) h)
+
+  pub turn-grows : (k : ℕ) (l : List ℕ) → Grows l (turn codes answer k l)
+  turn-grows k l = turn-cases (Grows l) k l (λ h. noted-grows (getD l k 0) codes l) (λ h. grows-same l)
+
+  -- what every new equation keeps is kept to the end
+  found-keeps : (P : List ℕ → Type 0) (first : ℕ) → P (first ∷ [])
+      → ((k c e : ℕ) (l m : List ℕ) → P l → k < length l → c < codes → answer (getD l k 0) c ≡ next e → P m → P (with m e))
+      → (turns : ℕ) → P (found codes answer turns first)
+  unfolding found
+  found-keeps P first p step zero = p
+  found-keeps P first p step (suc k) =
+      let l = found codes answer k first in
+      let h = found-keeps P first p step k in
+      turn-cases P k l (λ in′. noted-keeps P (getD l k 0) codes l (λ c e m. step k c e l m h in′) h) (λ out. h)
+
+  -- ---- what is found grows at the end
+
+  pub found-next : (turns first : ℕ) → Grows (found codes answer turns first) (found codes answer (suc turns) first)
+  unfolding found
+  found-next k first = turn-grows k (found codes answer k first)
+
+  pub found-more : (more turns first : ℕ) → Grows (found codes answer turns first) (found codes answer (more + turns) first)
+  found-more zero k first = rw zero-add (grows-same (found codes answer k first))
+  found-more (suc n) k first =
+      let l : ℕ → List ℕ = λ turns. found codes answer turns first in
+      rw suc-add (grows-on (l k) (l (n + k)) (l (suc (n + k))) (found-more n k first) (found-next (n + k) first))
+
+  pub found-grows : (turns first : ℕ) → Grows (first ∷ []) (found codes answer turns first)
+  found-grows k first =
+      found-keeps (Grows (first ∷ [])) first (grows-same (first ∷ []))
+      (λ k c e l m g in′ h q g′. grows-on (first ∷ []) m (with m e) g′ (with-grows m e)) k
+
+  -- the first equation is found first
+  pub found-first : (turns first : ℕ) → (0 < length (found codes answer turns first)) × (getD (found codes answer turns first) 0 0 ≡ first)
+  found-first k first =
+      let g = found-grows k first in
+      (rw (g .1) (omega arith), grows-at (first ∷ []) (found codes answer k first) 0 g (omega arith))
+
+  -- a turn without an equation finds nothing
+  found-idle : (turns first : ℕ) → length (found codes answer turns first) ≤ turns
+      → found codes answer (suc turns) first ≡ found codes answer turns first
+  unfolding found
+  found-idle k first h = turn-none k (found codes answer k first) h
+
+  -- once there are no more equations than turns, further turns find nothing
+  pub found-done : (more turns first : ℕ) → length (found codes answer turns first) ≤ turns
+      → found codes answer (more + turns) first ≡ found codes answer turns first
+  found-done zero k first h = rw zero-add
+  found-done (suc n) k first h =
+      let same = found-done n k first h in
+      rw suc-add (found-idle (n + k) first (rw same (omega arith)) ∙ same)
+
+  -- ---- all of them are found once
+
+  pub found-distinct : (turns first : ℕ) → Distinct (found codes answer turns first)
+  found-distinct k first =
+      found-keeps Distinct first alone (λ k c e l m d in′ h q d′. with-cases Distinct m e (λ old. d′) (λ new. distinct-last m e new d′)) k
+    where
+      alone : Distinct (first ∷ [])
+      alone i h = let z : i ≡ 0 = omega arith in rw (z, eq-eqb first first refl)
+
+  -- what the first equation has, and each passes on
+  pub found-all : (P : ℕ → Type 0) (first : ℕ) → P first → ((e c e′ : ℕ) → P e → c < codes → answer e c ≡ next e′ → P e′)
+      → (turns : ℕ) → All P (found codes answer turns first)
+  found-all P first p step k =
+      found-keeps (All P) first (p, tt)
+      (λ k c e l m all in′ h q all′. with-cases (All P) m e (λ old. all′)
+      (λ new. all-append P m (e ∷ []) all′ (step (getD l k 0) c e (all-at P l k all in′) h q, tt))) k
+
+  -- ---- what they lead to is found
+
+  -- the first k of the list lead to equations of the list
+  abbrev pub ClosedBelow : ℕ → List ℕ → Type 0
+  ClosedBelow k l = (i c e : ℕ) → i < k → i < length l → c < codes → answer (getD l i 0) c ≡ next e → Member e l
+
+  turn-closed : (k : ℕ) (l : List ℕ) → ClosedBelow k l → ClosedBelow (suc k) (turn codes answer k l)
+  turn-closed k l closed = turn-cases (ClosedBelow (suc k)) k l some (λ out i c e a b. closed i c e (omega arith) b)
+    where
+      m : List ℕ
+      m = noted codes answer (getD l k 0) codes l
+
+      grows : Grows l m
+      grows = noted-grows (getD l k 0) codes l
+
+      some : k < length l → ClosedBelow (suc k) m
+      some in′ i c e a b h q = on (decLt i k)
+        where
+          same : answer (getD l i 0) c ≡ next e
+          same = rw (grows-at l m i grows (omega arith)) at q
+
+          on : Dec (i < k) → Member e m
+          on (yes y) = grows-member l m e grows (closed i c e y (omega arith) h same)
+          on (no n) = let z : i ≡ k = omega arith in noted-member (getD l k 0) codes c e l h (rw (← z) same)
+
+  found-closed-below : (turns first : ℕ) → ClosedBelow turns (found codes answer turns first)
+  unfolding found
+  found-closed-below zero first = λ i c e a. absurd (omega arith)
+  found-closed-below (suc k) first = turn-closed k (found codes answer k first) (found-closed-below k first)
+
+  -- the equations of the list lead to equations of the list
+  abbrev pub ClosedUnder : List ℕ → Type 0
+  ClosedUnder l = (i c e : ℕ) → i < length l → c < codes → answer (getD l i 0) c ≡ next e → Member e l
+
+  pub found-closed : (turns first : ℕ) → length (found codes answer turns first) ≤ turns → ClosedUnder (found codes answer turns first)
+  found-closed k first few i c e a = found-closed-below k first i c e (omega arith) a
+
+  -- a closed list with the first equation has each that is found
+  pub found-inside : (l : List ℕ) (first : ℕ) → Member first l → ClosedUnder l → (turns : ℕ)
+      → All (λ e. Member e l) (found codes answer turns first)
+  found-inside l first m closed k =
+      found-all (λ e. Member e l) first m (λ e c e′ h b q. closed (place e l) c e′ h b (rw (place-is e l h) q)) k
+
+  -- ---- each is reached
+
+  -- The codes of a word, all kept, lead from the first equation to e.
+  pub record Reached (first e : ℕ) : Type 0 where
+    pub word : List ℕ
+    pub codes-of : All (λ c. c < codes) word
+    pub keeps : kept answer first word ≡ word
+    pub ends : ended answer first word ≡ e
+
+  reached-next : (first e c e′ : ℕ) → Reached first e → c < codes → answer e c ≡ next e′ → Reached first e′
+  reached-next first e c e′ r h q = record {
+    word = r .word ++ (c ∷ []);
+    codes-of = all-append (λ c. c < codes) (r .word) (c ∷ []) (r .codes-of) (h, tt);
+    keeps = kept-last answer first (r .word) c last ∙ ap (λ (w : List ℕ). w ++ (c ∷ [])) (r .keeps);
+    ends = ended-last answer first (r .word) c last;
+  }
+    where
+      last : answer (ended answer first (r .word)) c ≡ next e′
+      last = rw (r .ends) q
+
+  pub found-reached : (turns first : ℕ) → All (Reached first) (found codes answer turns first)
+  found-reached k first =
+      found-all (Reached first) first (record { word = []; codes-of = tt; keeps = refl; ends = refl }) (reached-next first) k
+
+-- ---- answers that agree on the codes find the same
+
+module _ (codes : ℕ) (answer answer′ : ℕ → ℕ → Answer ℕ) (agree : (e c : ℕ) → c < codes → answer e c ≡ answer′ e c) where
+  pub noted-cong : (e n : ℕ) (l : List ℕ) → n ≤ codes → noted codes answer e n l ≡ noted codes answer′ e n l
+  unfolding noted
+  noted-cong e zero l h = refl
+  noted-cong e (suc n) l h = rw (agree e n h, noted-cong e n l (omega arith))
+
+  pub turn-cong : (k : ℕ) (l : List ℕ) → turn codes answer k l ≡ turn codes answer′ k l
+  turn-cong k l = rw (noted-cong (getD l k 0) codes l (omega arith))
+
+  pub found-cong : (turns first : ℕ) → found codes answer turns first ≡ found codes answer′ turns first
+  unfolding found
+  found-cong zero first = refl
+  found-cong (suc k) first = turn-cong k (found codes answer k first) ∙ ap (turn codes answer′ k) (found-cong k first)

@@ -1,0 +1,36 @@
+-- The theory: sets, opening and violation, monitors, the search and the table, and the promises.
+pub mod NodeSetLaws
+pub mod MemberLaws
+pub mod Extension
+pub mod NodeWise
+pub mod OpeningLaws
+pub mod AnsweringLaws
+pub mod ViolationLaws
+pub mod EquationLaws
+pub mod RuleMonitor
+pub mod Places
+pub mod Runs
+pub mod Finding
+pub mod Rows
+pub mod MonitorLaws
+pub mod Renaming
+pub mod Tables
+pub mod Synthesized
+pub mod Equations
+pub mod Built
+pub mod Examples
+-- What the proofs of the functions use.
+pub mod Loops
+pub mod PlaceLaws
+pub mod HoldsLaws
+pub mod TableLaws
+pub mod Gathering
+pub mod SetsByTest
+pub mod Marking
+pub mod NodeArrays
+pub mod OpeningArrays
+pub mod Linking
+pub mod WaitingLaws
+pub mod GraphLaws
+pub mod PlanLaws
+pub mod BuildingWays

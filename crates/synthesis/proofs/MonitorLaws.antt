@@ -1,0 +1,79 @@
+-- What a monitor loses, and what follows for any monitor of a rule: it drops exactly what would violate the rule, and keeps no violation.
+use Prim.Native.Nat.{ℕ, _<_}
+use mathlib.Core.Path.{_≡_, refl, ap}
+use mathlib.Core.Logic.{_↔_}
+use mathlib.Core.List.{List, [], _∷_, _++_}
+use native.Mathlib.Omega.{arith}
+use Rattle.reading.specs.Rule.{Rule, Bytes}
+use Rattle.reading.proofs.AllLaws.{all-append}
+use Rattle.synthesis.specs.Violation.{ViolatesRule}
+use Rattle.synthesis.specs.Monitor.{Answer, dropped, next, kept, ended, Loses, now, later, Monitors}
+use Rattle.synthesis.specs.Promises.{DropsViolations}
+use Rattle.synthesis.proofs.Runs.{kept-all}
+
+module _ {E : Type 0} (answer : E → ℕ → Answer E) where
+  pub loses-nothing : {e : E} → Loses answer e [] → ⊥
+  loses-nothing l = elim l [ ]
+
+  pub loses-rest : {e e′ : E} {c : ℕ} {w : List ℕ} → answer e c ≡ next e′ → Loses answer e (c ∷ w) → Loses answer e′ w
+  loses-rest p (now q) = absurd (let z : _≡_ {A = ℕ} 0 1 = cc in omega arith)
+  loses-rest {e′ = e′} p (later {e′ = x} q l) = let z : e′ ≡ x = cc in rw z l
+
+  -- what is lost stays lost, whatever comes after
+  pub loses-append : {e : E} {w : List ℕ} (v : List ℕ) → Loses answer e w → Loses answer e (w ++ v)
+  loses-append v (now q) = now q
+  loses-append v (later q l) = later q (loses-append v l)
+
+  -- nothing of what was kept is lost
+  pub kept-loses : (e : E) (w : List ℕ) → Loses answer e (kept answer e w) → ⊥
+  kept-loses e [] = loses-nothing
+  kept-loses e (c ∷ w) = on (answer e c) refl (kept-loses e w) (λ e′. kept-loses e′ w)
+    where
+      on : (a : Answer E) → answer e c ≡ a → (Loses answer e (kept answer e w) → ⊥) → ((e′ : E) → Loses answer e′ (kept answer e′ w) → ⊥)
+          → Loses answer e (kept answer e (c ∷ w)) → ⊥
+      on dropped q h k = rw q h
+      on (next e′) q h k = rw q (λ l. k e′ (loses-rest q l))
+
+  -- what loses nothing is kept whole
+  pub kept-whole : (e : E) (w : List ℕ) → (Loses answer e w → ⊥) → kept answer e w ≡ w
+  kept-whole e [] none = refl
+  kept-whole e (c ∷ w) none = on (answer e c) refl (λ e′. kept-whole e′ w)
+    where
+      on : (a : Answer E) → answer e c ≡ a → ((e′ : E) → (Loses answer e′ w → ⊥) → kept answer e′ w ≡ w) → kept answer e (c ∷ w) ≡ c ∷ w
+      on dropped q k = absurd (none (now q))
+      on (next e′) q k = rw q (ap (λ (l : List ℕ). c ∷ l) (k e′ (λ l. none (later q l))))
+
+  -- a code after what was kept is lost exactly when it is dropped where the run ended
+  pub loses-last : (e : E) (w : List ℕ) (c : ℕ) → (answer (ended answer e w) c ≡ dropped) ↔ Loses answer e (kept answer e w ++ (c ∷ []))
+  loses-last e [] c = (λ q. now q, last)
+    where
+      last : Loses answer e (c ∷ []) → answer e c ≡ dropped
+      last (now q) = q
+      last (later q l) = absurd (loses-nothing l)
+  loses-last e (d ∷ w) c = on (answer e d) refl (loses-last e w c) (λ e′. loses-last e′ w c)
+    where
+      on : (a : Answer E) → answer e d ≡ a → (answer (ended answer e w) c ≡ dropped) ↔ Loses answer e (kept answer e w ++ (c ∷ []))
+          → ((e′ : E) → (answer (ended answer e′ w) c ≡ dropped) ↔ Loses answer e′ (kept answer e′ w ++ (c ∷ [])))
+          → (answer (ended answer e (d ∷ w)) c ≡ dropped) ↔ Loses answer e (kept answer e (d ∷ w) ++ (c ∷ []))
+      on dropped q h k = rw q h
+      on (next e′) q h k = rw q (λ z. later q (k e′ .0 z), λ l. k e′ .1 (loses-rest q l))
+
+-- ---- any monitor of a rule
+
+pub drops-violations : {E : Type 0} (r : Rule) (answer : E → ℕ → Answer E) (first : E) → Monitors r answer first
+    → DropsViolations r answer first
+drops-violations r answer first monitors w c bytes code =
+    let v = kept answer first w in
+    let step = loses-last answer first w c in
+    let rule = monitors (v ++ (c ∷ [])) (all-append (λ b. b < 256) v (c ∷ []) (kept-all answer (λ b. b < 256) first w bytes) (code, tt)) in
+    (λ q. rule .1 (step .0 q), λ h. step .1 (rule .0 h))
+
+pub kept-safe : {E : Type 0} (r : Rule) (answer : E → ℕ → Answer E) (first : E) → Monitors r answer first → (w : List ℕ) → Bytes w
+    → ViolatesRule r (kept answer first w) → ⊥
+kept-safe r answer first monitors w bytes h =
+    kept-loses answer first w (monitors (kept answer first w) (kept-all answer (λ b. b < 256) first w bytes) .0 h)
+
+-- lists that don't violate the rule pass whole
+pub safe-kept : {E : Type 0} (r : Rule) (answer : E → ℕ → Answer E) (first : E) → Monitors r answer first → (w : List ℕ) → Bytes w
+    → (ViolatesRule r w → ⊥) → kept answer first w ≡ w
+safe-kept r answer first monitors w bytes safe = kept-whole answer first w (λ l. safe (monitors w bytes .1 l))

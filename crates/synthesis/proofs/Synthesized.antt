@@ -1,0 +1,84 @@
+-- What building and synthesis accept and refuse, step by step.
+use Prim.Native.Nat.{ℕ, _*_, _≤_, _<_}
+use mathlib.Core.Path.{_≡_, refl, subst}
+use mathlib.Core.Bool.{Bool, true, false}
+use mathlib.Core.List.{List}
+use native.Mathlib.Omega.{arith}
+use lib.Dec.{ltb}
+use lib.ListN.{length}
+use borrow.Author.Tests.{ltb-true, ltb-false, lt-ltb, le-ltb}
+use Rattle.reading.specs.Rule.{Rule}
+use Rattle.reading.specs.Outcome.{accepted, refused, refuse}
+use Rattle.reading.specs.File.{ruleOf}
+use Rattle.reading.proofs.Outcomes.{accepted-is, passes, accepted-by}
+use Rattle.synthesis.specs.Answering.{hopeless}
+use Rattle.synthesis.specs.Building.{equationsOf, Synthesis, synthesized, synthesisOf, buildingOf}
+
+-- the synthesis of a rule that is accepted
+abbrev pub made : (limit : ℕ) → Rule → Synthesis
+made limit r = record { rule = r; equations = equationsOf limit r }
+
+-- What holds of the synthesis of each rule that no check refuses, holds of what is accepted.
+pub synthesis-accepts : (limit : ℕ) (s : List ℕ) (P : Synthesis → Type 0)
+    → ((r : Rule) → ruleOf s ≡ accepted r → hopeless r ≡ false → length (equationsOf limit r) ≤ limit → P (made limit r))
+    → (y : Synthesis) → synthesisOf limit s ≡ accepted y → P y
+unfolding synthesisOf
+synthesis-accepts limit s P holds y e =
+    let read = accepted-by (ruleOf s) (synthesized limit) e in
+    let r = read .0 in
+    let eight = passes (hopeless r) 8 0 _ (read .2) in
+    let nine = passes (ltb limit (length (equationsOf limit r))) 9 0 _ (eight .1) in
+    subst P (accepted-is (nine .1)) (holds r (read .1) (eight .0) (ltb-false limit (length (equationsOf limit r)) (nine .0)))
+
+-- ---- a table for the rows
+
+pub building-enough : (limit : ℕ) (s : List ℕ) (size : ℕ) → 256 * limit ≤ size → buildingOf limit s size ≡ synthesisOf limit s
+unfolding buildingOf
+building-enough limit s size h = rw (le-ltb size (256 * limit) h)
+
+pub building-short : (limit : ℕ) (s : List ℕ) (size : ℕ) → size < 256 * limit → buildingOf limit s size ≡ refused 10 0
+unfolding buildingOf
+building-short limit s size h = rw (lt-ltb size (256 * limit) h)
+
+-- building accepts where there is room for the rows and synthesis accepts
+pub building-accepts : (limit : ℕ) (s : List ℕ) (size : ℕ) (y : Synthesis) → buildingOf limit s size ≡ accepted y
+    → (256 * limit ≤ size) × (synthesisOf limit s ≡ accepted y)
+unfolding buildingOf
+building-accepts limit s size y e =
+    let ten = passes (ltb size (256 * limit)) 10 0 (synthesisOf limit s) e in
+    (ltb-false size (256 * limit) (ten .0), ten .1)
+
+-- ---- a file that is a rule: accepted, or one of two refusals
+
+-- two checks in order: refused by the first, or else by the second
+first-refuses : (y : Synthesis) (b b′ : Bool) → refuse b 8 0 (refuse b′ 9 0 (accepted y)) ≡ refused 8 0 → b ≡ true
+first-refuses y true b′ e = refl
+first-refuses y false true e = let z : _≡_ {A = ℕ} 9 8 = cc in absurd (omega arith)
+first-refuses y false false e = let z : _≡_ {A = ℕ} 0 1 = cc in absurd (omega arith)
+
+second-refuses : (y : Synthesis) (b b′ : Bool) → refuse b 8 0 (refuse b′ 9 0 (accepted y)) ≡ refused 9 0 → (b ≡ false) × (b′ ≡ true)
+second-refuses y true b′ e = let z : _≡_ {A = ℕ} 8 9 = cc in absurd (omega arith)
+second-refuses y false true e = (refl, refl)
+second-refuses y false false e = let z : _≡_ {A = ℕ} 0 1 = cc in absurd (omega arith)
+
+module _ (limit : ℕ) (s : List ℕ) (r : Rule) (read : ruleOf s ≡ accepted r) where
+  pub synthesis-of : synthesisOf limit s ≡ synthesized limit r
+  unfolding synthesisOf
+  synthesis-of = rw read
+
+  pub accepts-made : hopeless r ≡ false → length (equationsOf limit r) ≤ limit → synthesisOf limit s ≡ accepted (made limit r)
+  accepts-made h k = rw (synthesis-of, h, le-ltb limit (length (equationsOf limit r)) k)
+
+  pub refused-eight : synthesisOf limit s ≡ refused 8 0 → hopeless r ≡ true
+  refused-eight e = first-refuses (made limit r) (hopeless r) (ltb limit (length (equationsOf limit r))) (rw synthesis-of at e)
+
+  pub refuses-eight : hopeless r ≡ true → synthesisOf limit s ≡ refused 8 0
+  refuses-eight h = rw (synthesis-of, h)
+
+  pub refused-nine : synthesisOf limit s ≡ refused 9 0 → limit < length (equationsOf limit r)
+  refused-nine e =
+      let both = second-refuses (made limit r) (hopeless r) (ltb limit (length (equationsOf limit r))) (rw synthesis-of at e) in
+      ltb-true limit (length (equationsOf limit r)) (both .1)
+
+  pub refuses-nine : hopeless r ≡ false → limit < length (equationsOf limit r) → synthesisOf limit s ≡ refused 9 0
+  refuses-nine h k = rw (synthesis-of, h, lt-ltb limit (length (equationsOf limit r)) k)

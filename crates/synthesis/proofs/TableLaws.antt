@@ -1,0 +1,75 @@
+-- Laws of a table that is filled from its front: its rows, and a row's entries.
+use Prim.Native.Nat.{ℕ, zero, suc, _+_, _-_, _*_, _≤_, _<_}
+use mathlib.Core.Path.{_≡_, refl, sym, ap, _∙_}
+use mathlib.Core.List.{List, [], _∷_, _++_, append-assoc, append-nil}
+use native.Mathlib.Nat.{mul-zero, mul-suc, add-sub-cancel-left}
+use native.Mathlib.Numerals.{add-one}
+use lib.ListN.{length, getD, drop, set, length-append, drop-of-length-le}
+use lib.Seq.{length-front, length-take-le, drop-cons, drop-drop, set-at, take-at, drop-at}
+use borrow.Rule.Slice.PartMut.{putMid}
+use Rattle.synthesis.specs.Monitor.{Answer}
+use Rattle.synthesis.specs.Table.{entryFor, entries, rows, filled}
+
+-- ---- a list d whose first n elements are overwritten by p
+
+module _ (p d : List ℕ) (n : ℕ) (size : length p ≡ n) where
+  front-length : n ≤ length d → length (p ++ drop n d) ≡ length d
+  front-length h = length-front d p n (size ∙ sym (length-take-le n d h))
+
+  -- by one element more
+  store-next : (v : ℕ) → n < length d → set (p ++ drop n d) n v ≡ (p ++ (v ∷ [])) ++ drop (suc n) d
+  store-next v h =
+      rw (drop-cons d n 0 h)
+      (set-at p (getD d n 0) (drop (suc n) d) v n size ∙ sym (append-assoc p (v ∷ []) (drop (suc n) d)))
+
+  -- by a part of m elements more, which was lent and came back as q
+  put-next : (m : ℕ) (q : List ℕ) → putMid n m (p ++ drop n d) q ≡ (p ++ q) ++ drop (n + m) d
+  put-next m q =
+      rw (take-at p (drop n d) n size, drop-at p (drop n d) n size, drop-drop m n d) (sym (append-assoc p q (drop (n + m) d)))
+
+module _ (mark : ℕ) (answer : ℕ → ℕ → Answer ℕ) (found : List ℕ) where
+  -- ---- a row with the entries of the equation e for the first c codes
+
+  entries-length : (e c : ℕ) → length (entries mark answer found e c) ≡ c
+  unfolding entries
+  entries-length e zero = refl
+  entries-length e (suc c) =
+      length-append (entries mark answer found e c) (entryFor mark found (answer e c) ∷ [])
+      ∙ ap (λ (n : ℕ). n + 1) (entries-length e c)
+      ∙ add-one c
+
+  module _ (e : ℕ) (row₀ row : List ℕ) (c : ℕ) (begun : row ≡ entries mark answer found e c ++ drop c row₀) where
+    pub entries-next : (v : ℕ) → c < length row₀ → v ≡ entryFor mark found (answer e c)
+        → set row c v ≡ entries mark answer found e (c + 1) ++ drop (c + 1) row₀
+    unfolding entries
+    entries-next v h is =
+        rw (begun, is, add-one c)
+        (store-next (entries mark answer found e c) row₀ c (entries-length e c) (entryFor mark found (answer e c)) h)
+
+    pub entries-all : length row₀ ≤ c → row ≡ entries mark answer found e c
+    entries-all h = begun ∙ rw (drop-of-length-le row₀ {i = c} h, append-nil)
+
+  -- ---- a table with the rows of the first k equations
+
+  rows-length : (codes k : ℕ) → length (rows mark answer found codes k) ≡ codes * k
+  unfolding rows
+  rows-length codes zero = sym (mul-zero codes)
+  rows-length codes (suc k) =
+      length-append (rows mark answer found codes k) (entries mark answer found (getD found k 0) codes)
+      ∙ rw (rows-length codes k, entries-length (getD found k 0) codes, mul-suc)
+
+  module _ (codes : ℕ) (table₀ table : List ℕ) (k : ℕ) (begun : table ≡ rows mark answer found codes k ++ drop (codes * k) table₀) where
+    pub rows-keep : codes * k ≤ length table₀ → length table ≡ length table₀
+    rows-keep h = ap length begun ∙ front-length (rows mark answer found codes k) table₀ (codes * k) (rows-length codes k) h
+
+    -- the next row is lent, and comes back filled
+    pub rows-next : (e : ℕ) (q : List ℕ) → getD found k 0 ≡ e → q ≡ entries mark answer found e codes
+        → putMid (codes * k) (codes * k + codes - codes * k) table q ≡ rows mark answer found codes (k + 1) ++ drop (codes * (k + 1)) table₀
+    unfolding rows
+    rows-next e q at is =
+        rw (begun, is, add-one k, at, mul-suc codes k, add-sub-cancel-left (codes * k) codes)
+        (put-next (rows mark answer found codes k) table₀ (codes * k) (rows-length codes k) codes (entries mark answer found e codes))
+
+    pub rows-all : length found ≡ k → table ≡ filled mark answer found codes table₀
+    unfolding filled
+    rows-all h = rw h begun

@@ -1,0 +1,72 @@
+-- `filling::fill_row` meets its contract. The row has the entries of the codes so far; the measure is how many codes are left.
+use Prim.Native.Nat.{_-_, _≤_}
+use mathlib.Core.Path.{_≡_, _∙_}
+use mathlib.Core.List.{_++_}
+use native.Mathlib.Omega.{arith}
+use lib.ListN.{length, take, drop}
+use borrow.Author.Needs.{needs}
+use Rattle.synthesis.specs.Table.{entries}
+use Rattle.synthesis.specs.Arrays.{answerBy}
+use Rattle.synthesis.proofs.TableLaws.{entries-next, entries-all}
+use Rattle.synthesis.proofs.filling.fill_row.Statement.{statement}
+use Rattle.synthesis.proofs.filling.fill_row.Tie as tie
+
+abbrev Inv-loop : tie.InvT-loop
+Inv-loop after waiting falsities found n e row₀ c₀ row c =
+    (c ≤ 256) × (length row ≡ 256) × (row ≡ entries 255 (answerBy after waiting falsities) (take n found) e c ++ drop c row₀)
+
+abbrev μ-loop : tie.MeasureT-loop
+μ-loop after waiting falsities found n e row₀ c₀ row c = 256 - c
+
+loop-holds : tie.Need-loop-holds Inv-loop μ-loop
+unfolding entries
+loop-holds c = search needs
+
+reached-requires : tie.Need-reached-requires Inv-loop μ-loop
+reached-requires c κs = search needs
+
+entry-requires : tie.Need-entry-requires Inv-loop μ-loop
+entry-requires c κs = search needs
+
+slice-write-row : tie.Need-slice-write-row Inv-loop μ-loop
+slice-write-row c = search needs
+
+add-c : tie.Need-add-c Inv-loop μ-loop
+add-c c = search needs
+
+loop-less : tie.Need-loop-less Inv-loop μ-loop
+loop-less c = search needs
+
+loop-again : tie.Need-loop-again Inv-loop μ-loop
+unfolding answerBy
+loop-again c =
+    let l = c .before .before .before in (
+      search needs,
+      search needs,
+      entries-next 255 _ _ _ _ _ _ (l .loop .inv .2) _ (omega arith) (c .entry .ensures ∙ rw (c .before .reached .ensures)),
+    )
+
+same-length : tie.Need-same-length Inv-loop μ-loop
+same-length c = search needs
+
+returns : tie.Need-returns Inv-loop μ-loop
+returns c =
+    let start = c .before .before .before .before .before .before in
+    let all : c .before .loop .c ≡ 256 = omega arith in
+    entries-all 255 _ _ _ (start .args .row .now) _ 256 (rw all at (c .before .loop .inv .2)) (omega arith)
+
+pub fill-row-spec : {M : Type 1} → statement M
+fill-row-spec =
+    tie.close
+    (tie.spec
+    Inv-loop
+    μ-loop
+    loop-holds
+    reached-requires
+    entry-requires
+    slice-write-row
+    add-c
+    loop-less
+    loop-again
+    same-length
+    returns)

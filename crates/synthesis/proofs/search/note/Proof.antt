@@ -1,0 +1,55 @@
+-- `search::note` meets its contract.
+use native.Mathlib.Omega.{arith}
+use borrow.Author.Needs.{needs}
+use Rattle.synthesis.proofs.HoldsLaws.{with-grows, held-still, held-old, held-full, held-new}
+use Rattle.synthesis.proofs.search.note.Statement.{statement}
+use Rattle.synthesis.proofs.search.note.Tie as tie
+
+returns : tie.Need-returns
+returns c l h = held-still 128 _ _ l _ h (c .if1 .taken) (with-grows l _)
+
+find-requires : tie.Need-find-requires
+find-requires c κs = search needs
+
+same-length : tie.Need-same-length
+same-length c = search needs
+
+returns-2 : tie.Need-returns-2
+returns-2 c l h = held-old 128 _ _ l (c .before .before .before .before .before .pre) h _ (search needs) (omega arith)
+
+same-length-2 : tie.Need-same-length-2
+same-length-2 c = search needs
+
+returns-3 : tie.Need-returns-3
+returns-3 c l h = held-full 128 _ _ l (c .before .before .before .before .before .before .pre) h _ (search needs) (omega arith)
+
+mul-list : tie.Need-mul-list
+mul-list c = search needs
+
+slice-write-list : tie.Need-slice-write-list
+slice-write-list c = search needs
+
+add-result : tie.Need-add-result
+add-result c = search needs
+
+same-length-3 : tie.Need-same-length-3
+same-length-3 c = search needs
+
+returns-4 : tie.Need-returns-4
+returns-4 c l h = held-new 128 _ _ l (c .before .before .before .before .before .before .pre) h _ (omega arith) (omega arith)
+
+pub note-spec : {M : Type 1} → statement M
+note-spec =
+    tie.close
+    (tie.spec
+    returns
+    find-requires
+    same-length
+    returns-2
+    same-length-2
+    returns-3
+    mul-list
+    slice-write-list
+    add-result
+    same-length-3
+    returns-4)

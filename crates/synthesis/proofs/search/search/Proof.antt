@@ -1,0 +1,74 @@
+-- `search::search` meets its contract. The array holds the equations found after the turns so far; the measure is how many turns are left.
+use Prim.Native.Nat.{_-_, _≤_}
+use mathlib.Core.Path.{_≡_}
+use mathlib.Core.Logic.{inl}
+use native.Mathlib.Omega.{arith}
+use native.Mathlib.Numerals.{add-one}
+use lib.ListN.{length}
+use lib.Seq.{take-suc-set}
+use borrow.Author.Needs.{needs}
+use Rattle.synthesis.specs.Search.{found}
+use Rattle.synthesis.specs.Arrays.{answerBy, Holds}
+use Rattle.synthesis.proofs.search.search.Statement.{statement}
+use Rattle.synthesis.proofs.search.search.Tie as tie
+
+abbrev Inv-loop : tie.InvT-loop
+Inv-loop after waiting falsities first list₀ n₀ k₀ list n k =
+    (k ≤ 128) × (length list ≡ 128) × Holds 128 list n (found 256 (answerBy after waiting falsities) k first)
+
+abbrev μ-loop : tie.MeasureT-loop
+μ-loop after waiting falsities first list₀ n₀ k₀ list n k = 128 - k
+
+slice-write-list : tie.Need-slice-write-list Inv-loop μ-loop
+slice-write-list c = search needs
+
+loop-holds : tie.Need-loop-holds Inv-loop μ-loop
+unfolding found
+loop-holds c =
+    let start = c .before .before .before in (
+      search needs,
+      search needs,
+      inl (search needs, take-suc-set (start .args .list .now) 0 (start .args .first) (omega arith)),
+    )
+
+take-turn-requires : tie.Need-take-turn-requires Inv-loop μ-loop
+take-turn-requires c κs = search needs
+
+add-k : tie.Need-add-k Inv-loop μ-loop
+add-k c = search needs
+
+loop-less : tie.Need-loop-less Inv-loop μ-loop
+loop-less c = search needs
+
+loop-again : tie.Need-loop-again Inv-loop μ-loop
+unfolding found
+loop-again c =
+    let taken = c .before .before in
+    let l = taken .before .before .before in (
+      search needs,
+      search needs,
+      rw (add-one (l .loop .k)) (taken .take-turn .ensures _ (l .loop .inv .2)),
+    )
+
+same-length : tie.Need-same-length Inv-loop μ-loop
+same-length c = search needs
+
+returns : tie.Need-returns Inv-loop μ-loop
+returns c =
+    let all : c .before .loop .k ≡ 128 = omega arith in
+    rw all at (c .before .loop .inv .2)
+
+pub search-spec : {M : Type 1} → statement M
+search-spec =
+    tie.close
+    (tie.spec
+    Inv-loop
+    μ-loop
+    slice-write-list
+    loop-holds
+    take-turn-requires
+    add-k
+    loop-less
+    loop-again
+    same-length
+    returns)

@@ -1,0 +1,125 @@
+-- What the crate's own functions say of their arrays.
+use Prim.Native.Nat.{ℕ, suc, _/_, _≤_, _<_}
+use mathlib.Core.Path.{_≡_}
+use mathlib.Core.Logic.{_↔_, _⊎_}
+use mathlib.Core.Bool.{Bool, true, false, cond}
+use mathlib.Core.List.{List, [], _∷_, map}
+use lib.ListN.{length, getD, take}
+use Rattle.reading.specs.Formula.{Formula, necessity, max, size}
+use Rattle.reading.specs.Rule.{Rule, WellFormedRule}
+use Rattle.reading.specs.Nodes.{EnclosingMax, Node}
+use Rattle.reading.specs.Numbered.{numbered}
+use Rattle.reading.specs.Pattern.{covers}
+use Rattle.reading.specs.declared.Pattern.{Pattern}
+use Rattle.reading.specs.declared.NumberedRule.{NumberedRule}
+use Rattle.synthesis.specs.Violation.{coveredBy}
+use Rattle.synthesis.specs.Monitor.{Answer}
+use Rattle.synthesis.specs.NodeSet.{Has, has, none, single, union, common}
+use Rattle.synthesis.specs.Answering.{opening, opensAround, falsities, judged, firstOf}
+use Rattle.synthesis.specs.declared.graph.Graph.{Graph}
+
+-- ---- the nodes of a rule
+
+-- The kinds and the arguments are those of the nodes of a well-formed rule.
+pub record IsRule (r : Rule) (kinds args : List ℕ) : Type 0 where
+  pub well-formed : WellFormedRule r
+  pub kinds-are : kinds ≡ numbered r .kinds
+  pub args-are : args ≡ numbered r .args
+
+-- node k is one of some such rule
+pub record SomeNode (kinds args : List ℕ) (k : ℕ) : Type 0 where
+  pub rule : Rule
+  pub is-rule : IsRule rule kinds args
+  pub below : k < size (rule .formula)
+
+-- what opening each of some nested maxes gives, as an array has it
+abbrev pub listedAround : List ℕ → List EnclosingMax → List ℕ
+listedAround opened ms = map (λ m. getD opened (m .number) 0) ms
+
+-- Nothing stands in the array from k on.
+abbrev pub ZeroFrom : ℕ → List ℕ → Type 0
+ZeroFrom k xs = (j : ℕ) → k ≤ j → getD xs j 0 ≡ 0
+
+-- `e` is what opening node k gives, where the array has what opening the maxes before it gives.
+pub record IsOpening (kinds args opened : List ℕ) (k e : ℕ) : Type 0 where
+  pub is : (r : Rule) → IsRule r kinds args → ZeroFrom k opened → (ms : List EnclosingMax) (f : Formula) → Node (r .formula) k ms f
+      → e ≡ opening k (listedAround opened ms) f
+
+-- Two arrays have, for each node below k, what opening it gives where it is a max, and what opening the formula after it gives where it
+-- is a necessity.
+pub record Linked (r : Rule) (k : ℕ) (opened after : List ℕ) : Type 0 where
+  pub opened-is : (j : ℕ) (ms : List EnclosingMax) (f : Formula) → j < k → Node (r .formula) j ms (max f)
+      → getD opened j 0 ≡ opening j (opensAround ms) (max f)
+  pub opened-yet : ZeroFrom k opened
+  pub after-is : (j p : ℕ) (ms : List EnclosingMax) (f : Formula) → j < k → Node (r .formula) j ms (necessity p f)
+      → getD after j 0 ≡ opening (suc j) (opensAround ms) f
+
+-- the second alone, for every node
+pub record AfterAll (r : Rule) (after : List ℕ) : Type 0 where
+  pub is : (j p : ℕ) (ms : List EnclosingMax) (f : Formula) → Node (r .formula) j ms (necessity p f)
+      → getD after j 0 ≡ opening (suc j) (opensAround ms) f
+
+-- ---- sets by a test
+
+-- the set with node k where the test holds
+abbrev pub withNode : (set k : ℕ) → Bool → ℕ
+withNode e k true = union e (single k)
+withNode e k false = e
+
+-- The set has those of the first n nodes that are of a kind.
+pub record HasKind (kind : ℕ) (kinds : List ℕ) (n e : ℕ) : Type 0 where
+  pub is : (j : ℕ) → Has e j ↔ ((j < n) × (getD kinds j 0 ≡ kind))
+
+-- ---- the answers of equations
+
+-- Node k was put into the set of each code that the pattern covers.
+pub record Marked (p : Pattern) (k : ℕ) (before after : List ℕ) : Type 0 where
+  pub is : (c : ℕ) → c < 256 → getD after c 0 ≡ withNode (getD before c 0) k (covers p c)
+
+-- a numbered rule is that of r
+pub record IsNumbered (r : Rule) (n : NumberedRule) : Type 0 where
+  pub is-rule : IsRule r (n .kinds) (n .args)
+  pub patterns-are : n .patterns ≡ numbered r .patterns
+  pub nnodes-is : n .nnodes ≡ size (r .formula)
+
+-- it is that of some rule with a node k
+pub record SomeNumbered (n : NumberedRule) (k : ℕ) : Type 0 where
+  pub rule : Rule
+  pub is-numbered : IsNumbered rule n
+  pub below : k < size (rule .formula)
+
+-- Node n waits for the code c: it is a necessity whose pattern covers c.
+abbrev pub WaitsFor : Rule → (c n : ℕ) → Type 0
+WaitsFor r c n = (p : ℕ) × (ms : List EnclosingMax) × (f : Formula) × Node (r .formula) n ms (necessity p f) × (coveredBy (r .patterns) p c ≡ true)
+
+-- The array has, for each code, the nodes below k that wait for it.
+pub record Waiting (r : Rule) (k : ℕ) (waiting : List ℕ) : Type 0 where
+  pub is : (c n : ℕ) → c < 256 → Has (getD waiting c 0) n ↔ ((n < k) × WaitsFor r c n)
+
+-- the same for all nodes
+pub record WaitingAll (r : Rule) (waiting : List ℕ) : Type 0 where
+  pub is : (c n : ℕ) → c < 256 → Has (getD waiting c 0) n ↔ WaitsFor r c n
+
+-- what a `Graph` has of a rule
+pub record IsGraph (r : Rule) (g : Graph) : Type 0 where
+  pub first-is : g .first ≡ firstOf r
+  pub falsities-are : g .falsities ≡ falsities 0 (r .formula)
+  pub after-is : AfterAll r (g .after)
+  pub waiting-is : WaitingAll r (g .waiting)
+  pub after-length : length (g .after) ≡ 64
+  pub waiting-length : length (g .waiting) ≡ 256
+
+-- the union of those sets of a list whose places are in `live`
+abbrev pub gathered : List ℕ → (live : ℕ) → ℕ
+gathered [] live = none
+gathered (x ∷ xs) live = union (cond (has live 0) x none) (gathered xs (live / 2))
+
+-- The answer of the equation e to the code c from the arrays of a graph: `after` for each node, `waiting` for each code.
+unfoldable pub answerBy : (after waiting : List ℕ) (falsities e c : ℕ) → Answer ℕ
+answerBy after waiting falsities e c = judged falsities (gathered after (common e (getD waiting c 0)))
+
+-- ---- the search
+
+-- The first n places of the array are the list; or the list is over the limit, and n is one more than the limit.
+abbrev pub Holds : (limit : ℕ) → List ℕ → (n : ℕ) → List ℕ → Type 0
+Holds limit a n l = ((n ≤ limit) × (take n a ≡ l)) ⊎ ((n ≡ suc limit) × (limit < length l))

@@ -1,0 +1,12 @@
+-- In the order in which to read them. `Arrays` and `Plans` serve the crate's own functions alone.
+pub mod Violation
+pub mod Monitor
+pub mod NodeSet
+pub mod Opening
+pub mod Answering
+pub mod Search
+pub mod Table
+pub mod Building
+pub mod Promises
+pub mod Arrays
+pub mod Plans

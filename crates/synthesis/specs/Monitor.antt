@@ -1,0 +1,41 @@
+-- Monitors with equations of any type, their runs over lists of codes, and what it is to monitor a rule.
+use Prim.Native.Nat.{ℕ}
+use mathlib.Core.Path.{_≡_}
+use mathlib.Core.Logic.{_↔_}
+use mathlib.Core.List.{List, [], _∷_}
+use Rattle.reading.specs.Rule.{Rule, Bytes}
+use Rattle.synthesis.specs.Violation.{ViolatesRule}
+
+-- What an equation answers to a code: the scan is dropped and the equation stays, or the scan is kept and this is the next equation.
+pub data Answer (E : Type 0) : Type 0 where
+  dropped : Answer E
+  next : E → Answer E
+
+abbrev pub cases : {E A : Type 0} → Answer E → (if-dropped : A) → (if-next : E → A) → A
+cases dropped x f = x
+cases (next e) x f = f e
+
+module _ {E : Type 0} (answer : E → ℕ → Answer E) where
+  -- the scans that a run from the equation e keeps
+  abbrev pub kept : E → List ℕ → List ℕ
+  kept e [] = []
+  kept e (c ∷ w) = cases (answer e c) (kept e w) (λ e′. c ∷ kept e′ w)
+
+  -- a verdict for each scan: 1 dropped, 0 kept
+  abbrev pub verdicts : E → List ℕ → List ℕ
+  verdicts e [] = []
+  verdicts e (c ∷ w) = cases (answer e c) (1 ∷ verdicts e w) (λ e′. 0 ∷ verdicts e′ w)
+
+  -- the equation in which the run ends
+  abbrev pub ended : E → List ℕ → E
+  ended e [] = e
+  ended e (c ∷ w) = cases (answer e c) (ended e w) (λ e′. ended e′ w)
+
+  -- the run drops something
+  pub data Loses : E → List ℕ → Type 0 where
+    now : {e : E} {c : ℕ} {w : List ℕ} → answer e c ≡ dropped → Loses e (c ∷ w)
+    later : {e e′ : E} {c : ℕ} {w : List ℕ} → answer e c ≡ next e′ → Loses e′ w → Loses e (c ∷ w)
+
+-- Begun in its first equation, the monitor drops something of exactly the lists of codes that violate the rule.
+abbrev pub Monitors : {E : Type 0} → Rule → (answer : E → ℕ → Answer E) → (first : E) → Type 0
+Monitors r answer first = (w : List ℕ) → Bytes w → ViolatesRule r w ↔ Loses answer first w

@@ -1,0 +1,34 @@
+-- What the crate's own functions say of the plan for a table.
+use Prim.Native.Nat.{_≤_}
+use mathlib.Core.Path.{_≡_}
+use mathlib.Core.List.{List}
+use lib.ListN.{length, take}
+use Rattle.reading.specs.Outcome.{Outcome, accepted, refused}
+use Rattle.reading.specs.declared.Answer.{Answer}
+use Rattle.reading.specs.declared.Answer.the-variants.{Accepted, Refused}
+use Rattle.synthesis.specs.Building.{Synthesis, countedOf}
+use Rattle.synthesis.specs.Arrays.{IsGraph}
+use Rattle.synthesis.specs.declared.Counted.{Counted}
+use Rattle.synthesis.specs.declared.Counted.the-variants as counted
+use Rattle.synthesis.specs.declared.Plan.{Plan}
+
+-- The refusal of a file that couldn't be read; one that could isn't asked for.
+abbrev pub refusalOf : Answer → Counted
+refusalOf Accepted = counted.Refused 0 0
+refusalOf (Refused number place) = counted.Refused number place
+
+-- what a plan has to fill the rows of a synthesis from
+pub record Fills (y : Synthesis) (p : Plan) : Type 0 where
+  pub graph-is : IsGraph (y .rule) (p .graph)
+  pub found-is : take (length (y .equations)) (p .found) ≡ y .equations
+  pub few : length (y .equations) ≤ 128
+  pub found-length : length (p .found) ≡ 128
+
+abbrev pub CanFill : Outcome Synthesis → Plan → Type 0
+CanFill (accepted y) p = Fills y p
+CanFill (refused number place) p = Unit
+
+-- the plan of each outcome
+pub record IsPlan (o : Outcome Synthesis) (p : Plan) : Type 0 where
+  pub answer-is : p .answer ≡ countedOf o
+  pub fills : CanFill o p

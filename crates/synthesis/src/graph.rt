@@ -1,0 +1,184 @@
+// What the answers of a rule's equations are worked out from: sets of its nodes, node n as bit n.
+use reading::NumberedRule;
+use reading::Pattern;
+ghost use mathlib.Core.Path.{_≡_};
+ghost use Prim.Native.Nat.{ℕ, _+_, _≤_, _<_};
+ghost use lib.ListN.{length, replicate};
+ghost use Rattle.reading.specs.Formula.{size};
+ghost use Rattle.reading.specs.Rule.{Rule};
+ghost use Rattle.synthesis.specs.Arrays.{IsRule, SomeNode, IsOpening, Linked, AfterAll, withNode, HasKind, Marked, IsNumbered, SomeNumbered, Waiting, WaitingAll, IsGraph};
+
+const FALSITY: u8 = 3;
+
+const BOTH: u8 = 4;
+
+const NECESSITY: u8 = 5;
+
+const MAX: u8 = 6;
+
+const VARIABLE: u8 = 7;
+
+// The first equation and the ff nodes of a rule; for each node that is a necessity, what opening the formula after it gives; for each
+// code, the necessities whose patterns cover it.
+pub(crate) struct Graph {
+    pub(crate) first: u64,
+    pub(crate) falsities: u64,
+    pub(crate) after: [u64; 64],
+    pub(crate) waiting: [u64; 256],
+}
+
+// The graph of no rule.
+pub(crate) fn empty() -> Graph {
+    let after = [0u64; 64];
+    let waiting = [0u64; 256];
+    Graph {
+        first: 0,
+        falsities: 0,
+        after,
+        waiting,
+    }
+}
+
+// What opening node k gives, where `opened` has what opening each max before it gives.
+fn opening(kinds: &[u8], args: &[u8], opened: &[u64], k: usize) -> u64
+    requires { ⌜ SomeNode (now kinds) (now args) k × (length (now opened) ≡ 64) ⌝ }
+    ensures { λ r. ⌜ IsOpening (now (kinds .entry)) (now (args .entry)) (now (opened .entry)) k r ⌝ }
+{
+    let kind = kinds[k];
+    let arg = args[k] as usize;
+    if kind == BOTH {
+        let first = opening(kinds, args, opened, k + 1);
+        let second = opening(kinds, args, opened, arg);
+        return first | second;
+    }
+    if kind == MAX {
+        return opening(kinds, args, opened, k + 1);
+    }
+    if kind == VARIABLE {
+        return opened[arg];
+    }
+    if kind == FALSITY {
+        return 1 << k;
+    }
+    if kind == NECESSITY {
+        return 1 << k;
+    }
+    0
+}
+
+// Puts what opening node k gives, where it is a max, and what opening the formula after it gives, where it is a necessity.
+fn link(kinds: &[u8], args: &[u8], k: usize, opened: &mut [u64], after: &mut [u64])
+    requires { ⌜ SomeNode (now kinds) (now args) k × (length (now opened) ≡ 64) × (length (now after) ≡ 64) ⌝ }
+    ensures { λ _. ⌜ ((r : Rule) → IsRule r (now (kinds .entry)) (now (args .entry)) → Linked r k (now (opened .entry)) (now (after .entry))
+        → Linked r (k + 1) (now (opened .exit)) (now (after .exit))) ⌝ }
+{
+    let kind = kinds[k];
+    if kind == MAX {
+        opened[k] = opening(kinds, args, opened, k + 1);
+        return;
+    }
+    if kind == NECESSITY {
+        after[k] = opening(kinds, args, opened, k + 1);
+    }
+}
+
+// Puts, for each necessity among n nodes, what opening the formula after it gives.
+fn link_all(kinds: &[u8], args: &[u8], n: usize, after: &mut [u64])
+    requires { ⌜ ((k : ℕ) → k < n → SomeNode (now kinds) (now args) k) × (length (now after) ≡ 64) ⌝ }
+    ensures { λ _. ⌜ ((r : Rule) → IsRule r (now (kinds .entry)) (now (args .entry)) → size (r .formula) ≤ n → AfterAll r (now (after .exit))) ⌝ }
+{
+    let mut opened = [0u64; 64];
+    let mut k = 0;
+    while k < n {
+        link(kinds, args, k, &mut opened, after);
+        k += 1;
+    }
+}
+
+// The set with node k, where the test holds.
+fn with_node(set: u64, k: usize, holds: bool) -> u64
+    requires { ⌜ k < 64 ⌝ }
+    ensures { λ r. ⌜ r ≡ withNode set k holds ⌝ }
+{
+    if holds {
+        return set | (1 << k);
+    }
+    set
+}
+
+// The ff nodes among the first n.
+fn falsities(kinds: &[u8], n: usize) -> u64
+    requires { ⌜ (n ≤ 64) × (length (now kinds) ≡ 64) ⌝ }
+    ensures { λ r. ⌜ HasKind 3 (now (kinds .entry)) n r ⌝ }
+{
+    let mut set = 0;
+    let mut k = 0;
+    while k < n {
+        set = with_node(set, k, kinds[k] == FALSITY);
+        k += 1;
+    }
+    set
+}
+
+// Puts node k into the set of each code that the pattern covers.
+fn mark(p: Pattern, k: usize, waiting: &mut [u64])
+    requires { ⌜ (k < 64) × (length (now waiting) ≡ 256) ⌝ }
+    ensures { λ _. ⌜ Marked p k (now (waiting .entry)) (now (waiting .exit)) ⌝ }
+{
+    let mut c = 0;
+    while c < 256 {
+        waiting[c] = with_node(waiting[c], k, reading::covers(p, c as u8));
+        c += 1;
+    }
+}
+
+// The same where node k is a necessity, for its pattern.
+fn wait(rule: NumberedRule, k: usize, waiting: &mut [u64])
+    requires { ⌜ SomeNumbered rule k × (length (now waiting) ≡ 256) ⌝ }
+    ensures { λ _. ⌜ ((r : Rule) → IsNumbered r rule → Waiting r k (now (waiting .entry)) → Waiting r (k + 1) (now (waiting .exit))) ⌝ }
+{
+    let kinds = rule.kinds;
+    if kinds[k] != NECESSITY {
+        return;
+    }
+    let args = rule.args;
+    let patterns = rule.patterns;
+    let i = args[k] as usize;
+    mark(patterns[i], k, waiting);
+}
+
+// Puts, for each code, the necessities whose patterns cover it.
+fn wait_all(rule: NumberedRule, waiting: &mut [u64])
+    requires { ⌜ SomeNumbered rule 0 × (now waiting ≡ replicate 256 0) ⌝ }
+    ensures { λ _. ⌜ ((r : Rule) → IsNumbered r rule → WaitingAll r (now (waiting .exit))) ⌝ }
+{
+    let n = rule.nnodes;
+    let mut k = 0;
+    while k < n {
+        wait(rule, k, waiting);
+        k += 1;
+    }
+}
+
+// The graph of a rule.
+pub(crate) fn of_rule(rule: NumberedRule) -> Graph
+    requires { ⌜ SomeNumbered rule 0 ⌝ }
+    ensures { λ g. ⌜ ((r : Rule) → IsNumbered r rule → IsGraph r g) ⌝ }
+{
+    let kinds = rule.kinds;
+    let args = rule.args;
+    let n = rule.nnodes;
+    let opened = [0u64; 64];
+    let first = opening(&kinds, &args, &opened, 0);
+    let falsities = falsities(&kinds, n);
+    let mut after = [0u64; 64];
+    link_all(&kinds, &args, n, &mut after);
+    let mut waiting = [0u64; 256];
+    wait_all(rule, &mut waiting);
+    Graph {
+        first,
+        falsities,
+        after,
+        waiting,
+    }
+}

@@ -1,0 +1,115 @@
+// Builds the monitor of a rule as a table. The definitions that the contracts cite stand in specs/.
+mod filling;
+mod graph;
+mod search;
+
+use graph::Graph;
+use reading::Answer;
+ghost use mathlib.Core.Path.{_≡_};
+ghost use lib.ListN.{length};
+ghost use Rattle.synthesis.specs.Table.{rowOf};
+ghost use Rattle.synthesis.specs.Building.{synthesisOf, buildingOf, countedOf, tableAfter};
+ghost use Rattle.synthesis.specs.Plans.{refusalOf, IsPlan};
+
+// What is said of a rule file: how many equations its rule has, or a refusal with a number and a place.
+pub enum Counted {
+    Equations(usize),
+    Refused(u8, usize),
+}
+
+// The answer to a rule file, and what its table is filled from: the graph of the rule and its equations.
+struct Plan {
+    answer: Counted,
+    graph: Graph,
+    found: [u64; 128],
+}
+
+// The refusal of a rule file that couldn't be read.
+fn refusal(answer: Answer) -> Counted
+    ensures { λ r. ⌜ r ≡ refusalOf answer ⌝ }
+{
+    match answer {
+        Answer::Accepted => Counted::Refused(0, 0),
+        Answer::Refused(number, place) => Counted::Refused(number, place),
+    }
+}
+
+// The plan of a refused rule file.
+fn no_plan(answer: Counted) -> Plan
+    ensures { λ r. ⌜ r .answer ≡ answer ⌝ }
+{
+    let graph = graph::empty();
+    let found = [0u64; 128];
+    Plan {
+        answer,
+        graph,
+        found,
+    }
+}
+
+// Reads a rule file and finds the equations of its rule.
+fn plan_of(rule: &[u8]) -> Plan
+    ensures { λ r. ⌜ IsPlan (synthesisOf 128 (now (rule .entry))) r ⌝ }
+{
+    let reading = reading::read_rule(rule);
+    let answer = reading.answer;
+    let Answer::Accepted = answer else {
+        return no_plan(refusal(answer));
+    };
+    let graph = graph::of_rule(reading.rule);
+    if graph.first & graph.falsities != 0 {
+        return no_plan(Counted::Refused(8, 0));
+    }
+    let mut found = [0u64; 128];
+    let after = graph.after;
+    let waiting = graph.waiting;
+    let count = search::search(&after, &waiting, graph.falsities, graph.first, &mut found);
+    if 128 < count {
+        return no_plan(Counted::Refused(9, 0));
+    }
+    Plan {
+        answer: Counted::Equations(count),
+        graph,
+        found,
+    }
+}
+
+// How many equations the rule of a file has.
+pub fn count(rule: &[u8]) -> Counted
+    ensures { λ r. ⌜ r ≡ countedOf (synthesisOf 128 (now (rule .entry))) ⌝ }
+{
+    plan_of(rule).answer
+}
+
+// Fills a table with a row for each equation of the rule of a file.
+pub fn build(rule: &[u8], table: &mut [u8]) -> Counted
+    ensures { λ r. ⌜ r ≡ countedOf (buildingOf 128 (now (rule .entry)) (length (now (table .entry)))) ⌝ }
+    ensures { λ _. ⌜ now (table .exit) ≡ tableAfter (buildingOf 128 (now (rule .entry)) (length (now (table .entry)))) (now (table .entry)) ⌝ }
+{
+    if table.len() < 32768 {
+        return Counted::Refused(10, 0);
+    }
+    let plan = plan_of(rule);
+    let answer = plan.answer;
+    let Counted::Equations(n) = answer else {
+        return answer;
+    };
+    let graph = plan.graph;
+    let after = graph.after;
+    let waiting = graph.waiting;
+    let found = plan.found;
+    filling::fill(&after, &waiting, graph.falsities, &found, n, table);
+    answer
+}
+
+// The row of equation k, a part of the table; empty where it isn't wholly inside.
+pub fn row(table: &[u8], k: usize) -> &[u8]
+    ensures { λ r. ⌜ now r ≡ rowOf 256 (now (table .entry)) k ⌝ }
+{
+    if k < table.len() / 256 {
+        let from = 256 * k;
+        let to = from + 256;
+        return &table[from..to];
+    }
+    &table[0..0]
+}

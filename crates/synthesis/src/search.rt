@@ -1,0 +1,147 @@
+// The search for the equations of a rule. They are numbered by their places in an array.
+ghost use mathlib.Core.Path.{_≡_};
+ghost use Prim.Native.Nat.{_≤_, _<_};
+ghost use mathlib.Core.List.{List};
+ghost use Prim.Native.Nat.{ℕ};
+ghost use lib.ListN.{length, getD, take};
+ghost use Rattle.synthesis.specs.Monitor.{cases};
+ghost use Rattle.synthesis.specs.NodeSet.{common};
+ghost use Rattle.synthesis.specs.Answering.{judged};
+ghost use Rattle.synthesis.specs.Search.{place, with, noted, turn, found};
+ghost use Rattle.synthesis.specs.Arrays.{gathered, answerBy, Holds};
+
+// The union of those sets whose places are in `live`.
+fn gather(sets: &[u64], live: u64) -> u64
+    requires { ⌜ length (now sets) ≡ 64 ⌝ }
+    ensures { λ r. ⌜ r ≡ gathered (now (sets .entry)) live ⌝ }
+{
+    let mut rest = live;
+    let mut all = 0;
+    while rest != 0 {
+        let i = u64::trailing_zeros(rest) as usize;
+        all = all | sets[i];
+        rest = rest ^ (1 << i);
+    }
+    all
+}
+
+// The nodes that an equation reaches under a code; with an ff node among them, the code is dropped.
+pub(crate) fn reached(after: &[u64], waiting: &[u64], e: u64, c: usize) -> u64
+    requires { ⌜ (length (now after) ≡ 64) × (c < length (now waiting)) ⌝ }
+    ensures { λ r. ⌜ r ≡ gathered (now (after .entry)) (common e (getD (now (waiting .entry)) c 0)) ⌝ }
+{
+    gather(after, e & waiting[c])
+}
+
+// The place of a set among the first n of the list, or n.
+pub(crate) fn find(list: &[u64], n: usize, e: u64) -> usize
+    requires { ⌜ n ≤ length (now list) ⌝ }
+    ensures { λ r. ⌜ r ≡ place e (take n (now (list .entry))) ⌝ }
+{
+    let mut i = 0;
+    while i < n {
+        if list[i] == e {
+            return i;
+        }
+        i += 1;
+    }
+    n
+}
+
+// Puts a set after the first n of the list if it is new. One more than the 128 places says that it was one too many.
+fn note(list: &mut [u64], n: usize, e: u64) -> usize
+    requires { ⌜ length (now list) ≡ 128 ⌝ }
+    ensures { λ r. ⌜ ((l : List ℕ) → Holds 128 (now (list .entry)) n l → Holds 128 (now (list .exit)) r (with l e)) ⌝ }
+{
+    if 128 < n {
+        return n;
+    }
+    let i = find(list, n, e);
+    if i < n {
+        return n;
+    }
+    if n == 128 {
+        return 129;
+    }
+    list[n] = e;
+    n + 1
+}
+
+// Notes the next equation, unless the set of reached nodes has an ff node.
+fn note_answer(list: &mut [u64], n: usize, falsities: u64, reached: u64) -> usize
+    requires { ⌜ length (now list) ≡ 128 ⌝ }
+    ensures { λ r. ⌜ ((l : List ℕ) → Holds 128 (now (list .entry)) n l
+        → Holds 128 (now (list .exit)) r (cases (judged falsities reached) l (with l))) ⌝ }
+{
+    if reached & falsities != 0 {
+        return n;
+    }
+    note(list, n, reached)
+}
+
+// Notes what an equation answers to each code.
+fn note_row(
+    after: &[u64],
+    waiting: &[u64],
+    falsities: u64,
+    list: &mut [u64],
+    n: usize,
+    e: u64,
+) -> usize
+    requires { ⌜ (length (now after) ≡ 64) × (length (now waiting) ≡ 256) × (length (now list) ≡ 128) ⌝ }
+    ensures { λ r. ⌜ ((l : List ℕ) → Holds 128 (now (list .entry)) n l
+        → Holds 128 (now (list .exit)) r (noted 256 (answerBy (now (after .entry)) (now (waiting .entry)) falsities) e 256 l)) ⌝ }
+{
+    let mut m = n;
+    let mut c: usize = 0;
+    while c < 256 {
+        let e2 = reached(after, waiting, e, c);
+        m = note_answer(list, m, falsities, e2);
+        c += 1;
+    }
+    m
+}
+
+// The same for equation k, if there is one.
+fn take_turn(
+    after: &[u64],
+    waiting: &[u64],
+    falsities: u64,
+    list: &mut [u64],
+    n: usize,
+    k: usize,
+) -> usize
+    requires { ⌜ (length (now after) ≡ 64) × (length (now waiting) ≡ 256) × (length (now list) ≡ 128) × (k < 128) ⌝ }
+    ensures { λ r. ⌜ ((l : List ℕ) → Holds 128 (now (list .entry)) n l
+        → Holds 128 (now (list .exit)) r (turn 256 (answerBy (now (after .entry)) (now (waiting .entry)) falsities) k l)) ⌝ }
+{
+    if 128 < n {
+        return n;
+    }
+    if n <= k {
+        return n;
+    }
+    let e = list[k];
+    note_row(after, waiting, falsities, list, n, e)
+}
+
+// Finds the equations from the first on, and says how many there are; 129 where they are over 128.
+pub(crate) fn search(
+    after: &[u64],
+    waiting: &[u64],
+    falsities: u64,
+    first: u64,
+    list: &mut [u64],
+) -> usize
+    requires { ⌜ (length (now after) ≡ 64) × (length (now waiting) ≡ 256) × (length (now list) ≡ 128) ⌝ }
+    ensures { λ r. ⌜ Holds 128 (now (list .exit)) r (found 256 (answerBy (now (after .entry)) (now (waiting .entry)) falsities) 128 first) ⌝ }
+{
+    list[0] = first;
+    let mut n: usize = 1;
+    let mut k: usize = 0;
+    while k < 128 {
+        n = take_turn(after, waiting, falsities, list, n, k);
+        k += 1;
+    }
+    n
+}
