@@ -4,7 +4,7 @@ from random import Random
 
 import known
 from shapes import BOTH, FALSITY, FULL, LONGEST, MAX, ONE, TRUTH, after, pattern, variable
-from shapes import bad_rules, longest_rules, random_rules
+from shapes import bad_rules, longest_rules, random_rules, telling_patterns
 
 # Numbers at the edges of what a record's bytes can mean.
 EDGES = [0, 1, 2, 3, 4, 5, 6, 7, 8, 16, 31, 32, 33, 63, 64, 127, 128, 255]
@@ -20,9 +20,7 @@ def tiny_files():
 
 def pattern_files():
     """Every mask, every two slots in order, and slots at the edges."""
-    masks = [pattern(mask, mask % 7, mask % 7 + mask % 25) for mask in range(1, 256)]
-    slots = [pattern(1 << (first + last) % 8, first, last) for first in range(32) for last in range(first, 32)]
-    good = masks + slots
+    good = telling_patterns()
     full = [b"".join(good[i : i + 32]) + TRUTH for i in range(0, len(good), 32)]
     edges = [0, 1, 5, 30, 31, 32, 33, 63, 128, 255]
     return full + [ONE + pattern(*odd) + TRUTH for odd in product((0, 1, 128), edges, edges)]

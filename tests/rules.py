@@ -1,5 +1,6 @@
 """A rule file, read from the paper's words alone: its patterns and its formula, or a refusal."""
 from dataclasses import dataclass
+from functools import cache
 
 MOST_PATTERNS = 32
 MOST_NODES = 64
@@ -16,6 +17,9 @@ class Refusal(Exception):
         self.number = number
         self.place = place
 
+    def __str__(self):
+        return f"refused {self.number} at {self.place}"
+
 
 @dataclass(frozen=True)
 class Pattern:
@@ -23,11 +27,12 @@ class Pattern:
     first: int
     last: int
 
+    @cache
     def codes(self):
         """The codes of every kind in the mask with every slot from first to last."""
         kinds = [kind for kind in range(8) if self.mask & 2**kind]
         slots = range(self.first, self.last + 1)
-        return {32 * kind + slot for kind in kinds for slot in slots}
+        return frozenset(32 * kind + slot for kind in kinds for slot in slots)
 
     def lowest(self):
         return min(self.codes())
@@ -36,27 +41,27 @@ class Pattern:
         return len(self.codes())
 
 
-# The formulas. Each class has the kind of its node.
+# The formulas. Each class has the kind of its node. Equal parts at two places are two nodes: they are told apart.
 
 
-@dataclass(frozen=True)
+@dataclass(frozen=True, eq=False)
 class Truth:
     kind = 2
 
 
-@dataclass(frozen=True)
+@dataclass(frozen=True, eq=False)
 class Falsity:
     kind = 3
 
 
-@dataclass(frozen=True)
+@dataclass(frozen=True, eq=False)
 class Both:
     left: object
     right: object
     kind = 4
 
 
-@dataclass(frozen=True)
+@dataclass(frozen=True, eq=False)
 class After:
     """The necessity: after each code of the pattern of that number, the body."""
 
@@ -65,13 +70,13 @@ class After:
     kind = 5
 
 
-@dataclass(frozen=True)
+@dataclass(frozen=True, eq=False)
 class Max:
     body: object
     kind = 6
 
 
-@dataclass(frozen=True)
+@dataclass(frozen=True, eq=False)
 class Variable:
     """The variable of an enclosing max, depth 0 being the innermost."""
 

@@ -18,11 +18,19 @@ def variable(depth):
     return bytes([7, depth])
 
 
+ANY = pattern(255, 0, 31)
 ONE = pattern(1, 5, 5)
 FULL = ONE * 32
 
 # The longest beginning that has no fault: whatever byte comes next is refused.
 LONGEST = FULL + after(31) * 64
+
+
+def telling_patterns():
+    """Patterns with every mask, and with every two slots in order."""
+    masks = [pattern(mask, mask % 7, mask % 7 + mask % 25) for mask in range(1, 256)]
+    slots = [pattern(1 << (first + last) % 8, first, last) for first in range(32) for last in range(first, 32)]
+    return masks + slots
 
 
 def random_pattern(random):

@@ -5,20 +5,17 @@ file. Each case has one line on its standard output. With --check nothing is wri
 compared with what would be.
 """
 import sys
-from argparse import ArgumentParser
-from pathlib import Path
 
 import cases
 import known
+from expected import is_check, settle, three_bytes
 from rules import Refusal, numbered, read_rule
-
-CRATE = Path(__file__).resolve().parent.parent / "crates" / "vectors"
 
 
 def line_of(data):
     answer = read_rule(data)
     if isinstance(answer, Refusal):
-        return f"refused {answer.number} at {answer.place}"
+        return str(answer)
     words = ["accepted"]
     for p in answer.patterns:
         words.append(f"p {p.mask} {p.first} {p.last} {p.lowest()} {p.count()} {sum(p.codes())}")
@@ -34,20 +31,11 @@ def check_typed_answers():
 
 
 def main():
-    parser = ArgumentParser(description=__doc__, allow_abbrev=False)
-    parser.add_argument("--check", action="store_true")
-    is_check = parser.parse_args().check
+    checks = is_check(__doc__)
     check_typed_answers()
     files = cases.files()
     lines = [line_of(data) for data in files]
-    stdin = b"".join(len(data).to_bytes(3, "big") + data for data in files)
-    stdout = "".join(line + "\n" for line in lines).encode()
-    for name, content in (("stdin", stdin), ("stdout", stdout)):
-        path = CRATE / name
-        if not is_check:
-            path.write_bytes(content)
-        elif not path.is_file() or path.read_bytes() != content:
-            sys.exit(f"crates/vectors/{name} is not what tests/write_vectors.py writes")
+    settle("vectors", b"".join(three_bytes(len(data)) + data for data in files), lines, checks)
     accepted = sum(line.startswith("accepted") for line in lines)
     print(f"{len(files)} cases, {accepted} accepted")
 

@@ -1,0 +1,178 @@
+// Reads rule files from standard input, builds the table of each, and prints a line for each with what is said of it and left in it.
+// A case is a table's size and a file's length, each as three bytes, highest first, and then the rule file. The input ends after the last.
+use libc::STDIN_FILENO;
+use libc::STDOUT_FILENO;
+use synthesis::Counted;
+ghost use Prim.Native.Nat.{_<_};
+
+const PRIME: u64 = 1000000007;
+
+// 2^56: 256 times this is 2^64.
+const WRAPPING: usize = 72057594037927936;
+
+// What the head of a case says: a number, or that there is no case left.
+enum Head {
+    Number(usize),
+    Ended,
+}
+
+fn wide(x: u8) -> u64
+    ensures { λ r. ⌜ r < 256 ⌝ }
+{
+    x as u64
+}
+
+// Prints a space and a number.
+fn print_field(n: u64) {
+    io::write_all(STDOUT_FILENO, b" ");
+    io::print_decimal(STDOUT_FILENO, n);
+}
+
+// The number that the digits of `high` and then the bytes make in base 256, modulo the prime.
+fn digest(high: u64, bytes: &[u8]) -> u64
+    requires { ⌜ high < 1000000007 ⌝ }
+    ensures { λ r. ⌜ r < 1000000007 ⌝ }
+{
+    let mut sum = high;
+    let mut i = 0;
+    while i < bytes.len() {
+        sum = (sum * 256 + wide(bytes[i])) % PRIME;
+        i += 1;
+    }
+    sum
+}
+
+// The table that is lent: byte i is case + 7 × i, modulo 251.
+fn refresh(table: &mut [u8], case: u64) {
+    let mut byte = case % 251;
+    let mut i = 0;
+    while i < table.len() {
+        table[i] = byte as u8;
+        byte = (byte + 7) % 251;
+        i += 1;
+    }
+}
+
+fn print_counted(answer: Counted) {
+    match answer {
+        Counted::Equations(n) => {
+            io::write_all(STDOUT_FILENO, b"equations");
+            print_field(n as u64);
+        }
+        Counted::Refused(number, place) => {
+            io::write_all(STDOUT_FILENO, b"refused");
+            print_field(number as u64);
+            io::write_all(STDOUT_FILENO, b" at");
+            print_field(place as u64);
+        }
+    }
+}
+
+// How many rows were written.
+fn written(answer: Counted) -> usize {
+    match answer {
+        Counted::Equations(n) => n,
+        Counted::Refused(_, _) => 0,
+    }
+}
+
+// The digest of the first n rows, as they are handed back.
+fn rows_digest(table: &[u8], n: usize) -> u64 {
+    let mut sum = 0;
+    let mut k = 0;
+    while k < n {
+        sum = digest(sum, synthesis::row(table, k));
+        k += 1;
+    }
+    sum
+}
+
+// The digest of what stands behind the first n rows.
+fn behind_digest(table: &[u8], n: usize) -> u64 {
+    if n > table.len() / 256 {
+        return 0;
+    }
+    let from = n * 256;
+    digest(0, &table[from..])
+}
+
+fn print_row(table: &[u8], k: usize) {
+    let row = synthesis::row(table, k);
+    io::write_all(STDOUT_FILENO, b" r");
+    print_field(row.len() as u64);
+    print_field(digest(0, row));
+}
+
+fn print_table(table: &[u8], n: usize) {
+    io::write_all(STDOUT_FILENO, b" table");
+    print_field(digest(0, table));
+    io::write_all(STDOUT_FILENO, b" rows");
+    print_field(rows_digest(table, n));
+    io::write_all(STDOUT_FILENO, b" behind");
+    print_field(behind_digest(table, n));
+    print_row(table, n);
+    print_row(table, 127);
+    print_row(table, 128);
+    print_row(table, 155);
+    print_row(table, 156);
+    print_row(table, WRAPPING);
+    print_row(table, usize::MAX);
+}
+
+fn answer_rule(rule: &[u8], table: &mut [u8]) {
+    print_counted(synthesis::count(rule));
+    io::write_all(STDOUT_FILENO, b" ");
+    let built = synthesis::build(rule, table);
+    print_counted(built);
+    print_table(table, written(built));
+    io::write_all(STDOUT_FILENO, b"\n");
+}
+
+// Fills the space with a rule file, answers it, and says whether the file was whole.
+fn answer_file(space: &mut [u8], table: &mut [u8], case: u64) -> bool {
+    if io::read_full(STDIN_FILENO, space) < space.len() {
+        return false;
+    }
+    refresh(table, case);
+    answer_rule(space, table);
+    true
+}
+
+fn read_number() -> Head {
+    let mut head = [0u8; 3];
+    if io::read_full(STDIN_FILENO, &mut head) < 3 {
+        return Head::Ended;
+    }
+    Head::Number((wide(head[0]) * 65536 + wide(head[1]) * 256 + wide(head[2])) as usize)
+}
+
+// Answers the next case, and says whether there was one.
+fn answer_case(space: &mut [u8], table: &mut [u8], case: u64) -> bool {
+    let Head::Number(size) = read_number() else {
+        return false;
+    };
+    let Head::Number(n) = read_number() else {
+        return false;
+    };
+    if size > table.len() {
+        return false;
+    }
+    if n > space.len() {
+        return false;
+    }
+    answer_file(&mut space[..n], &mut table[..size], case)
+}
+
+// A proved loop has to end, and nothing says that the input does: so it has as many turns as 64 bits can count.
+fn answer_cases(space: &mut [u8], table: &mut [u8]) {
+    let mut case = 0;
+    while case < u64::MAX && answer_case(space, table, case) {
+        case += 1;
+    }
+}
+
+fn main() {
+    let mut space = [0u8; 1024];
+    let mut table = [0u8; 65536];
+    answer_cases(&mut space, &mut table);
+}

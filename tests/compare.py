@@ -1,0 +1,101 @@
+"""Holds violation and the equations against each other: on rules, on lists of codes, and on what was typed."""
+import sys
+from itertools import product
+from random import Random
+
+import known_equations
+import violation
+from equations import DROPPED_ENTRY, Equations, build, listing, rows_of, said
+from rules import Refusal, read_rule
+
+# Violation goes down a formula once for each code of a list.
+sys.setrecursionlimit(10000)
+
+
+class Disagreement(Exception):
+    """Says where two answers that should be one differ."""
+
+
+def expect(is_right, *where):
+    if not is_right:
+        raise Disagreement(*where)
+
+
+def lists_of_codes(random, equations):
+    """Every short list over a few codes that the rule's patterns tell apart, and longer ones."""
+    telling = list(dict(zip(equations.covering, range(256))).values())
+    few = random.sample(telling, min(len(telling), 4))
+    lists = [list(codes) for length in range(4) for codes in product(few, repeat=length)]
+    for _ in range(12):
+        some = random.sample(telling, min(len(telling), 3)) + [random.randrange(256)]
+        lists.append([random.choice(some) for _ in range(random.randrange(4, 13))])
+    return lists
+
+
+def verdicts_by_table(table, scans):
+    """Of each scan, whether it is dropped, by the rows of a table."""
+    state, dropped = 0, []
+    for scan in scans:
+        entry = table[state][scan]
+        dropped.append(entry == DROPPED_ENTRY)
+        if entry != DROPPED_ENTRY:
+            state = entry
+    return dropped
+
+
+def check_rows(table):
+    """Each number but 0 first appears, row by row, after the numbers below it, and all numbers appear."""
+    entries = [entry for row in table for entry in row if entry != DROPPED_ENTRY]
+    expect(list(dict.fromkeys([0] + entries)) == list(range(len(table))), "order")
+
+
+def check_rule(random, rule):
+    """A list violates a rule exactly when running its equations drops a scan of it; and a scan is dropped exactly
+    when the kept ones and then the scan violate the rule. Says how many lists were tried."""
+    equations = Equations(rule)
+    table = rows_of(equations)
+    is_built = not isinstance(table, Refusal)
+    if is_built:
+        check_rows(table)
+    lists = lists_of_codes(random, equations)
+    if equations.has_falsity(equations.first):
+        expect(all(violation.violates(rule, codes) for codes in lists), "ff")
+        return len(lists)
+    for codes in lists:
+        dropped = equations.verdicts(codes)
+        expect(violation.violates(rule, codes) == any(dropped), "violates", codes)
+        expect(not is_built or verdicts_by_table(table, codes) == dropped, "table", codes)
+    for scans in lists[::7]:
+        expect(violation.verdicts(rule, scans) == equations.verdicts(scans), "verdicts", scans)
+    return len(lists)
+
+
+def check_typed():
+    """What was typed is what the equations or violation say, and the verdicts are those of both."""
+    for data, typed in known_equations.listings():
+        expect(listing(data) == typed, "listing", listing(data))
+    for data, size, answer in known_equations.buildings():
+        expect(said(build(data, bytearray(size))) == answer, "building", list(data), size)
+    for data, scans, dropped in known_equations.verdicts():
+        rule = read_rule(data)
+        expect(Equations(rule).verdicts(scans) == dropped, "typed verdicts", list(scans))
+        expect(violation.verdicts(rule, list(scans)) == dropped, "typed verdicts, by violation", list(scans))
+    for data, codes, is_violating in known_equations.violations():
+        expect(violation.violates(read_rule(data), codes) == is_violating, "typed violation", list(data), list(codes))
+
+
+def check(files):
+    """Checks what was typed, and each of the files that holds a rule. Says how many rules and lists there were."""
+    check_typed()
+    random = Random(3)
+    rules = lists = 0
+    for data in files:
+        rule = read_rule(data)
+        if isinstance(rule, Refusal):
+            continue
+        try:
+            lists += check_rule(random, rule)
+        except Disagreement as disagreement:
+            raise Disagreement(list(data)) from disagreement
+        rules += 1
+    return rules, lists

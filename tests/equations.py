@@ -1,0 +1,143 @@
+"""The equations of a rule, their table and their listing, from the paper's words under "Equations" alone."""
+from functools import cache
+from itertools import groupby
+
+from rules import Refusal, numbered, read_rule
+
+CODES = 256
+MOST_EQUATIONS = 128
+LEAST_TABLE = 32768
+
+# What an equation answers to a code that it drops, in place of the next equation, and how the table has it.
+DROPPED = None
+DROPPED_ENTRY = 255
+
+
+class Equations:
+    """The equations of a rule. Each is a frozen set of numbers of necessities."""
+
+    def __init__(self, rule):
+        self.nodes = numbered(rule.formula)
+        covered = [pattern.codes() for pattern in rule.patterns]
+        self.covering = [frozenset(p for p, codes in enumerate(covered) if c in codes) for c in range(CODES)]
+        # Each node is opened once, and each equation answers once.
+        self.opened = cache(self.opened)
+        self.answers = cache(self.answers)
+        self.first = self.opened(0)
+
+    def opened(self, node):
+        """The ff nodes and the necessities that opening a node gives."""
+        kind, argument = self.nodes[node]
+        if kind == 2:
+            return frozenset()
+        if kind == 4:
+            return self.opened(node + 1) | self.opened(argument)
+        if kind == 6:
+            return self.opened(node + 1)
+        if kind == 7:
+            return self.opened(argument + 1)
+        return frozenset([node])
+
+    def has_falsity(self, opened):
+        return any(self.nodes[node][0] == 3 for node in opened)
+
+    def answer(self, equation, patterns):
+        """The answer to a code that these patterns cover."""
+        taken = [node for node in equation if self.nodes[node][1] in patterns]
+        opened = frozenset().union(*[self.opened(node + 1) for node in taken])
+        return DROPPED if self.has_falsity(opened) else opened
+
+    def answers(self, equation):
+        """The answers to all codes, ascending. Codes that the same patterns cover have the same."""
+        known = {patterns: self.answer(equation, patterns) for patterns in set(self.covering)}
+        return [known[patterns] for patterns in self.covering]
+
+    def numbers(self, most):
+        """The equations with their numbers, as found: earlier equations first, codes ascending. The search ends
+        once there are over `most`."""
+        numbers = {self.first: 0}
+        found = [self.first]
+        for equation in found:
+            for answer in self.answers(equation):
+                if answer is not DROPPED and answer not in numbers:
+                    numbers[answer] = len(found)
+                    found.append(answer)
+            if len(found) > most:
+                break
+        return numbers
+
+    def row(self, equation, numbers):
+        """The entries of an equation, by the numbers of all."""
+        return bytes(DROPPED_ENTRY if answer is DROPPED else numbers[answer] for answer in self.answers(equation))
+
+    def verdicts(self, scans):
+        """Of each scan, whether it is dropped, from the first equation on."""
+        equation, dropped = self.first, []
+        for scan in scans:
+            answer = self.answers(equation)[scan]
+            dropped.append(answer is DROPPED)
+            if answer is not DROPPED:
+                equation = answer
+        return dropped
+
+
+def rows_of(equations):
+    """The rows of a rule's equations in order, or the refusal of the rule."""
+    if equations.has_falsity(equations.first):
+        return Refusal(8, 0)
+    numbers = equations.numbers(MOST_EQUATIONS)
+    if len(numbers) > MOST_EQUATIONS:
+        return Refusal(9, 0)
+    return [equations.row(equation, numbers) for equation in numbers]
+
+
+@cache
+def rows(data):
+    """The rows of the equations of the rule that a file holds, or the refusal of the file."""
+    rule = read_rule(data)
+    return rule if isinstance(rule, Refusal) else rows_of(Equations(rule))
+
+
+def build(data, table):
+    """The rows with which building begins the lent table, or its refusal. The table is changed in place."""
+    if len(table) < LEAST_TABLE:
+        return Refusal(10, 0)
+    built = rows(data)
+    if not isinstance(built, Refusal):
+        content = b"".join(built)
+        table[: len(content)] = content
+    return built
+
+
+def said(built):
+    """The line that says how many equations there are, or the refusal."""
+    return str(built) if isinstance(built, Refusal) else f"equations {len(built)}"
+
+
+def row(table, number):
+    """The row of the equation of that number in a table, empty where it isn't wholly inside."""
+    part = table[CODES * number : CODES * number + CODES]
+    return part if len(part) == CODES else b""
+
+
+def row_lines(number, entries):
+    """A line for each longest run of codes with one entry."""
+    first = 0
+    for entry, run in groupby(entries):
+        last = first + len(list(run)) - 1
+        yield f"{number} {first} {last} " + ("drop" if entry == DROPPED_ENTRY else str(entry))
+        first = last + 1
+
+
+def listing(data):
+    """What the program `equations` prints of a rule file."""
+    built = rows(data)
+    if isinstance(built, Refusal):
+        return said(built) + "\n"
+    patterns = read_rule(data).patterns
+    lines = [f"patterns {len(patterns)}"]
+    lines += [f"p {number} {pattern.lowest()} {pattern.count()}" for number, pattern in enumerate(patterns)]
+    lines.append(said(built))
+    for number, entries in enumerate(built):
+        lines += row_lines(number, entries)
+    return "".join(line + "\n" for line in lines)

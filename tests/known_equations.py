@@ -1,0 +1,184 @@
+"""Listings of rules, answers of building, verdicts and violating lists, typed from the paper, by hand."""
+from known import ANY, ONE, POOL, bytes_of, counted
+
+SIX = "1 1 6 6 "
+SEVEN = "1 1 7 7 "
+OVERLAPPING = "1 3 0 9 1 6 5 31 "
+
+# Document 000's example 10: "after 5, after 6, ff" and "after 5, after 7, ff", with one branch for 5.
+BRANCHES = ONE + SIX + SEVEN + "4 5 0 5 1 3 5 0 5 2 3"
+
+# What the program `equations` prints, line by line.
+LISTINGS = [
+    (
+        POOL,
+        ["patterns 3", "p 0 37 1", "p 1 5 1", "p 2 128 32", "equations 3"]
+        + ["0 0 36 1", "0 37 37 2", "0 38 255 1"]
+        + ["1 0 255 1"]
+        + ["2 0 4 1", "2 5 5 drop", "2 6 127 1", "2 128 159 0", "2 160 255 1"],
+    ),
+    ("2", ["patterns 0", "equations 1", "0 0 255 0"]),
+    ("1 1 31 31 2", ["patterns 1", "p 0 31 1", "equations 1", "0 0 255 0"]),
+    # "after 5, ff"
+    (ONE + "5 0 3", ["patterns 1", "p 0 5 1", "equations 2", "0 0 4 1", "0 5 5 drop", "0 6 255 1", "1 0 255 1"]),
+    (
+        BRANCHES,
+        ["patterns 3", "p 0 5 1", "p 1 6 1", "p 2 7 1", "equations 3"]
+        + ["0 0 4 1", "0 5 5 2", "0 6 255 1"]
+        + ["1 0 255 1"]
+        + ["2 0 5 1", "2 6 7 drop", "2 8 255 1"],
+    ),
+    # patterns that overlap: where one of two branches gives ff, the code is dropped
+    (
+        OVERLAPPING + "4 5 0 5 1 3 5 1 3",
+        ["patterns 2", "p 0 0 20", "p 1 37 54", "equations 3"]
+        + ["0 0 9 1", "0 10 31 2", "0 32 36 1", "0 37 63 drop", "0 64 68 2", "0 69 95 drop", "0 96 255 2"]
+        + ["1 0 36 2", "1 37 63 drop", "1 64 68 2", "1 69 95 drop", "1 96 255 2"]
+        + ["2 0 255 2"],
+    ),
+    # max of both "after 5, the variable" and "after 6, ff"
+    (
+        ONE + SIX + "6 4 5 0 7 0 5 1 3",
+        ["patterns 2", "p 0 5 1", "p 1 6 1", "equations 2"]
+        + ["0 0 4 1", "0 5 5 0", "0 6 6 drop", "0 7 255 1"]
+        + ["1 0 255 1"],
+    ),
+    # max of "after 5, max of both: after 6, the outer variable, and after 7, the inner one"
+    (
+        ONE + SIX + SEVEN + "6 5 0 6 4 5 1 7 1 5 2 7 0",
+        ["patterns 3", "p 0 5 1", "p 1 6 1", "p 2 7 1", "equations 3"]
+        + ["0 0 4 1", "0 5 5 2", "0 6 255 1"]
+        + ["1 0 255 1"]
+        + ["2 0 5 1", "2 6 6 0", "2 7 7 2", "2 8 255 1"],
+    ),
+    # numbered by ascending codes and not by nodes: "after 6, after 5, tt" comes first
+    (
+        ONE + SIX + "4 5 1 5 0 2 5 0 5 1 2",
+        ["patterns 2", "p 0 5 1", "p 1 6 1", "equations 4"]
+        + ["0 0 4 1", "0 5 5 2", "0 6 6 3", "0 7 255 1"]
+        + ["1 0 255 1", "2 0 255 1", "3 0 255 1"],
+    ),
+    # earlier equations first: what 2 finds comes before what 3 finds
+    (
+        ONE + SIX + SEVEN + "4 5 0 5 2 5 0 2 5 1 5 2 5 1 2",
+        ["patterns 3", "p 0 5 1", "p 1 6 1", "p 2 7 1", "equations 6"]
+        + ["0 0 4 1", "0 5 5 2", "0 6 6 3", "0 7 255 1"]
+        + ["1 0 255 1"]
+        + ["2 0 6 1", "2 7 7 4", "2 8 255 1"]
+        + ["3 0 6 1", "3 7 7 5", "3 8 255 1"]
+        + ["4 0 255 1", "5 0 255 1"],
+    ),
+    # "after 6, ff" at two places: two nodes, and so two equations
+    (
+        ONE + SIX + "4 5 0 5 1 3 5 1 5 1 3",
+        ["patterns 2", "p 0 5 1", "p 1 6 1", "equations 4"]
+        + ["0 0 4 1", "0 5 5 2", "0 6 6 3", "0 7 255 1"]
+        + ["1 0 255 1"]
+        + ["2 0 5 1", "2 6 6 drop", "2 7 255 1"]
+        + ["3 0 5 1", "3 6 6 drop", "3 7 255 1"],
+    ),
+    # node 63 is ff: the last of the equations drops every code, and none is the empty set
+    (
+        ANY + "5 0 " * 63 + "3",
+        ["patterns 1", "p 0 0 256", "equations 63"]
+        + [f"{number} 0 255 {number + 1}" for number in range(62)]
+        + ["62 0 255 drop"],
+    ),
+    ("", ["refused 1 at 0"]),
+    ("0", ["refused 2 at 0"]),
+    ("2 2", ["refused 3 at 1"]),
+    (ANY + "5 0 " * 64 + "2", ["refused 4 at 132"]),
+    ("1 1 6 5 2", ["refused 5 at 0"]),
+    ("5 0 2", ["refused 6 at 0"]),
+    ("7 0", ["refused 6 at 0"]),
+    ("6 7 0", ["refused 7 at 1"]),
+    ("1 1 5 5", ["refused 1 at 4"]),
+    # opening node 0 gives ff: at once, in a part, below maxes. Reading comes first
+    ("3", ["refused 8 at 0"]),
+    ("4 2 3", ["refused 8 at 0"]),
+    (ONE + "4 3 5 0 2", ["refused 8 at 0"]),
+    (ONE + "6 4 5 0 7 0 6 3", ["refused 8 at 0"]),
+    ("3 3", ["refused 3 at 1"]),
+    ("4 3 7 0", ["refused 6 at 2"]),
+    (counted(8), ["refused 9 at 0"]),
+    # both 8 and 9 apply: 8 comes first
+    (ANY + ONE + "4 3 6 4 5 0 7 0 5 1 " + "5 0 " * 8 + "2", ["refused 8 at 0"]),
+]
+
+
+def late(n):
+    """A rule of 101 + n equations, n over 4, the last of which are found one by one: n necessities of any code, and
+    beside them parts that end after five codes. They tell which of three patterns cover the first code, in 8 ways,
+    and which of two cover the second, in 4. So there are 1, 8, 32, 32 and 32 equations for 0 to 4 codes, then one
+    for each necessity of any code that is left, and the empty set."""
+    by_first = "".join(f"5 {number} " + "5 0 " * 4 + "2 " for number in (1, 2, 3))
+    by_second = "".join(f"5 0 5 {number} " + "5 0 " * 3 + "2 " for number in (1, 2))
+    return ANY + "1 15 0 31 1 51 0 31 1 85 0 31 " + "4 " * 5 + by_first + by_second + "5 0 " * n + "2"
+
+
+# What building answers with a table of so many bytes.
+BUILDINGS = [(ANY + "5 0 " * n + "2", 32768, f"equations {n + 1}") for n in (1, 2, 63)]
+BUILDINGS += [(counted(m), 32768, f"equations {2**m}") for m in range(8)]
+BUILDINGS += [
+    (late(26), 32768, "equations 127"),
+    (late(27), 32768, "equations 128"),
+    (late(28), 32768, "refused 9 at 0"),
+    (POOL, 32768, "equations 3"),
+    (POOL, 40000, "equations 3"),
+    ("", 32768, "refused 1 at 0"),
+    # a table that is too small: before everything else
+    (POOL, 32767, "refused 10 at 0"),
+    (POOL, 0, "refused 10 at 0"),
+    ("", 32767, "refused 10 at 0"),
+    ("2 2", 768, "refused 10 at 0"),
+    ("3", 0, "refused 10 at 0"),
+    (counted(8), 32767, "refused 10 at 0"),
+]
+
+# A rule, scans, and the verdict on each: 0 kept, 1 dropped.
+VERDICTS = [
+    (POOL, "37 5 128 5 37 5", "0 1 0 0 0 0"),
+    (POOL, "37 5 5 128 37 5 6 5", "0 1 1 0 0 1 0 0"),
+    (POOL, "5 37 5", "0 0 0"),
+    (BRANCHES, "5 7 6 8 6", "0 1 1 0 0"),
+    (ONE + "5 0 3", "5 5 6 5", "1 1 0 0"),
+    # max of "after 5, max of all: after 6, the outer variable; after 7, the inner one; after 5, ff"
+    (ONE + SIX + SEVEN + "6 5 0 6 4 5 1 7 1 4 5 2 7 0 5 0 3", "5 5 7 5 6 5 5", "0 1 0 1 0 0 1"),
+]
+
+# A rule and lists of codes that violate it, and lists that don't.
+VIOLATIONS = [
+    ("3", ["", "5"], []),
+    ("2", [], ["", "5"]),
+    (ONE + "5 0 3", ["5", "5 6", "5 5"], ["", "6", "6 5"]),
+    (ONE + SIX + "4 5 0 3 5 1 3", ["5", "6"], ["", "7 5"]),
+    (POOL, ["37 5", "37 128 37 5 9"], ["", "37", "5", "37 6 5", "37 128 5"]),
+    (BRANCHES, ["5 6", "5 7"], ["5", "5 5 6", "6", "7"]),
+]
+
+
+def listings():
+    """Each file with the whole text of its listing."""
+    return [(bytes_of(text), "".join(line + "\n" for line in lines)) for text, lines in LISTINGS]
+
+
+def buildings():
+    """Each file with the size of a table and the answer."""
+    return [(bytes_of(text), size, answer) for text, size, answer in BUILDINGS]
+
+
+def violations():
+    """Each file with a list of codes and whether that violates its rule."""
+    return [
+        (bytes_of(text), bytes_of(codes), codes in violating)
+        for text, violating, others in VIOLATIONS
+        for codes in violating + others
+    ]
+
+
+def verdicts():
+    """Each file with scans and whether each of them is dropped."""
+    return [
+        (bytes_of(text), bytes_of(scans), [verdict == 1 for verdict in bytes_of(typed)])
+        for text, scans, typed in VERDICTS
+    ]
