@@ -23,7 +23,7 @@ pub data Opens (root : Formula) : (k m : ℕ) → Type 0 where
   body-of-variable : {k m d : ℕ} {ms : List EnclosingMax} → Node root k ms (variable d) → d < length ms
       → Opens root (suc (getD ms d noMax .number)) m → Opens root k m
 
--- Opening node k gives an ff node.
+-- node m is ff
 abbrev pub IsFalsity : (root : Formula) → ℕ → Type 0
 IsFalsity root m = (ms : List EnclosingMax) × Node root m ms falsity
 
