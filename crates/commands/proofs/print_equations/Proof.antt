@@ -1,0 +1,26 @@
+-- `print_equations` meets its contract: the answer is that of `build`.
+use Prim.Native.Nat.{_<_}
+use native.Mathlib.Omega.{arith}
+use borrow.Author.Needs.{needs}
+use Rattle.reading.proofs.AllLaws.{all-of}
+use Rattle.commands.proofs.print_equations.Statement.{statement}
+use Rattle.commands.proofs.print_equations.Tie as tie
+
+build-requires : tie.Need-build-requires
+build-requires c κs = search needs
+
+print-answer-requires : tie.Need-print-answer-requires
+print-answer-requires c κs = search needs
+
+same-length : tie.Need-same-length
+same-length c = search needs
+
+returns : tie.Need-returns
+returns c =
+    let known = c .before .before .before .before .before .before .before in (
+      all-of (λ b. b < 256) (known .before .args .file .now) 0 (λ i h. omega (arith, known .shared-slice-known .given i)),
+      c .before .before .before .before .build .ensures .0,
+    )
+
+pub print-equations-spec : {M : Type 1} → statement M
+print-equations-spec = tie.close (tie.spec build-requires print-answer-requires same-length returns)

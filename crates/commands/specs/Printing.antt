@@ -1,0 +1,22 @@
+-- What `equations` prints. No contract can say which bytes are written; these definitions do.
+use Prim.Native.Nat.{ℕ}
+use mathlib.Core.List.{List, map}
+use lib.ListN.{length}
+use Rattle.reading.specs.Pattern.{extentOf}
+use Rattle.reading.specs.Outcome.{Outcome, accepted, refused}
+use Rattle.reading.specs.declared.NumberedRule.{NumberedRule}
+use Rattle.synthesis.specs.Building.{Synthesis}
+use Rattle.synthesis.specs.declared.Counted.{Counted}
+use Rattle.synthesis.specs.declared.Counted.the-variants.{Equations, Refused}
+use Rattle.listing.specs.Lines.{refusalLine, listing}
+use Rattle.listing.specs.Positions.{linesFrom}
+
+-- the text that is due to an outcome: the listing of the rule and its table, or the line of the refusal alone
+abbrev pub textFor : Outcome Synthesis → (table : List ℕ) → List ℕ
+textFor (accepted y) table = listing (map extentOf (y .rule .patterns)) (length (y .equations)) table
+textFor (refused number place) table = refusalLine number place
+
+-- the text of the lines that `print_answer` prints, where every line is written
+abbrev pub printed : Counted → NumberedRule → (table : List ℕ) → List ℕ
+printed (Equations count) rule table = linesFrom rule table count 32802 0
+printed (Refused number place) rule table = refusalLine number place

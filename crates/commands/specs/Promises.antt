@@ -1,0 +1,21 @@
+-- What this crate promises, as statements over the definitions; proofs/ has a theorem of each of these types.
+use mathlib.Core.Path.{_≡_}
+use mathlib.Core.List.{List}
+use Prim.Native.Nat.{ℕ}
+use lib.ListN.{length, take}
+use Rattle.reading.specs.Rule.{Bytes}
+use Rattle.reading.specs.File.{ruleOf}
+use Rattle.reading.specs.Numbered.{readingOf}
+use Rattle.synthesis.specs.Building.{buildingOf, countedOf, tableAfter}
+use Rattle.commands.specs.Printing.{textFor, printed}
+
+-- 1. From what building and reading leave, `equations` prints the text that is due: its lines are enough.
+abbrev pub PrintsAnswer : Type 0
+PrintsAnswer =
+    (s table : List ℕ) → Bytes s →
+    let outcome = buildingOf 128 s (length table) in
+    printed (countedOf outcome) (readingOf (ruleOf s) .rule) (tableAfter outcome table) ≡ textFor outcome (tableAfter outcome table)
+
+-- 2. The 4,096 bytes that it reads settle the answer to the whole input.
+abbrev pub SettledByBuffer : Type 0
+SettledByBuffer = (s : List ℕ) (size : ℕ) → buildingOf 128 (take 4096 s) size ≡ buildingOf 128 s size

@@ -1,0 +1,4 @@
+// The program `equations` on an empty file.
+fn main() {
+    commands::equations();
+}

@@ -1,0 +1,4 @@
+// The program `equations` on a rule that is refused.
+fn main() {
+    commands::equations();
+}

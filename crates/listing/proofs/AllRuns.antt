@@ -1,0 +1,75 @@
+-- The runs of a row are the longest runs of one entry, in order, and say what the table answers.
+use mathlib.Core.Path.{_≡_, refl, sym, ap, _∙_}
+use mathlib.Core.Bool.{Bool, true, false}
+use mathlib.Core.List.{List, [], _∷_}
+use Prim.Native.Nat.{ℕ, zero, suc, _+_, _≤_, _<_}
+use native.Mathlib.Omega.{arith}
+use lib.Dec.{ltb}
+use lib.ListN.{length, getD, drop}
+use borrow.Author.Tests.{ltb-true, ltb-false}
+use Rattle.reading.specs.Rule.{All}
+use Rattle.synthesis.specs.Table.{rowOf, meaning}
+use Rattle.listing.specs.Runs.{Run, run, runsFrom, runs, RunTo}
+use Rattle.listing.specs.Promises.{Longest, InOrder, Groups, ShowsAnswers}
+use Rattle.listing.proofs.RunLaws.{first-run, no-runs, some-run}
+
+module _ (row : List ℕ) where
+  -- the entry before code c is another than that at c
+  abbrev Begins : ℕ → Type 0
+  Begins c = (d : ℕ) → suc d ≡ c → c < length row → getD row d 0 ≡ getD row c 0 → ⊥
+
+  -- what is to be shown of the runs from code c on
+  record Good (c : ℕ) (rs : List Run) : Type 0 where
+    longest : All (Longest row) rs
+    in-order : InOrder c (length row) rs
+
+  one-more : (c last : ℕ) → Begins c → RunTo row c last → (rs : List Run) → Good (suc last) rs → Good c (run c last (getD row c 0) ∷ rs)
+  one-more c last b r rs g = record {
+    longest = (record { entry = refl; reaches = r; begins = λ d e same. b d e (omega (arith, r .some, r .inside)) same }, g .longest);
+    in-order = (refl, g .in-order);
+  }
+
+  next-begins : (c last : ℕ) → RunTo row c last → Begins (suc last)
+  next-begins c last r d e h same =
+      let is : d ≡ last = omega arith in
+      r .ends h (sym same ∙ rw is (r .same last (r .some) (omega arith)))
+
+  -- at most `more` codes follow
+  good-from : (more c : ℕ) → c ≤ length row → length row ≤ c + more → Begins c → Good c (runsFrom c (drop c row))
+  good-from zero c h l b = rw (no-runs row c (omega arith)) (record { longest = tt; in-order = omega arith })
+  good-from (suc more) c h l b = on (ltb c (length row)) refl
+      (λ last r. good-from more (suc last) (r .inside) (omega (arith, r .some)) (next-begins c last r))
+    where
+      on : (a : Bool) → ltb c (length row) ≡ a
+          → ((last : ℕ) → RunTo row c last → Good (suc last) (runsFrom (suc last) (drop (suc last) row))) → Good c (runsFrom c (drop c row))
+      on true e rest =
+          let (last, r) = some-run row c (ltb-true c (length row) e) in
+          rw (first-run row c last r) (one-more c last b r _ (rest last r))
+      on false e rest =
+          let ended = ltb-false c (length row) e in
+          rw (no-runs row c ended) (record { longest = tt; in-order = omega arith })
+
+  pub groups : Groups row
+  groups =
+      let g = good-from (length row) 0 (omega arith) (omega arith) (λ d e. absurd (omega arith)) in
+      record { longest = g .longest; in-order = g .in-order }
+
+-- ---- what the table answers
+
+all-map : {A : Type 0} {P Q : A → Type 0} (l : List A) → ((x : A) → P x → Q x) → All P l → All Q l
+all-map [] f all = tt
+all-map (x ∷ l) f all = (f x (all .0), all-map l f (all .1))
+
+-- an element that is there
+there : (l : List ℕ) (i d e : ℕ) → i < length l → getD l i d ≡ getD l i e
+there [] i d e h = absurd (omega arith)
+there (x ∷ l) zero d e h = refl
+there (x ∷ l) (suc i) d e h = there l i d e (omega arith)
+
+pub shows-answers : ShowsAnswers
+shows-answers table k =
+    let row = rowOf 256 table k in
+    all-map (runs row) (λ r longest c h l.
+    let reaches = longest .reaches in
+    ap (meaning 255) (there row c 255 0 (omega (arith, reaches .inside)) ∙ reaches .same c h l ∙ sym (longest .entry)))
+    (groups row .longest)

@@ -1,0 +1,54 @@
+-- What this crate promises, as statements over the definitions; proofs/ has a theorem of each of these types.
+use Prim.Native.Nat.{ℕ, suc, _+_, _*_, _/_, _%_, _≤_, _<_}
+use mathlib.Core.Path.{_≡_}
+use mathlib.Core.List.{List, [], _∷_, _++_, map}
+use lib.ListN.{length, getD}
+use Rattle.reading.specs.Pattern.{extentOf}
+use Rattle.reading.specs.Rule.{Rule, WellFormedRule, All}
+use Rattle.reading.specs.Numbered.{numbered}
+use Rattle.reading.specs.declared.NumberedRule.{NumberedRule}
+use Rattle.synthesis.specs.Table.{rowOf, meaning, tabled}
+use Rattle.listing.specs.Text.{digit, decimal}
+use Rattle.listing.specs.Runs.{Run, runs, RunTo}
+use Rattle.listing.specs.Lines.{listing}
+use Rattle.listing.specs.Positions.{extentsOf, linesFrom}
+
+-- 1. Read line by line from position 0 on, up to an empty line, the text is the listing; so many lines are enough. A rule is any value
+-- whose array has 32 extents;
+abbrev pub ListsAll : Type 0
+ListsAll =
+    (rule : NumberedRule) (table : List ℕ) (count most : ℕ) → length (rule .extents) ≡ 32 → 34 + 256 * count ≤ most
+    → linesFrom rule table count most 0 ≡ listing (extentsOf rule) count table
+
+-- in particular of a rule that was read.
+abbrev pub ListsRule : Type 0
+ListsRule =
+    (r : Rule) (table : List ℕ) (count most : ℕ) → WellFormedRule r → 34 + 256 * count ≤ most
+    → linesFrom (numbered r) table count most 0 ≡ listing (map extentOf (r .patterns)) count table
+
+-- 2. Each run is a longest run of codes with one entry: no code before it or after it can join it.
+pub record Longest (row : List ℕ) (r : Run) : Type 0 where
+  pub entry : r .entry ≡ getD row (r .first) 0
+  pub reaches : RunTo row (r .first) (r .last)
+  pub begins : (c : ℕ) → suc c ≡ r .first → getD row c 0 ≡ r .entry → ⊥
+
+-- some runs, one after the other, of the codes from c up to the end
+abbrev pub InOrder : (c end : ℕ) → List Run → Type 0
+InOrder c end [] = c ≡ end
+InOrder c end (r ∷ rs) = (r .first ≡ c) × InOrder (suc (r .last)) end rs
+
+-- The runs of a row are such, and cover its codes in order.
+pub record Groups (row : List ℕ) : Type 0 where
+  pub longest : All (Longest row) (runs row)
+  pub in-order : InOrder 0 (length row) (runs row)
+
+-- 3. The entry in the line of a run is what the table answers to each of its codes.
+abbrev pub ShowsAnswers : Type 0
+ShowsAnswers =
+    (table : List ℕ) (k : ℕ) → All (λ (r : Run). (c : ℕ) → r .first ≤ c → c ≤ r .last → tabled table k c ≡ meaning 255 (r .entry))
+    (runs (rowOf 256 table k))
+
+-- 4. A number below 10 is one digit. Another is that of n / 10, followed by the digit of n % 10.
+pub record SpellsDecimal (n : ℕ) : Type 0 where
+  pub one : n < 10 → decimal n ≡ digit n ∷ []
+  pub more : 10 ≤ n → decimal n ≡ decimal (n / 10) ++ (digit (n % 10) ∷ [])
