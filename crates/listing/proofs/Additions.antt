@@ -4,8 +4,9 @@ use mathlib.Core.List.{List, [], _∷_, _++_, append-nil, append-assoc}
 use Prim.Native.Nat.{ℕ, suc, _+_, _-_, _≤_, _<_}
 use native.Mathlib.Omega.{arith}
 use lib.ListN.{length, set, replicate, length-append}
-use lib.Seq.{set-at, take-append-seam}
+use lib.Seq.{take-append-seam}
 use Rattle.reading.specs.Numbered.{padded}
+use Rattle.reading.proofs.Heads.{set-padded}
 use Rattle.listing.specs.Positions.{lineOf}
 use Rattle.listing.specs.Text.{text}
 use Rattle.listing.specs.Lines.{spaced, line}
@@ -14,12 +15,6 @@ use Rattle.listing.specs.declared.Line.{Line}
 
 -- ---- one byte
 
-set-padded : (size b n : ℕ) (bytes t : List ℕ) → n < size → n ≡ length t → bytes ≡ padded size 0 t
-    → set bytes n b ≡ padded size 0 (t ++ (b ∷ []))
-set-padded size b n bytes t h len-is bytes-are =
-    let more : size - length t ≡ suc (size - length (t ++ (b ∷ []))) = omega (arith, length-append t (b ∷ [])) in
-    rw (bytes-are, more) (set-at t 0 _ b n (sym len-is) ∙ sym (append-assoc t (b ∷ []) _))
-
 -- a byte more fits
 pub one-fits : (l : Line) → Room l 1 → l .len < 64
 one-fits l r = omega (arith, r .room, ap (λ (x : Line). x .len) (r .is))
@@ -27,7 +22,9 @@ one-fits l r = omega (arith, r .room, ap (λ (x : Line). x .len) (r .is))
 pub pushed : (l : Line) (b : ℕ) → l .len < 64 → Adds l (b ∷ []) (record { bytes = set (l .bytes) (l .len) b; len = l .len + 1 })
 pushed l b h t e =
     let len-is : l .len ≡ length t = ap (λ (x : Line). x .len) e in
-    let more = set-padded 64 b (l .len) (l .bytes) t h len-is (ap (λ (x : Line). x .bytes) e) in
+    let more : set (l .bytes) (l .len) b ≡ padded 64 0 (t ++ (b ∷ [])) =
+        rw (ap (λ (x : Line). x .bytes) e) (set-padded 64 (l .len) 0 b t (sym len-is) h)
+    in
     let longer : l .len + 1 ≡ length (t ++ (b ∷ [])) = omega (arith, length-append t (b ∷ [])) in
     ap₂ (λ (bs : List ℕ) (n : ℕ). record { bytes = bs; len = n }) more longer
 

@@ -48,7 +48,7 @@ ShowsAnswers =
     (table : List ℕ) (k : ℕ) → All (λ (r : Run). (c : ℕ) → r .first ≤ c → c ≤ r .last → tabled table k c ≡ meaning 255 (r .entry))
     (runs (rowOf 256 table k))
 
--- 4. A number below 10 is one digit. Another is that of n / 10, followed by the digit of n % 10.
+-- 4. A number below 10 is one digit. Any other has the digits of n / 10, followed by the digit of n % 10.
 pub record SpellsDecimal (n : ℕ) : Type 0 where
   pub one : n < 10 → decimal n ≡ digit n ∷ []
   pub more : 10 ≤ n → decimal n ≡ decimal (n / 10) ++ (digit (n % 10) ∷ [])

@@ -20,7 +20,7 @@ use Rattle.reading.proofs.PatternBytes.{none-read}
 
 -- ---- arrays that fill up from the front
 
-set-padded : {A : Type 0} (n i : ℕ) (x a : A) (l : List A) → length l ≡ i → i < n → set (padded n x l) i a ≡ padded n x (l ++ a ∷ [])
+pub set-padded : {A : Type 0} (n i : ℕ) (x a : A) (l : List A) → length l ≡ i → i < n → set (padded n x l) i a ≡ padded n x (l ++ a ∷ [])
 set-padded n i x a l e h =
     let more : n - length l ≡ suc (n - length (l ++ a ∷ [])) = omega (arith, length-append l (a ∷ [])) in
     rw more (set-at l x _ a i e ∙ sym (append-assoc l (a ∷ []) _))
