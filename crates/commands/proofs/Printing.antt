@@ -30,8 +30,8 @@ pub prints-answer : PrintsAnswer
 prints-answer s table bytes = on (buildingOf 128 s (length table)) refl
   where
     on : (o : Outcome Synthesis) → buildingOf 128 s (length table) ≡ o
-        → printed (countedOf o) (readingOf (ruleOf s) .rule) (tableAfter o table) ≡ textFor o (tableAfter o table)
-    on (accepted y) e = accepted-prints s (tableAfter (accepted y) table) bytes y (building-accepts 128 s (length table) y e .1)
+        → printed (countedOf o) (readingOf (ruleOf s) .rule) (tableAfter 255 o table) ≡ textFor o (tableAfter 255 o table)
+    on (accepted y) e = accepted-prints s (tableAfter 255 (accepted y) table) bytes y (building-accepts 128 s (length table) y e .1)
     on (refused number place) e = refl
 
 pub settled-by-buffer : SettledByBuffer

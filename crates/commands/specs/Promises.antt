@@ -14,7 +14,7 @@ abbrev pub PrintsAnswer : Type 0
 PrintsAnswer =
     (s table : List ℕ) → Bytes s →
     let outcome = buildingOf 128 s (length table) in
-    printed (countedOf outcome) (readingOf (ruleOf s) .rule) (tableAfter outcome table) ≡ textFor outcome (tableAfter outcome table)
+    printed (countedOf outcome) (readingOf (ruleOf s) .rule) (tableAfter 255 outcome table) ≡ textFor outcome (tableAfter 255 outcome table)
 
 -- 2. The 4,096 bytes that it reads settle the answer to the whole input.
 abbrev pub SettledByBuffer : Type 0

@@ -10,7 +10,7 @@ use Rattle.reading.proofs.Heads.{set-padded}
 use Rattle.listing.specs.Positions.{lineOf}
 use Rattle.listing.specs.Text.{text}
 use Rattle.listing.specs.Lines.{spaced, line}
-use Rattle.listing.specs.Building.{Room, Adds, Prints}
+use Rattle.listing.specs.LineParts.{Room, Adds, Prints}
 use Rattle.listing.specs.declared.Line.{Line}
 
 -- ---- one byte
@@ -23,7 +23,7 @@ pub pushed : (l : Line) (b : ℕ) → l .len < 64 → Adds l (b ∷ []) (record 
 pushed l b h t e =
     let len-is : l .len ≡ length t = ap (λ (x : Line). x .len) e in
     let more : set (l .bytes) (l .len) b ≡ padded 64 0 (t ++ (b ∷ [])) =
-        rw (ap (λ (x : Line). x .bytes) e) (set-padded 64 (l .len) 0 b t (sym len-is) h)
+    rw (ap (λ (x : Line). x .bytes) e) (set-padded 64 (l .len) 0 b t (sym len-is) h)
     in
     let longer : l .len + 1 ≡ length (t ++ (b ∷ [])) = omega (arith, length-append t (b ∷ [])) in
     ap₂ (λ (bs : List ℕ) (n : ℕ). record { bytes = bs; len = n }) more longer

@@ -12,7 +12,7 @@ use Rattle.synthesis.specs.Table.{rowOf}
 use Rattle.listing.specs.Runs.{run, RunTo}
 use Rattle.listing.specs.Lines.{patternsLine, patternLine, equationsLine, runLine}
 use Rattle.listing.specs.Positions.{Within, lineThen, noLine, rowLineAt, lineAt, patternCount, listingLineAt}
-use Rattle.listing.specs.Building.{Prints, Gives}
+use Rattle.listing.specs.LineParts.{Prints, Gives}
 use Rattle.listing.specs.declared.Line.{Line}
 use Rattle.listing.specs.declared.ListingLine.{ListingLine}
 use Rattle.listing.proofs.RunLaws.{first-run, no-runs}

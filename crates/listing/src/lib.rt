@@ -9,7 +9,7 @@ ghost use lib.ListN.{length};
 ghost use Rattle.listing.specs.Runs.{RunTo};
 ghost use Rattle.listing.specs.Lines.{refusalLine};
 ghost use Rattle.listing.specs.Positions.{lineOf, Within, noLine, rowLineAt, listingLineAt};
-ghost use Rattle.listing.specs.Building.{Gives};
+ghost use Rattle.listing.specs.LineParts.{Gives};
 
 // A line of text: its first len bytes. The others are 0.
 pub struct Line {

@@ -7,7 +7,7 @@ ghost use lib.ListN.{length};
 ghost use Rattle.listing.specs.Text.{decimal};
 ghost use Rattle.listing.specs.Runs.{run};
 ghost use Rattle.listing.specs.Lines.{line, refusalLine, patternLine, runLine};
-ghost use Rattle.listing.specs.Building.{Prints};
+ghost use Rattle.listing.specs.LineParts.{Prints};
 
 // A word and a number.
 pub(crate) fn counted(word: &[u8], n: usize) -> Line

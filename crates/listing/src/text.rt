@@ -1,5 +1,6 @@
 // Text added to a line: bytes, words and decimal numbers.
 use crate::Line;
+use synthesis::DROPPED;
 ghost use mathlib.Core.Path.{_≡_};
 ghost use mathlib.Core.List.{[], _∷_, _++_};
 ghost use Prim.Native.Nat.{suc};
@@ -8,10 +9,7 @@ ghost use Rattle.synthesis.specs.Table.{meaning};
 ghost use Rattle.listing.specs.Text.{text, decimal};
 ghost use Rattle.listing.specs.Lines.{answerText};
 ghost use Rattle.listing.specs.Positions.{lineOf};
-ghost use Rattle.listing.specs.Building.{Room, Adds};
-
-// The entry of a code that is dropped.
-const DROPPED: u8 = 255;
+ghost use Rattle.listing.specs.LineParts.{Room, Adds};
 
 impl Line {
     // The line with no text.

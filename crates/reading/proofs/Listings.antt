@@ -9,7 +9,7 @@ use lib.Seq.{getD-append-add}
 use Rattle.reading.specs.Formula.{Formula, truth, falsity, both, necessity, max, variable, size}
 use Rattle.reading.specs.Nodes.{EnclosingMax, Node, whole, first, second, after, body, inOrder}
 
-size-positive : (f : Formula) → 0 < size f
+pub size-positive : (f : Formula) → 0 < size f
 size-positive truth = omega arith
 size-positive falsity = omega arith
 size-positive (both f g) = omega arith

@@ -17,7 +17,7 @@ use Rattle.reading.proofs.Listings.{listed-size, listed-at, node-unique
 -- ---- filling up
 
 module _ {A : Type 0} (x : A) where
-  repeated-at : (n i : ℕ) → getD (replicate n x) i x ≡ x
+  pub repeated-at : (n i : ℕ) → getD (replicate n x) i x ≡ x
   repeated-at zero i = refl
   repeated-at (suc n) zero = refl
   repeated-at (suc n) (suc i) = repeated-at n i
@@ -66,7 +66,7 @@ module _ (r : Rule) {k : ℕ} {ms : List EnclosingMax} where
 pub pattern-at : (r : Rule) (i : ℕ) → getD (numbered r .patterns) i noPattern ≡ getD (r .patterns) i noPattern
 pattern-at r i = padded-at noPattern 32 (r .patterns) i
 
-mapped-at : {A B : Type 0} (f : A → B) (l : List A) (i : ℕ) (x : A) (y : B) → i < length l → getD (map f l) i y ≡ f (getD l i x)
+pub mapped-at : {A B : Type 0} (f : A → B) (l : List A) (i : ℕ) (x : A) (y : B) → i < length l → getD (map f l) i y ≡ f (getD l i x)
 mapped-at f [] i x y h = absurd (omega arith)
 mapped-at f (a ∷ l) zero x y h = refl
 mapped-at f (a ∷ l) (suc i) x y h = mapped-at f l i x y (omega arith)

@@ -1,10 +1,12 @@
-// The kind bytes of records. No code has to tell tt and ff apart.
-pub(crate) const PATTERN: u8 = 1;
+// The kind bytes of records, but for tt, which no code has to name.
+pub const PATTERN: u8 = 1;
 
-pub(crate) const BOTH: u8 = 4;
+pub const FALSITY: u8 = 3;
 
-pub(crate) const NECESSITY: u8 = 5;
+pub const BOTH: u8 = 4;
 
-pub(crate) const MAX: u8 = 6;
+pub const NECESSITY: u8 = 5;
 
-pub(crate) const VARIABLE: u8 = 7;
+pub const MAX: u8 = 6;
+
+pub const VARIABLE: u8 = 7;

@@ -1,6 +1,6 @@
 // Reads a rule file: patterns, then one formula in prefix order. The definitions that the contracts cite stand in specs/.
 mod formulas;
-mod kinds;
+pub mod kinds;
 mod patterns;
 
 ghost use mathlib.Core.Path.{_≡_};

@@ -14,22 +14,18 @@ use Rattle.synthesis.specs.Monitor.{dropped, next}
 use Rattle.synthesis.specs.NodeSet.{Has, none, common}
 use Rattle.synthesis.specs.Opening.{Opens, Leads, leads, Answers, IsFirst}
 use Rattle.synthesis.specs.Answering.{opening, opensAround, falsities, reached, judged, firstOf, answerOf}
-use Rattle.synthesis.specs.Promises.{AnswersAsDefined}
+use Rattle.synthesis.specs.Promises.{Answered, AnswersAsDefined}
 use Rattle.synthesis.proofs.NodeSetLaws.{has-none, has-common, none-of}
-use Rattle.synthesis.proofs.MemberLaws.{none-common, some-common}
-use Rattle.synthesis.proofs.NodeWise.{Reaches, falsities-has, reached-has}
+use Rattle.synthesis.proofs.NodeWise.{no-falsity, some-falsity, Reaches, reached-has}
 use Rattle.synthesis.proofs.OpeningLaws.{opens-as-defined}
 
 -- The set s is what the members of e lead to under c; so it is the answer, unless it has an ff node.
 judged-answers : (r : Rule) (e c s : ℕ) → ((m : ℕ) → Has s m ↔ Leads r e c m) → Answers r e c (judged (falsities 0 (r .formula)) s)
-judged-answers r e c s led = on (eqb (common s ffs) none) refl
+judged-answers r e c s led = on (eqb (common s (falsities 0 (r .formula))) none) refl
   where
-    ffs : ℕ
-    ffs = falsities 0 (r .formula)
-
-    on : (b : Bool) → eqb (common s ffs) none ≡ b → Answers r e c (cond b (next s) dropped)
-    on true h = (λ m l f. none-common s ffs h m (led m .1 l) (falsities-has (r .formula) m .1 f), led)
-    on false h = let m = some-common s ffs h in (m .0, led (m .0) .0 (m .1), falsities-has (r .formula) (m .0) .0 (m .2))
+    on : (b : Bool) → eqb (common s (falsities 0 (r .formula))) none ≡ b → Answers r e c (cond b (next s) dropped)
+    on true h = (λ m l f. no-falsity (r .formula) s h m (led m .1 l) f, led)
+    on false h = let (m, p, f) = some-falsity (r .formula) s h in (m, led m .0 p, f)
 
 judged-none : (ffs s : ℕ) → s ≡ none → judged ffs s ≡ next none
 judged-none ffs s e = rw (e, none-of (common none ffs) (λ n h. has-none n (has-common none ffs n .0 h .0)))
@@ -66,5 +62,8 @@ module _ (r : Rule) (wf : WellFormed (length (r .patterns)) [] (r .formula)) whe
   unfolding answerOf
   empty c = judged-none (falsities 0 (r .formula)) _ (none-of _ (λ m h. nothing-led c m (reached-leads none c m .0 h)))
 
-  pub answers-as-defined : AnswersAsDefined r
-  answers-as-defined = record { first = is-first; answers = answers; empty = empty }
+  answered : Answered r
+  answered = record { first = is-first; answers = answers; empty = empty }
+
+pub answers-as-defined : AnswersAsDefined
+answers-as-defined = answered

@@ -1,5 +1,5 @@
 -- What building answers and leaves, a row for each way out.
-use Prim.Native.Nat.{ℕ, _*_, _≤_, _<_}
+use Prim.Native.Nat.{ℕ, _≤_, _<_}
 use mathlib.Core.Path.{_≡_, refl, sym, _∙_, ap}
 use mathlib.Core.List.{List}
 use native.Mathlib.Omega.{arith}
@@ -7,27 +7,28 @@ use lib.ListN.{length, take}
 use Rattle.reading.specs.Outcome.{Outcome, accepted, refused}
 use Rattle.synthesis.specs.Answering.{answerOf}
 use Rattle.synthesis.specs.Table.{filled}
-use Rattle.synthesis.specs.Arrays.{answerBy}
 use Rattle.synthesis.specs.Building.{Synthesis, synthesisOf, buildingOf, countedOf, tableAfter}
+use Rattle.synthesis.specs.Arrays.{answerBy}
 use Rattle.synthesis.specs.Plans.{Fills, CanFill, IsPlan}
 use Rattle.synthesis.specs.declared.Counted.{Counted}
 use Rattle.synthesis.specs.declared.Counted.the-variants.{Equations, Refused}
 use Rattle.synthesis.specs.declared.Plan.{Plan}
 use Rattle.synthesis.proofs.Rows.{filled-cong}
-use Rattle.synthesis.proofs.GraphLaws.{graph-answers}
 use Rattle.synthesis.proofs.Synthesized.{building-enough, building-short}
+use Rattle.synthesis.proofs.GraphLaws.{graph-answers}
 
 -- the answer and the table after a call
 abbrev Builds : (s table : List ℕ) → (answer : Counted) → (after : List ℕ) → Type 0
 Builds s table answer after =
-    (answer ≡ countedOf (buildingOf 128 s (length table))) × (after ≡ tableAfter (buildingOf 128 s (length table)) table)
+    (answer ≡ countedOf (buildingOf 128 s (length table))) × (after ≡ tableAfter 255 (buildingOf 128 s (length table)) table)
 
 pub too-short : (s table : List ℕ) → length table < 32768 → Builds s table (Refused 10 0) table
 too-short s table h = rw (building-short 128 s (length table) h) (refl, refl)
 
 -- ---- a table that is long enough
 
-refused-leaves : (o : Outcome Synthesis) (table : List ℕ) (number place : ℕ) → countedOf o ≡ Refused number place → table ≡ tableAfter o table
+refused-leaves : (o : Outcome Synthesis) (table : List ℕ) (number place : ℕ) → countedOf o ≡ Refused number place
+    → table ≡ tableAfter 255 o table
 refused-leaves (accepted y) table number place e = let z : _≡_ {A = ℕ} 0 1 = cc in absurd (omega arith)
 refused-leaves (refused number′ place′) table number place e = refl
 
@@ -56,9 +57,10 @@ pub is-filled : (s table after : List ℕ) (p : Plan) (n : ℕ) → Counts (synt
     → Builds s table (Equations n) after
 is-filled s table after p n c h e =
     let answers = answerBy (p .graph .after) (p .graph .waiting) (p .graph .falsities) in
+    let agree = graph-answers (p .graph) (c .fills .graph-is) in
     let same : take n (p .found) ≡ c .synthesis .equations = ap (λ (k : ℕ). take k (p .found)) (c .count-is) ∙ c .fills .found-is in
     rw (building-enough 128 s (length table) h, c .is) (
       ap Equations (c .count-is),
       e ∙ ap (λ (l : List ℕ). filled 255 answers l 256 table) same
-          ∙ filled-cong 255 256 answers (answerOf (c .synthesis .rule)) (graph-answers (p .graph) (c .fills .graph-is)) (c .synthesis .equations) table,
+          ∙ filled-cong 255 256 answers (answerOf (c .synthesis .rule)) agree (c .synthesis .equations) table,
     )

@@ -1,5 +1,5 @@
--- The table that building leaves: it is the monitor of the rule's equations, each renamed to its row. The limit on equations is any
--- below the mark for dropped; the promises are the cases of the paper's limit.
+-- The table that building leaves: it is the monitor of the rule's equations, each renamed to its row. The limit on equations and the mark for
+-- dropped are any, the limit not over the mark.
 use Prim.Native.Nat.{ℕ, _*_, _≤_, _<_}
 use mathlib.Core.Path.{_≡_, _∙_, ap, subst}
 use mathlib.Core.Bool.{false}
@@ -14,37 +14,36 @@ use Rattle.reading.proofs.Accepted.{reading-accepts}
 use Rattle.synthesis.specs.Monitor.{kept, verdicts, ended, Monitors}
 use Rattle.synthesis.specs.Answering.{firstOf, answerOf, hopeless}
 use Rattle.synthesis.specs.Search.{place}
-use Rattle.synthesis.specs.Table.{rowOf, tabled, filled}
-use Rattle.synthesis.specs.Building.{equationsOf, Synthesis, buildingOf, tableAfter}
-use Rattle.synthesis.specs.Promises.{TableMonitors, DropsViolations, TableDrops, SameAfterRows, TableRest, RefusesHopeless, RowInRange, EntriesInRange}
+use Rattle.synthesis.specs.Table.{rowOf, entry, filled}
+use Rattle.synthesis.specs.Building.{equationsOf, Synthesis, synthesisOf, buildingOf, countedOf, tableAfter}
+use Rattle.synthesis.specs.declared.Counted.the-variants.{Equations}
+use Rattle.synthesis.specs.Promises.{TableMonitors, DropsViolations, TableDrops, RefusesHopeless}
+use Rattle.synthesis.specs.Promises.{RowInRange, EntriesInRange, SameAfterRows, TableRest}
+use Rattle.synthesis.proofs.RuleMonitor.{rule-monitors, hopeless-iff}
 use Rattle.synthesis.proofs.Places.{Member}
 use Rattle.synthesis.proofs.Rows.{entries-length, filled-length, filled-row, filled-rest}
 use Rattle.synthesis.proofs.MonitorLaws.{drops-violations}
 use Rattle.synthesis.proofs.Renaming.{Renames, renamed-runs, renamed-monitors}
 use Rattle.synthesis.proofs.Tables.{table-renames, table-range}
 use Rattle.synthesis.proofs.Synthesized.{made, synthesis-accepts, building-accepts, refused-eight, refuses-eight}
-use Rattle.synthesis.proofs.RuleMonitor.{rule-monitors, hopeless-iff}
-use Rattle.synthesis.proofs.Equations.{first-place, first-member, equations-closed}
-
--- a file that is read is a rule with a well-formed formula
-well-formed : (s : List ℕ) → Bytes s → (r : Rule) → ruleOf s ≡ accepted r → WellFormed (length (r .patterns)) [] (r .formula)
-well-formed s bytes r e = reading-accepts s bytes r .0 e .0 .formula
+use Rattle.synthesis.proofs.Synthesized.{counted-accepts, counted-refuses, accepts-as}
+use Rattle.synthesis.proofs.Equations.{file-well-formed, first-place, first-member, equations-closed}
 
 -- ---- a run over a table that goes as one over the equations
 
-pub record RunsAs (y : Synthesis) (table w : List ℕ) : Type 0 where
-  pub keeps : kept (tabled table) 0 w ≡ kept (answerOf (y .rule)) (firstOf (y .rule)) w
-  pub judges : verdicts (tabled table) 0 w ≡ verdicts (answerOf (y .rule)) (firstOf (y .rule)) w
-  pub ends : ended (tabled table) 0 w ≡ place (ended (answerOf (y .rule)) (firstOf (y .rule)) w) (y .equations)
+pub record RunsAs (mark : ℕ) (y : Synthesis) (table w : List ℕ) : Type 0 where
+  pub keeps : kept (entry 256 mark table) 0 w ≡ kept (answerOf (y .rule)) (firstOf (y .rule)) w
+  pub judges : verdicts (entry 256 mark table) 0 w ≡ verdicts (answerOf (y .rule)) (firstOf (y .rule)) w
+  pub ends : ended (entry 256 mark table) 0 w ≡ place (ended (answerOf (y .rule)) (firstOf (y .rule)) w) (y .equations)
 
-module _ (limit : ℕ) (s table : List ℕ) where
+module _ (limit mark : ℕ) (s table : List ℕ) where
   -- the table that building leaves
   abbrev pub left : List ℕ
-  left = tableAfter (buildingOf limit s (length table)) table
+  left = tableAfter mark (buildingOf limit s (length table)) table
 
   -- the table of a rule
   abbrev rowsFor : Rule → List ℕ
-  rowsFor r = filled 255 (answerOf r) (equationsOf limit r) 256 table
+  rowsFor r = filled mark (answerOf r) (equationsOf limit r) 256 table
 
   -- no check refuses the file, which is r, and its rows are inside the table
   record Admits (r : Rule) : Type 0 where
@@ -59,35 +58,35 @@ module _ (limit : ℕ) (s table : List ℕ) where
   leaves P holds y e =
       let enough = building-accepts limit s (length table) y e in
       rw e
-      (synthesis-accepts limit s (λ y. P y (tableAfter (accepted y) table))
+      (synthesis-accepts limit s (λ y. P y (tableAfter mark (accepted y) table))
       (λ r read hopeful few. holds r (record { read = read; hopeful = hopeful; few = few; room = omega (arith, enough .0) })) y
       (enough .1))
 
   pub built-range : (k : ℕ) (y : Synthesis) → buildingOf limit s (length table) ≡ accepted y → k < length (y .equations)
-      → RowInRange (length (y .equations)) (rowOf 256 left k)
-  built-range k = leaves (λ y t. k < length (y .equations) → RowInRange (length (y .equations)) (rowOf 256 t k)) λ r admits h.
+      → RowInRange mark (length (y .equations)) (rowOf 256 left k)
+  built-range k = leaves (λ y t. k < length (y .equations) → RowInRange mark (length (y .equations)) (rowOf 256 t k)) λ r admits h.
       let l = equationsOf limit r in
       record {
-        whole = ap length (filled-row 255 (answerOf r) l 256 table (admits .room) k h) ∙ entries-length 255 (answerOf r) l (getD l k 0) 256;
-        range = λ c b. table-range 256 255 (answerOf r) l (equations-closed limit r (admits .few)) table (admits .room) k c h b;
+        whole = ap length (filled-row mark (answerOf r) l 256 table (admits .room) k h) ∙ entries-length mark (answerOf r) l (getD l k 0) 256;
+        range = λ c b. table-range 256 mark (answerOf r) l (equations-closed limit r (admits .few)) table (admits .room) k c h b;
       }
 
   pub built-rest : (y : Synthesis) → buildingOf limit s (length table) ≡ accepted y → SameAfterRows (length (y .equations)) table left
   built-rest = leaves (λ y t. SameAfterRows (length (y .equations)) table t) λ r admits.
       let l = equationsOf limit r in
-      record { long = filled-length 255 (answerOf r) l 256 table (admits .room); rest = filled-rest 255 (answerOf r) l 256 table }
+      record { long = filled-length mark (answerOf r) l 256 table (admits .room); rest = filled-rest mark (answerOf r) l 256 table }
 
-  module _ (below : limit ≤ 255) where
+  module _ (below : limit ≤ mark) where
     rows-rename : (r : Rule) → Admits r
-        → Renames 256 (λ e. Member e (equationsOf limit r)) (answerOf r) (tabled (rowsFor r)) (λ e. place e (equationsOf limit r))
+        → Renames 256 (λ e. Member e (equationsOf limit r)) (answerOf r) (entry 256 mark (rowsFor r)) (λ e. place e (equationsOf limit r))
     rows-rename r admits =
-        table-renames 256 255 (answerOf r) (equationsOf limit r) (equations-closed limit r (admits .few)) table (admits .room)
+        table-renames 256 mark (answerOf r) (equationsOf limit r) (equations-closed limit r (admits .few)) table (admits .room)
         (omega (arith, admits .few))
 
-    pub built-runs : (w : List ℕ) → Bytes w → (y : Synthesis) → buildingOf limit s (length table) ≡ accepted y → RunsAs y left w
-    built-runs w bytes = leaves (λ y t. RunsAs y t w) λ r admits.
+    pub built-runs : (w : List ℕ) → Bytes w → (y : Synthesis) → buildingOf limit s (length table) ≡ accepted y → RunsAs mark y left w
+    built-runs w bytes = leaves (λ y t. RunsAs mark y t w) λ r admits.
         let l = equationsOf limit r in
-        let t = tabled (rowsFor r) in
+        let t = entry 256 mark (rowsFor r) in
         let renames = rows-rename r admits in
         let alike = renamed-runs 256 (λ e. Member e l) (answerOf r) t (λ e. place e l) renames (firstOf r) w (first-member limit r) bytes in
         record {
@@ -97,34 +96,49 @@ module _ (limit : ℕ) (s table : List ℕ) where
         }
 
     module _ (bytes : Bytes s) where
-      pub built-monitors : (y : Synthesis) → buildingOf limit s (length table) ≡ accepted y → Monitors (y .rule) (tabled left) 0
-      built-monitors = leaves (λ y t. Monitors (y .rule) (tabled t) 0) λ r admits.
+      pub built-monitors : (y : Synthesis) → buildingOf limit s (length table) ≡ accepted y → Monitors (y .rule) (entry 256 mark left) 0
+      built-monitors = leaves (λ y t. Monitors (y .rule) (entry 256 mark t) 0) λ r admits.
           let l = equationsOf limit r in
-          let t = tabled (rowsFor r) in
+          let t = entry 256 mark (rowsFor r) in
           let renames = rows-rename r admits in
-          let monitors = rule-monitors r (well-formed s bytes r (admits .read)) (admits .hopeful) in
+          let monitors = rule-monitors r (file-well-formed s bytes r (admits .read)) (admits .hopeful) in
           subst (Monitors r t) (first-place limit r)
           (renamed-monitors r (λ e. Member e l) (answerOf r) t (λ e. place e l) renames (firstOf r) (first-member limit r) monitors)
 
       -- a code is dropped exactly when the codes kept so far, followed by it, violate the rule
-      pub built-drops : (y : Synthesis) → buildingOf limit s (length table) ≡ accepted y → DropsViolations (y .rule) (tabled left) 0
-      built-drops y e = drops-violations (y .rule) (tabled left) 0 (built-monitors y e)
+      pub built-drops : (y : Synthesis) → buildingOf limit s (length table) ≡ accepted y → DropsViolations (y .rule) (entry 256 mark left) 0
+      built-drops y e = drops-violations (y .rule) (entry 256 mark left) 0 (built-monitors y e)
 
 -- ---- the promises
 
+-- What holds of the rule and the table of each accepted synthesis, holds of the file's rule and what building leaves.
+by-count : (limit : ℕ) (s : List ℕ) (size : ℕ) (P : Rule → Type 0) (r : Rule) (n : ℕ) → ruleOf s ≡ accepted r
+    → countedOf (buildingOf limit s size) ≡ Equations n → ((y : Synthesis) → buildingOf limit s size ≡ accepted y → P (y .rule)) → P r
+by-count limit s size P r n read e holds =
+    let y = counted-accepts (buildingOf limit s size) n e in
+    let same = accepts-as limit s r read (y .0) (building-accepts limit s size (y .0) (y .1) .1) in
+    subst (λ (z : Synthesis). P (z .rule)) same (holds (y .0) (y .1))
+
 pub table-monitors : TableMonitors
-table-monitors limit s table below bytes = built-monitors limit s table below bytes
+table-monitors limit mark s table r n below bytes read e =
+    by-count limit s (length table) (λ r. Monitors r (entry 256 mark (left limit mark s table)) 0) r n read e
+    (built-monitors limit mark s table below bytes)
 
 pub table-drops : TableDrops
-table-drops limit s table below bytes = built-drops limit s table below bytes
+table-drops limit mark s table r n below bytes read e =
+    drops-violations r (entry 256 mark (left limit mark s table)) 0 (table-monitors limit mark s table r n below bytes read e)
 
 pub table-rest : TableRest
-table-rest = built-rest
+table-rest limit mark s table n e =
+    let y = counted-accepts (buildingOf limit s (length table)) n e in
+    rw (y .2) (built-rest limit mark s table (y .0) (y .1))
 
 pub entries-in-range : EntriesInRange
-entries-in-range limit s table y e k = built-range limit s table k y e
+entries-in-range limit mark s table n e k h =
+    let y = counted-accepts (buildingOf limit s (length table)) n e in
+    rw (y .2) (built-range limit mark s table k (y .0) (y .1) (omega (arith, y .2, h)))
 
 pub refuses-hopeless : RefusesHopeless
 refuses-hopeless limit s bytes r read =
-    let iff = hopeless-iff r (well-formed s bytes r read) in
-    (λ e. iff .0 (refused-eight limit s r read e), λ h. refuses-eight limit s r read (iff .1 h))
+    let iff = hopeless-iff r (file-well-formed s bytes r read) in
+    (λ e. iff .0 (refused-eight limit s r read (counted-refuses (synthesisOf limit s) 8 0 e)), λ h. rw (refuses-eight limit s r read (iff .1 h)))

@@ -1,7 +1,7 @@
 -- A code takes an equation to the next, and the lists that violate the one to the lists that violate the other.
 use Prim.Native.Nat.{ℕ}
-use mathlib.Core.Bool.{Bool}
 use mathlib.Core.Logic.{_↔_, _⊎_, inl, inr}
+use mathlib.Core.Bool.{Bool}
 use mathlib.Core.List.{List, [], _∷_}
 use lib.ListN.{length}
 use Rattle.reading.specs.Formula.{WellFormed}
@@ -12,7 +12,7 @@ use Rattle.synthesis.specs.Monitor.{Answer, dropped, next}
 use Rattle.synthesis.specs.NodeSet.{Has}
 use Rattle.synthesis.specs.Opening.{IsFalsity, OpensToFalsity, Leads, leads, Answers, ViolatesEquation}
 use Rattle.synthesis.specs.Answering.{firstOf, answerOf}
-use Rattle.synthesis.specs.Promises.{ViolatesNext, FollowsViolation}
+use Rattle.synthesis.specs.Promises.{ViolatesNext, Follows, FollowsViolation}
 use Rattle.synthesis.proofs.AnsweringLaws.{answers-as-defined}
 use Rattle.synthesis.proofs.ViolationLaws.{ViolatesNode, violates-node, opens-violates}
 use Rattle.synthesis.proofs.ViolationLaws.{Ends, at-falsity, at-necessity, violates-opens}
@@ -67,9 +67,12 @@ module _ (r : Rule) (wf : WellFormed (length (r .patterns)) [] (r .formula)) whe
           let o = answers-as-defined r wf .first n .0 member in
           opens-violates (covered r) (r .formula) o (violates-node (covered r) (r .formula) node v) _ _ whole
 
-  pub follows-violation : FollowsViolation r
-  follows-violation = record {
+  follows : Follows r
+  follows = record {
     step = λ e c w. step e c w (answerOf r e c) (answers-as-defined r wf .answers e c);
     end = end;
     start = start;
   }
+
+pub follows-violation : FollowsViolation
+follows-violation = follows

@@ -1,21 +1,64 @@
 -- The equations of a rule: they are distinct, reached and closed, and over the limit exactly where no closed list is within it.
 use Prim.Native.Nat.{ℕ, _≤_, _<_}
-use mathlib.Core.Path.{_≡_, refl}
-use mathlib.Core.Bool.{Bool, true, false}
-use mathlib.Core.List.{List}
-use native.Mathlib.Omega.{arith}
+use mathlib.Core.Path.{_≡_, refl, sym, _∙_, ap, subst}
+use mathlib.Core.Logic.{_⊎_, inl, inr}
+use mathlib.Core.Bool.{Bool, true, false, true≢false}
+use mathlib.Core.List.{List, []}
 use native.Mathlib.Decide.{decLt}
+use native.Mathlib.Omega.{arith}
 use lib.ListN.{length, getD}
-use Rattle.reading.specs.Rule.{Rule}
-use Rattle.reading.specs.Outcome.{refused}
+use Rattle.reading.specs.Formula.{Formula, necessity}
+use Rattle.reading.specs.Rule.{Rule, Bytes}
+use Rattle.reading.specs.Outcome.{accepted}
+use Rattle.reading.specs.File.{ruleOf}
+use Rattle.reading.specs.Nodes.{EnclosingMax, Node}
+use Rattle.reading.proofs.Accepted.{reading-accepts}
+use Rattle.synthesis.specs.Monitor.{next}
+use Rattle.synthesis.specs.NodeSet.{Has}
+use Rattle.synthesis.specs.Opening.{Opens, falsity-itself, necessity-itself, first-part, second-part, body-of-max, body-of-variable}
+use Rattle.synthesis.specs.Opening.{IsFalsity, Leads, leads, Answers}
 use Rattle.synthesis.specs.Answering.{firstOf, answerOf, hopeless}
 use Rattle.synthesis.specs.Search.{place, found}
-use Rattle.synthesis.specs.Building.{equationsOf, synthesisOf}
-use Rattle.synthesis.specs.Promises.{Closed, RefusesTooMany, EquationsReached, ReachesEquations}
+use Rattle.synthesis.specs.Building.{equationsOf, Synthesis, synthesisOf, countedOf}
+use Rattle.synthesis.specs.Promises.{WellFormedFormula, Counts, AnswersCount, ChecksTable, Closed, RefusesTooMany, Reached, ReachesEquations}
+use Rattle.synthesis.specs.declared.Counted.the-variants.{Refused}
 use Rattle.synthesis.proofs.Places.{Member, place-is, place-first, member-at, Distinct, distinct-places, distinct-fits}
-use Rattle.synthesis.proofs.Finding.{all-at, ClosedUnder, found-closed, found-inside, Reached, found-reached}
+use Rattle.synthesis.proofs.Finding.{all-at, ClosedUnder, found-closed, found-inside, Reached as ReachedBy, found-reached, found-all}
 use Rattle.synthesis.proofs.Finding.{found-first, found-distinct}
-use Rattle.synthesis.proofs.Synthesized.{made, synthesis-accepts, refused-nine, refuses-eight, refuses-nine}
+use Rattle.synthesis.proofs.AnsweringLaws.{answers-as-defined}
+use Rattle.synthesis.proofs.EquationLaws.{follows-violation}
+use Rattle.synthesis.proofs.RuleMonitor.{hopeless-iff}
+use Rattle.synthesis.proofs.Synthesized.{made, synthesis-accepts, building-short, building-enough, refused-nine, refuses-eight, refuses-nine}
+use Rattle.synthesis.proofs.Synthesized.{counted-accepts, counted-refuses, accepts-as}
+
+-- a file that is read is a rule with a well-formed formula
+pub file-well-formed : (s : List ℕ) → Bytes s → (r : Rule) → ruleOf s ≡ accepted r → WellFormedFormula r
+file-well-formed s bytes r e = reading-accepts s bytes r .0 e .0 .formula
+
+-- ---- what opening gives
+
+abbrev NecessityNode : (root : Formula) → ℕ → Type 0
+NecessityNode root n = (p : ℕ) × (ms : List EnclosingMax) × (f : Formula) × Node root n ms (necessity p f)
+
+abbrev Necessities : (root : Formula) → (e : ℕ) → Type 0
+Necessities root e = (n : ℕ) → Has e n → NecessityNode root n
+
+opens-to : {root : Formula} {k m : ℕ} → Opens root k m → IsFalsity root m ⊎ NecessityNode root m
+opens-to (falsity-itself {ms = ms} n) = inl (ms, n)
+opens-to (necessity-itself {p = p} {ms = ms} {f = f} n) = inr (p, ms, f, n)
+opens-to (first-part n o) = opens-to o
+opens-to (second-part n o) = opens-to o
+opens-to (body-of-max n o) = opens-to o
+opens-to (body-of-variable n h o) = opens-to o
+
+leads-to : {r : Rule} {e c m : ℕ} → Leads r e c m → IsFalsity (r .formula) m ⊎ NecessityNode (r .formula) m
+leads-to (leads h n q o) = opens-to o
+
+no-falsity : {root : Formula} {n : ℕ} → IsFalsity root n ⊎ NecessityNode root n → (IsFalsity root n → ⊥) → NecessityNode root n
+no-falsity (inl x) d = absurd (d x)
+no-falsity (inr x) d = x
+
+-- ---- the equations of a rule
 
 module _ (limit : ℕ) (r : Rule) where
   -- the first equation has row 0
@@ -33,10 +76,10 @@ module _ (limit : ℕ) (r : Rule) where
   unfolding equationsOf
   equations-distinct = found-distinct 256 (answerOf r) limit (firstOf r)
 
-  equations-reached : (i : ℕ) → i < length (equationsOf limit r) → Reached 256 (answerOf r) (firstOf r) (getD (equationsOf limit r) i 0)
+  equations-reached : (i : ℕ) → i < length (equationsOf limit r) → ReachedBy 256 (answerOf r) (firstOf r) (getD (equationsOf limit r) i 0)
   unfolding equationsOf
   equations-reached i h =
-      all-at (Reached 256 (answerOf r) (firstOf r)) (found 256 (answerOf r) limit (firstOf r)) i
+      all-at (ReachedBy 256 (answerOf r) (firstOf r)) (found 256 (answerOf r) limit (firstOf r)) i
       (found-reached 256 (answerOf r) limit (firstOf r)) h
 
   pub equations-closed : length (equationsOf limit r) ≤ limit → ClosedUnder 256 (answerOf r) (equationsOf limit r)
@@ -68,28 +111,72 @@ module _ (limit : ℕ) (r : Rule) where
       under : ClosedUnder 256 (answerOf r) es
       under i c e h b q = member e (closed .next i c e h b q)
 
-  equations-are : length (equationsOf limit r) ≤ limit → EquationsReached (made limit r)
-  equations-are few = record {
-    distinct = distinct-places (equationsOf limit r) equations-distinct;
-    reached = λ i h. let e = equations-reached i h in (e .word, e .codes-of, e .keeps, e .ends);
-    closed = closed-list few;
-  }
+  -- ---- their members are necessities
+
+  module _ (wf : WellFormedFormula r) where
+    -- whatever answers lead to has necessities only
+    next-necessities : (e c e′ : ℕ) → answerOf r e c ≡ next e′ → Necessities (r .formula) e′
+    next-necessities e c e′ q n h =
+        let a : Answers r e c (next e′) = subst (Answers r e c) q (answers-as-defined r wf .answers e c) in
+        let l = a .1 n .0 h in
+        no-falsity (leads-to l) (a .0 n l)
+
+    first-necessities : hopeless r ≡ false → Necessities (r .formula) (firstOf r)
+    first-necessities hopeful n h =
+        let o = answers-as-defined r wf .first n .0 h in
+        no-falsity (opens-to o) (λ f. true≢false (sym (hopeless-iff r wf .1 (follows-violation r wf .start [] .1 (inl (n, o, f)))) ∙ hopeful))
+
+    equations-necessities : hopeless r ≡ false → (i : ℕ) → i < length (equationsOf limit r) → Necessities (r .formula) (getD (equationsOf limit r) i 0)
+    unfolding equationsOf
+    equations-necessities hopeful i h =
+        all-at (Necessities (r .formula)) (found 256 (answerOf r) limit (firstOf r)) i
+        (found-all 256 (answerOf r) (Necessities (r .formula)) (firstOf r) (first-necessities hopeful)
+        (λ e c e′ p b q. next-necessities e c e′ q) limit) h
 
 -- ---- the promises
 
+pub answers-count : AnswersCount
+answers-count limit s n e =
+    let y = counted-accepts (synthesisOf limit s) n e in
+    synthesis-accepts limit s (λ z. n ≡ length (z .equations) → Counts limit s n)
+    (λ r read hopeful few q. record {
+      rule = r;
+      is = read;
+      count = q;
+      some = omega (arith, q, first-member limit r);
+      few = omega (arith, q, few);
+    }) (y .0) (y .1) (y .2)
+
+pub checks-table : (limit : ℕ) (s : List ℕ) (size : ℕ) → ChecksTable limit s size
+checks-table limit s size = record { short = building-short limit s size; enough = building-enough limit s size }
+
 pub reaches-equations : ReachesEquations
-reaches-equations limit s y = synthesis-accepts limit s EquationsReached (λ r read hopeful few. equations-are limit r few) y
+reaches-equations limit s bytes r n read e =
+    let y = counted-accepts (synthesisOf limit s) n e in
+    synthesis-accepts limit s (λ z. z ≡ made limit r → Reached r (equationsOf limit r))
+    (λ r′ read′ hopeful few q.
+    let same : r′ ≡ r = ap (λ (z : Synthesis). z .rule) q in
+    let hope : hopeless r ≡ false = subst (λ x. hopeless x ≡ false) same hopeful in
+    let small : length (equationsOf limit r) ≤ limit = subst (λ x. length (equationsOf limit x) ≤ limit) same few in
+    record {
+      members = λ i m h. equations-necessities limit r (file-well-formed s bytes r read) hope i h m;
+      distinct = distinct-places (equationsOf limit r) (equations-distinct limit r);
+      reached = λ i h. let w = equations-reached limit r i h in (w .word, w .codes-of, w .keeps, w .ends);
+      closed = closed-list limit r small;
+    })
+    (y .0) (y .1) (accepts-as limit s r read (y .0) (y .1))
 
 pub refuses-too-many : RefusesTooMany
 refuses-too-many limit s r read hopeful = (over, none)
   where
-    over : synthesisOf limit s ≡ refused 9 0 → (es : List ℕ) → length es ≤ limit → Closed r es → ⊥
-    over e es few closed = omega (arith, refused-nine limit s r read e, closed-longer limit r es closed)
+    over : countedOf (synthesisOf limit s) ≡ Refused 9 0 → (es : List ℕ) → length es ≤ limit → Closed r es → ⊥
+    over e es few closed =
+        omega (arith, refused-nine limit s r read (counted-refuses (synthesisOf limit s) 9 0 e), closed-longer limit r es closed)
 
-    none : ((es : List ℕ) → length es ≤ limit → Closed r es → ⊥) → synthesisOf limit s ≡ refused 9 0
+    none : ((es : List ℕ) → length es ≤ limit → Closed r es → ⊥) → countedOf (synthesisOf limit s) ≡ Refused 9 0
     none h = on (hopeless r) refl (decLt limit (length (equationsOf limit r)))
       where
-        on : (b : Bool) → hopeless r ≡ b → Dec (limit < length (equationsOf limit r)) → synthesisOf limit s ≡ refused 9 0
-        on true q d = absurd (hopeful (refuses-eight limit s r read q))
-        on false q (yes a) = refuses-nine limit s r read q a
+        on : (b : Bool) → hopeless r ≡ b → Dec (limit < length (equationsOf limit r)) → countedOf (synthesisOf limit s) ≡ Refused 9 0
+        on true q d = absurd (hopeful (rw (refuses-eight limit s r read q)))
+        on false q (yes a) = rw (refuses-nine limit s r read q a)
         on false q (no a) = absurd (h (equationsOf limit r) (omega arith) (closed-list limit r (omega arith)))

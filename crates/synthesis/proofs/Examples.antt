@@ -5,7 +5,7 @@ use mathlib.Core.Bool.{false}
 use mathlib.Core.List.{List, [], _∷_, _++_}
 use native.Mathlib.Omega.{arith}
 use lib.ListN.{length, getD, replicate}
-use Rattle.reading.specs.Pattern.{bit, covers}
+use Rattle.reading.specs.Pattern.{bit, covers, least, extentOf}
 use Rattle.reading.specs.Formula.{truth, falsity, both, necessity, max, variable}
 use Rattle.reading.specs.Rule.{Rule}
 use Rattle.reading.specs.Outcome.{accepted}
@@ -33,7 +33,7 @@ module _ (s : List ℕ) (r : Rule) (l : List ℕ) (read : ruleOf s ≡ accepted 
   built : buildingOf 128 s (length table) ≡ accepted (made 128 r)
   built = building-enough 128 s (length table) room ∙ accepts-made 128 s r read hopeful (rw equations few)
 
-  row-left : (k : ℕ) → k < length l → rowOf 256 (left 128 s table) k ≡ entries 255 (answerOf r) l (getD l k 0) 256
+  row-left : (k : ℕ) → k < length l → rowOf 256 (left 128 255 s table) k ≡ entries 255 (answerOf r) l (getD l k 0) 256
   row-left k h = rw (built, equations) (filled-row 255 (answerOf r) l 256 table (omega arith) k h)
 
 -- ---- the rules
@@ -41,16 +41,16 @@ module _ (s : List ℕ) (r : Rule) (l : List ℕ) (read : ruleOf s ≡ accepted 
 abbrev always : Rule
 always = record { patterns = []; formula = truth }
 
-abbrev pattern : (mask first last : ℕ) → Pattern
+abbrev pub pattern : (mask first last : ℕ) → Pattern
 pattern mask first last = record { mask = mask; first = first; last = last }
 
-abbrev pool : Rule
+abbrev pub pool : Rule
 pool = record {
   patterns = pattern 2 5 5 ∷ pattern 1 5 5 ∷ pattern 16 0 31 ∷ [];
   formula = max (necessity 0 (both (necessity 1 falsity) (necessity 2 (variable 0))));
 }
 
-abbrev poolFile : List ℕ
+abbrev pub poolFile : List ℕ
 poolFile = 1 ∷ 2 ∷ 5 ∷ 5 ∷ 1 ∷ 1 ∷ 5 ∷ 5 ∷ 1 ∷ 16 ∷ 0 ∷ 31 ∷ 6 ∷ 5 ∷ 0 ∷ 4 ∷ 5 ∷ 1 ∷ 3 ∷ 5 ∷ 2 ∷ 7 ∷ 0 ∷ []
 
 -- {1}, the empty set and {3, 5}
@@ -74,7 +74,7 @@ pool-equations = refl
 pub record SmallFiles : Type 0 where
   pub empty : counted [] ≡ Refused 1 0
   pub truth-alone : counted (2 ∷ []) ≡ Equations 1
-  pub truth-row : (table : List ℕ) → 32768 ≤ length table → rowOf 256 (left 128 (2 ∷ []) table) 0 ≡ replicate 256 0
+  pub truth-row : (table : List ℕ) → 32768 ≤ length table → rowOf 256 (left 128 255 (2 ∷ []) table) 0 ≡ replicate 256 0
   pub falsity-alone : counted (3 ∷ []) ≡ Refused 8 0
   pub byte-after : counted (2 ∷ 2 ∷ []) ≡ Refused 3 1
   pub no-kind : counted (0 ∷ []) ≡ Refused 2 0
@@ -84,10 +84,11 @@ pub record SmallFiles : Type 0 where
   pub no-formula : counted (1 ∷ 1 ∷ 5 ∷ 5 ∷ []) ≡ Refused 1 4
   pub first-over-last : counted (1 ∷ 1 ∷ 6 ∷ 5 ∷ 2 ∷ []) ≡ Refused 5 0
   pub last-slot : counted (1 ∷ 1 ∷ 31 ∷ 31 ∷ 2 ∷ []) ≡ Equations 1
+  pub last-slot-lowest : extentOf (pattern 1 31 31) .lowest ≡ 31
   pub short-table : (s table : List ℕ) → length table < 32768 → countedOf (buildingOf 128 s (length table)) ≡ Refused 10 0
 
-pub small-files : SmallFiles
-unfolding synthesisOf ruleOf patternsAt formulaOf formulaAt hopeless equationsOf found noted entries firstOf answerOf bit covers
+small-files : SmallFiles
+unfolding synthesisOf ruleOf patternsAt formulaOf formulaAt hopeless equationsOf found noted entries firstOf answerOf bit covers least
 small-files = record {
   empty = refl;
   truth-alone = refl;
@@ -101,20 +102,21 @@ small-files = record {
   no-formula = refl;
   first-over-last = refl;
   last-slot = refl;
+  last-slot-lowest = refl;
   short-table = λ s table h. rw (building-short 128 s (length table) h);
 }
 
 pub record NumberPool (table : List ℕ) : Type 0 where
   pub count : countedOf (buildingOf 128 poolFile (length table)) ≡ Equations 3
-  pub row-0 : rowOf 256 (left 128 poolFile table) 0 ≡ replicate 37 1 ++ 2 ∷ replicate 218 1
-  pub row-1 : rowOf 256 (left 128 poolFile table) 1 ≡ replicate 256 1
-  pub row-2 : rowOf 256 (left 128 poolFile table) 2 ≡ replicate 5 1 ++ 255 ∷ replicate 122 1 ++ replicate 32 0 ++ replicate 96 1
-  pub after-cancel : tabled (left 128 poolFile table) 0 37 ≡ next 2
-  pub issue-dropped : tabled (left 128 poolFile table) 2 5 ≡ dropped
-  pub after-sync : tabled (left 128 poolFile table) 2 128 ≡ next 0
-  pub judged : verdicts (tabled (left 128 poolFile table)) 0 (37 ∷ 5 ∷ 128 ∷ 5 ∷ 37 ∷ 5 ∷ []) ≡ 0 ∷ 1 ∷ 0 ∷ 0 ∷ 0 ∷ 0 ∷ []
+  pub row-0 : rowOf 256 (left 128 255 poolFile table) 0 ≡ replicate 37 1 ++ 2 ∷ replicate 218 1
+  pub row-1 : rowOf 256 (left 128 255 poolFile table) 1 ≡ replicate 256 1
+  pub row-2 : rowOf 256 (left 128 255 poolFile table) 2 ≡ replicate 5 1 ++ 255 ∷ replicate 122 1 ++ replicate 32 0 ++ replicate 96 1
+  pub after-cancel : tabled (left 128 255 poolFile table) 0 37 ≡ next 2
+  pub issue-dropped : tabled (left 128 255 poolFile table) 2 5 ≡ dropped
+  pub after-sync : tabled (left 128 255 poolFile table) 2 128 ≡ next 0
+  pub judged : verdicts (tabled (left 128 255 poolFile table)) 0 (37 ∷ 5 ∷ 128 ∷ 5 ∷ 37 ∷ 5 ∷ []) ≡ 0 ∷ 1 ∷ 0 ∷ 0 ∷ 0 ∷ 0 ∷ []
 
-pub number-pool : (table : List ℕ) → 32768 ≤ length table → NumberPool table
+number-pool : (table : List ℕ) → 32768 ≤ length table → NumberPool table
 unfolding entries firstOf answerOf bit covers
 number-pool table room = record {
   count = rw (building, pool-equations);
@@ -124,11 +126,20 @@ number-pool table room = record {
   after-cancel = rw (row 0 (omega arith));
   issue-dropped = rw (row 2 (omega arith));
   after-sync = rw (row 2 (omega arith));
-  judged = built-runs 128 poolFile table (omega arith) (37 ∷ 5 ∷ 128 ∷ 5 ∷ 37 ∷ 5 ∷ []) (omega arith) (made 128 pool) building .judges;
+  judged = built-runs 128 255 poolFile table (omega arith) (37 ∷ 5 ∷ 128 ∷ 5 ∷ 37 ∷ 5 ∷ []) (omega arith) (made 128 pool) building .judges;
 }
   where
     building : buildingOf 128 poolFile (length table) ≡ accepted (made 128 pool)
     building = built poolFile pool poolEquations pool-read pool-hopeful pool-equations (omega arith) table room
 
-    row : (k : ℕ) → k < 3 → rowOf 256 (left 128 poolFile table) k ≡ entries 255 (answerOf pool) poolEquations (getD poolEquations k 0) 256
+    row : (k : ℕ) → k < 3 → rowOf 256 (left 128 255 poolFile table) k ≡ entries 255 (answerOf pool) poolEquations (getD poolEquations k 0) 256
     row = row-left poolFile pool poolEquations pool-read pool-hopeful pool-equations (omega arith) table room
+
+-- ---- all of them
+
+pub record PaperExamples : Type 0 where
+  pub small : SmallFiles
+  pub pooled : (table : List ℕ) → 32768 ≤ length table → NumberPool table
+
+pub paper-examples : PaperExamples
+paper-examples = record { small = small-files; pooled = number-pool }

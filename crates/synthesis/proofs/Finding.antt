@@ -4,9 +4,9 @@ use Prim.Native.Nat.{ℕ, zero, suc, _+_, _≤_, _<_}
 use mathlib.Core.Path.{_≡_, refl, sym, _∙_, ap}
 use mathlib.Core.Bool.{Bool, true, false, cond}
 use mathlib.Core.List.{List, [], _∷_, _++_, append-assoc, append-nil}
-use native.Mathlib.Omega.{arith}
 use native.Mathlib.Nat.{zero-add, suc-add}
 use native.Mathlib.Decide.{decLt}
+use native.Mathlib.Omega.{arith}
 use lib.Dec.{ltb}
 use lib.ListN.{length, getD, length-append, List·getD-append}
 use borrow.Author.Tests.{eq-eqb, ltb-true, ltb-false, lt-ltb, le-ltb}
@@ -14,8 +14,8 @@ use Rattle.reading.specs.Rule.{All}
 use Rattle.reading.proofs.AllLaws.{all-append}
 use Rattle.synthesis.specs.Monitor.{Answer, dropped, next, cases, kept, ended}
 use Rattle.synthesis.specs.Search.{place, with, noted, turn, found}
-use Rattle.synthesis.proofs.Places.{Member, place-is, place-append, member-append, member-last, with-cases, Distinct, distinct-last}
 use Rattle.synthesis.proofs.Runs.{kept-last, ended-last}
+use Rattle.synthesis.proofs.Places.{Member, place-is, place-append, member-append, member-last, with-cases, Distinct, distinct-last}
 
 -- ---- lists that grow at the end
 

@@ -1,20 +1,21 @@
 -- Gathering the sets of the members of a set, its lowest member first.
-use Prim.Native.Nat.{ℕ, zero, suc, _+_, _*_, _/_, _%_, _^_, _≤_, _<_}
-use mathlib.Core.Path.{_≡_, refl, sym, _∙_, ap}
-use mathlib.Core.Logic.{_↔_, _⊎_, inl, inr}
-use mathlib.Core.Bool.{Bool, true, false, cond}
+use Prim.Native.Nat.{ℕ, zero, suc, _/_, _^_, _<_}
+use mathlib.Core.Path.{_≡_}
+use mathlib.Core.Logic.{_↔_}
+use mathlib.Core.Bool.{cond}
 use mathlib.Core.List.{List, [], _∷_}
+use native.Mathlib.Decide.{ℕ-discrete}
 use native.Mathlib.Omega.{arith}
-use lib.ListN.{length, getD}
+use lib.Bits.{or-zero-r}
 use lib.Count.{trailingZeros}
-use lib.Dec.{eqb→eq}
-use Rattle.synthesis.specs.NodeSet.{Has, has, none, single, union, common}
-use Rattle.synthesis.specs.Arrays.{gathered}
+use lib.ListN.{getD}
 use Rattle.reading.specs.Pattern.{least}
 use Rattle.reading.proofs.Counting.{least-holds}
 use Rattle.reading.proofs.Bits.{isSet, trailing-is-least, trailing-lt}
-use Rattle.synthesis.proofs.MemberLaws.{cond-has}
-use Rattle.synthesis.proofs.NodeSetLaws.{has-none, has-union, has-true, true-has, has-ext, half-has, same, toggled, toggled-other}
+use Rattle.synthesis.specs.NodeSet.{Has, has, none, union}
+use Rattle.synthesis.specs.Arrays.{gathered}
+use Rattle.synthesis.proofs.NodeSetLaws.{has-none, half-has, has-true, true-has, has-ext, none-of, toggled, toggled-other}
+use Rattle.synthesis.proofs.MemberLaws.{cond-has, in-first, in-second, union-cases}
 
 -- ---- which nodes are gathered
 
@@ -27,18 +28,16 @@ gathered-has xs live m = (there xs live, λ g. back xs live (g .0) (g .1) (g .2)
   where
     there : (xs : List ℕ) (live : ℕ) → Has (gathered xs live) m → Gathers xs live m
     there [] live h = absurd (has-none m h)
-    there (x ∷ xs) live h = on (has-union (cond (has live 0) x none) (gathered xs (live / 2)) m .0 h) (there xs (live / 2))
-      where
-        on : Has (cond (has live 0) x none) m ⊎ Has (gathered xs (live / 2)) m → (Has (gathered xs (live / 2)) m → Gathers xs (live / 2) m)
-            → Gathers (x ∷ xs) live m
-        on (inl h) ih = let r = cond-has (has live 0) x m h in (0, has-true live 0 (r .0), r .1)
-        on (inr h) ih = let r = ih h in (suc (r .0), sym (half-has live (r .0)) ∙ r .1, r .2)
+    there (x ∷ xs) live h =
+        union-cases (cond (has live 0) x none) (gathered xs (live / 2)) m
+        (λ a. let r = cond-has (has live 0) x m a in (0, has-true live 0 (r .0), r .1))
+        (λ a. let r = there xs (live / 2) a in (suc (r .0), half-has live (r .0) .0 (r .1), r .2)) h
 
     back : (xs : List ℕ) (live n : ℕ) → Has live n → Has (getD xs n 0) m → Has (gathered xs live) m
     back [] live n h k = k
-    back (x ∷ xs) live zero h k = has-union (cond (has live 0) x none) (gathered xs (live / 2)) m .1 (inl (rw (true-has live 0 h) k))
+    back (x ∷ xs) live zero h k = in-first (cond (has live 0) x none) (gathered xs (live / 2)) m (rw (true-has live 0 h) k)
     back (x ∷ xs) live (suc n) h k =
-        has-union (cond (has live 0) x none) (gathered xs (live / 2)) m .1 (inr (back xs (live / 2) n (half-has live n ∙ h) k))
+        in-second (cond (has live 0) x none) (gathered xs (live / 2)) m (back xs (live / 2) n (half-has live n .1 h) k)
 
 -- ---- one member at a time
 
@@ -47,48 +46,39 @@ pub gather-step : (xs : List ℕ) (all rest i : ℕ) → Has rest i
     → union (union all (getD xs i 0)) (gathered xs (toggled rest i)) ≡ union all (gathered xs rest)
 gather-step xs all rest i h = has-ext _ _ (λ m. (there m, back m))
   where
-    kept : (n : ℕ) → Has (toggled rest i) n → Has rest n
-    kept n k = on (same i n)
-      where
-        on : (i ≡ n) ⊎ (i ≡ n → ⊥) → Has rest n
-        on (inl q) = rw (← q) h
-        on (inr q) = sym (toggled-other rest i n q) ∙ k
+    one : ℕ
+    one = getD xs i 0
 
-    there : (m : ℕ) → Has (union (union all (getD xs i 0)) (gathered xs (toggled rest i))) m → Has (union all (gathered xs rest)) m
-    there m k = outer (has-union (union all (getD xs i 0)) (gathered xs (toggled rest i)) m .0 k)
-      where
-        inner : Has all m ⊎ Has (getD xs i 0) m → Has (union all (gathered xs rest)) m
-        inner (inl a) = has-union all (gathered xs rest) m .1 (inl a)
-        inner (inr a) = has-union all (gathered xs rest) m .1 (inr (gathered-has xs rest m .1 (i, h, a)))
+    others : ℕ
+    others = gathered xs (toggled rest i)
 
-        outer : Has (union all (getD xs i 0)) m ⊎ Has (gathered xs (toggled rest i)) m → Has (union all (gathered xs rest)) m
-        outer (inl a) = inner (has-union all (getD xs i 0) m .0 a)
-        outer (inr a) =
-            let g = gathered-has xs (toggled rest i) m .0 a in
-            has-union all (gathered xs rest) m .1 (inr (gathered-has xs rest m .1 (g .0, kept (g .0) (g .1), g .2)))
+    kept : (n : ℕ) → Has (toggled rest i) n → Dec (i ≡ n) → Has rest n
+    kept n k (yes q) = rw (← q) h
+    kept n k (no q) = toggled-other rest i n q .0 k
 
-    back : (m : ℕ) → Has (union all (gathered xs rest)) m → Has (union (union all (getD xs i 0)) (gathered xs (toggled rest i))) m
-    back m k = outer (has-union all (gathered xs rest) m .0 k)
-      where
-        left : Has all m ⊎ Has (getD xs i 0) m → Has (union (union all (getD xs i 0)) (gathered xs (toggled rest i))) m
-        left a = has-union (union all (getD xs i 0)) (gathered xs (toggled rest i)) m .1 (inl (has-union all (getD xs i 0) m .1 a))
+    there : (m : ℕ) → Has (union (union all one) others) m → Has (union all (gathered xs rest)) m
+    there m =
+        union-cases (union all one) others m
+        (union-cases all one m (in-first all (gathered xs rest) m)
+        (λ a. in-second all (gathered xs rest) m (gathered-has xs rest m .1 (i, h, a))))
+        (λ a.
+        let g = gathered-has xs (toggled rest i) m .0 a in
+        in-second all (gathered xs rest) m (gathered-has xs rest m .1 (g .0, kept (g .0) (g .1) (ℕ-discrete i (g .0)), g .2)))
 
-        member : (n : ℕ) → Has rest n → Has (getD xs n 0) m → (i ≡ n) ⊎ (i ≡ n → ⊥) → Has (union (union all (getD xs i 0)) (gathered xs (toggled rest i))) m
-        member n r a (inl q) = left (inr (rw q a))
-        member n r a (inr q) =
-            has-union (union all (getD xs i 0)) (gathered xs (toggled rest i)) m .1
-            (inr (gathered-has xs (toggled rest i) m .1 (n, toggled-other rest i n q ∙ r, a)))
+    member : (m n : ℕ) → Has rest n → Has (getD xs n 0) m → Dec (i ≡ n) → Has (union (union all one) others) m
+    member m n r a (yes q) = in-first (union all one) others m (in-second all one m (rw q a))
+    member m n r a (no q) = in-second (union all one) others m (gathered-has xs (toggled rest i) m .1 (n, toggled-other rest i n q .1 r, a))
 
-        outer : Has all m ⊎ Has (gathered xs rest) m → Has (union (union all (getD xs i 0)) (gathered xs (toggled rest i))) m
-        outer (inl a) = left (inl a)
-        outer (inr a) = let g = gathered-has xs rest m .0 a in member (g .0) (g .1) (g .2) (same i (g .0))
+    back : (m : ℕ) → Has (union all (gathered xs rest)) m → Has (union (union all one) others) m
+    back m =
+        union-cases all (gathered xs rest) m (λ a. in-first (union all one) others m (in-first all one m a))
+        (λ a. let g = gathered-has xs rest m .0 a in member m (g .0) (g .1) (g .2) (ℕ-discrete i (g .0)))
 
 pub gather-none : (xs : List ℕ) (all : ℕ) → union all (gathered xs none) ≡ all
-gather-none xs all = has-ext _ _ (λ m. (λ k. on m (has-union all (gathered xs none) m .0 k), λ k. has-union all (gathered xs none) m .1 (inl k)))
+gather-none xs all = rw nothing (or-zero-r all)
   where
-    on : (m : ℕ) → Has all m ⊎ Has (gathered xs none) m → Has all m
-    on m (inl a) = a
-    on m (inr a) = let g = gathered-has xs none m .0 a in absurd (has-none (g .0) (g .1))
+    nothing : gathered xs none ≡ none
+    nothing = none-of (gathered xs none) (λ m a. let g = gathered-has xs none m .0 a in has-none (g .0) (g .1))
 
 -- ---- the lowest member
 
@@ -99,4 +89,4 @@ pub has-lowest : (e : ℕ) → (e ≡ 0 → ⊥) → e < 2 ^ 64 → Has e (trail
 has-lowest e n h =
     let t = trailing-is-least 64 e in
     let l : least 64 (isSet e) < 64 = rw (← t) (lowest-lt e n h) in
-    rw t (eqb→eq _ _ (rw (least-holds 64 (isSet e) l) tt))
+    rw t (has-true e (least 64 (isSet e)) (least-holds 64 (isSet e) l))

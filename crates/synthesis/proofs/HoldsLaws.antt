@@ -1,44 +1,17 @@
 -- Laws of an array that holds the found equations.
-use Prim.Native.Nat.{ℕ, zero, suc, _+_, _≤_, _<_}
+use Prim.Native.Nat.{ℕ, suc, _+_, _≤_, _<_}
 use mathlib.Core.Path.{_≡_, refl}
 use mathlib.Core.Logic.{inl, inr}
-use mathlib.Core.Bool.{Bool, true, false, cond}
 use mathlib.Core.List.{List, [], _∷_, _++_}
-use native.Mathlib.Omega.{arith}
 use native.Mathlib.Numerals.{add-one}
-use lib.Dec.{ltb}
+use native.Mathlib.Omega.{arith}
 use lib.ListN.{length, getD, take, set, length-append}
 use lib.Seq.{getD-take, take-suc-set, length-take-le}
-use borrow.Author.Tests.{lt-ltb, le-ltb}
-use Rattle.synthesis.specs.Monitor.{Answer, dropped, next, cases}
+use Rattle.synthesis.specs.Monitor.{Answer}
 use Rattle.synthesis.specs.Search.{place, with, noted, turn}
 use Rattle.synthesis.specs.Arrays.{Holds}
-
--- ---- no equation is ever taken away
-
-pub with-grows : (l : List ℕ) (e : ℕ) → length l ≤ length (with l e)
-with-grows l e = on (ltb (place e l) (length l))
-  where
-    on : (b : Bool) → length l ≤ length (cond b l (l ++ (e ∷ [])))
-    on true = omega arith
-    on false = omega (arith, length-append l (e ∷ []))
-
-module _ (codes : ℕ) (answer : ℕ → ℕ → Answer ℕ) where
-  pub noted-grows : (e c : ℕ) (l : List ℕ) → length l ≤ length (noted codes answer e c l)
-  unfolding noted
-  noted-grows e zero l = omega arith
-  noted-grows e (suc c) l = on (answer e c) (noted codes answer e c l) (noted-grows e c l)
-    where
-      on : (r : Answer ℕ) (m : List ℕ) → length l ≤ length m → length l ≤ length (cases r m (with m))
-      on dropped m h = h
-      on (next x) m h = omega (arith, with-grows m x)
-
-  pub turn-grows : (k : ℕ) (l : List ℕ) → length l ≤ length (turn codes answer k l)
-  turn-grows k l = on (ltb k (length l))
-    where
-      on : (b : Bool) → length l ≤ length (cond b (noted codes answer (getD l k 0) codes l) l)
-      on true = noted-grows (getD l k 0) codes l
-      on false = omega arith
+use Rattle.synthesis.proofs.Places.{with-old, with-new}
+use Rattle.synthesis.proofs.Finding.{Grows, grows-length, turn-some, turn-none}
 
 -- ---- what the count says
 
@@ -52,9 +25,9 @@ module _ (limit : ℕ) (a : List ℕ) (n : ℕ) (l : List ℕ) where
   held-many (inr p) h = p .1
 
   -- over the limit it stays so
-  pub held-still : (m : List ℕ) → Holds limit a n l → limit < n → length l ≤ length m → Holds limit a n m
+  pub held-still : (m : List ℕ) → Holds limit a n l → limit < n → Grows l m → Holds limit a n m
   held-still m (inl p) h g = absurd (omega arith)
-  held-still m (inr p) h g = inr (p .0, omega arith)
+  held-still m (inr p) h g = inr (p .0, omega (arith, grows-length l m g))
 
 module _ (limit : ℕ) (a : List ℕ) (n : ℕ) (l : List ℕ) (room : length a ≡ limit) (held : Holds limit a n l) where
   few : n ≤ limit → take n a ≡ l
@@ -66,11 +39,10 @@ module _ (limit : ℕ) (a : List ℕ) (n : ℕ) (l : List ℕ) (room : length a 
   -- ---- one more equation
 
   pub held-old : (e : ℕ) → n ≤ limit → place e (take n a) < n → Holds limit a n (with l e)
-  held-old e h old =
-      rw (← few h, lt-ltb (place e (take n a)) (length (take n a)) (omega (arith, size h))) (inl (h, refl))
+  held-old e h old = rw (← few h, with-old (take n a) e (omega (arith, size h))) (inl (h, refl))
 
   new : (e : ℕ) → n ≤ limit → n ≤ place e (take n a) → with l e ≡ take n a ++ (e ∷ [])
-  new e h absent = rw (← few h, le-ltb (place e (take n a)) (length (take n a)) (omega (arith, size h)))
+  new e h absent = rw (← few h) (with-new (take n a) e (λ m. omega (arith, size h)))
 
   pub held-full : (e : ℕ) → n ≡ limit → n ≤ place e (take n a) → Holds limit a (suc limit) (with l e)
   held-full e h absent =
@@ -83,7 +55,7 @@ module _ (limit : ℕ) (a : List ℕ) (n : ℕ) (l : List ℕ) (room : length a 
 
   module _ (codes : ℕ) (answer : ℕ → ℕ → Answer ℕ) (k : ℕ) where
     pub held-past : n ≤ limit → n ≤ k → Holds limit a n (turn codes answer k l)
-    held-past h past = rw (← few h, le-ltb k (length (take n a)) (omega (arith, size h))) (inl (h, refl))
+    held-past h past = rw (← few h, turn-none codes answer k (take n a) (omega (arith, size h))) (inl (h, refl))
 
     pub held-turn : n ≤ limit → k < n → turn codes answer k l ≡ noted codes answer (getD a k 0) codes l
-    held-turn h inside = rw (← few h, lt-ltb k (length (take n a)) (omega (arith, size h)), getD-take n a k 0 inside)
+    held-turn h inside = rw (← few h, turn-some codes answer k (take n a) (omega (arith, size h)), getD-take n a k 0 inside)

@@ -7,9 +7,9 @@ pub mod OpeningLaws
 pub mod AnsweringLaws
 pub mod ViolationLaws
 pub mod EquationLaws
+pub mod Runs
 pub mod RuleMonitor
 pub mod Places
-pub mod Runs
 pub mod Finding
 pub mod Rows
 pub mod MonitorLaws
@@ -20,10 +20,8 @@ pub mod Equations
 pub mod Built
 pub mod Examples
 -- What the proofs of the functions use.
-pub mod Loops
-pub mod PlaceLaws
 pub mod HoldsLaws
-pub mod TableLaws
+pub mod FillingRows
 pub mod Gathering
 pub mod SetsByTest
 pub mod Marking

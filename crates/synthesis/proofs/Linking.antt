@@ -1,19 +1,18 @@
 -- Opening the maxes of a rule and the formulas after its necessities, one node after the other.
-use Prim.Native.Nat.{ℕ, zero, suc, _+_, _≤_, _<_}
-use mathlib.Core.Path.{_≡_, refl, sym, _∙_, ap, ap₂, subst}
-use mathlib.Core.Logic.{_⊎_, inl, inr}
-use mathlib.Core.List.{List, [], _∷_, map}
-use native.Mathlib.Omega.{arith}
+use Prim.Native.Nat.{ℕ, suc, _+_, _≤_, _<_}
+use mathlib.Core.Path.{_≡_, refl, sym, _∙_, ap₂}
+use mathlib.Core.List.{List, _∷_}
 use native.Mathlib.Numerals.{add-one}
+use native.Mathlib.Omega.{arith}
 use lib.ListN.{length, getD, set, replicate}
 use lib.Seq.{getD-set-same, getD-set-other}
+use borrow.Author.Count.{below-more}
 use Rattle.reading.specs.Formula.{Formula, necessity, max, size}
 use Rattle.reading.specs.Rule.{Rule}
 use Rattle.reading.specs.Nodes.{EnclosingMax, Node, whole, first, second, after, body}
-use Rattle.reading.specs.Numbered.{kind}
+use Rattle.reading.proofs.NumberedLaws.{repeated-at}
 use Rattle.synthesis.specs.Answering.{opening, opensAround}
-use Rattle.synthesis.specs.Arrays.{IsRule, ZeroFrom, IsOpening, listedAround, Linked, AfterAll}
-use Rattle.synthesis.proofs.NodeSetLaws.{same}
+use Rattle.synthesis.specs.Arrays.{IsRule, IsOpening, listedAround, Linked, AfterAll}
 use Rattle.synthesis.proofs.NodeArrays.{kind-at, node-below}
 
 -- the array has what opening the maxes around a node gives
@@ -25,27 +24,29 @@ around-listed l (second n) h = around-listed l n (omega arith)
 around-listed l (after n) h = around-listed l n (omega arith)
 around-listed l (body {k = j} {ms = ms} {f = f} n) h = ap₂ _∷_ (l .opened-is j ms f (omega arith) n) (around-listed l n (omega arith))
 
--- One more node is linked, where the arrays stay as they were at all others.
-pub linked-next : {r : Rule} {k : ℕ} {opened afters opened′ afters′ : List ℕ} → Linked r k opened afters
-    → ((j : ℕ) → (j ≡ k → ⊥) → getD opened′ j 0 ≡ getD opened j 0) → ((j : ℕ) → (j ≡ k → ⊥) → getD afters′ j 0 ≡ getD afters j 0)
-    → ((ms : List EnclosingMax) (f : Formula) → Node (r .formula) k ms (max f) → getD opened′ k 0 ≡ opening k (opensAround ms) (max f))
-    → ((p : ℕ) (ms : List EnclosingMax) (f : Formula) → Node (r .formula) k ms (necessity p f) → getD afters′ k 0 ≡ opening (suc k) (opensAround ms) f)
-    → Linked r (k + 1) opened′ afters′
-linked-next {r} {k} {opened} {afters} {opened′} {afters′} l so sa m n = record {
-  opened-is = λ j ms f h x. for-max j ms f h x (same j k);
-  opened-yet = λ j h. so j (λ q. omega (arith, q)) ∙ l .opened-yet j (omega arith);
-  after-is = λ j p ms f h x. for-necessity j p ms f h x (same j k);
-}
-  where
-    for-max : (j : ℕ) (ms : List EnclosingMax) (f : Formula) → j < k + 1 → Node (r .formula) j ms (max f) → (j ≡ k) ⊎ (j ≡ k → ⊥)
-        → getD opened′ j 0 ≡ opening j (opensAround ms) (max f)
-    for-max j ms f h x (inl q) = rw q (m ms f (subst (λ i. Node (r .formula) i ms (max f)) q x))
-    for-max j ms f h x (inr q) = so j q ∙ l .opened-is j ms f (omega (arith, q)) x
+-- ---- one node more
 
-    for-necessity : (j p : ℕ) (ms : List EnclosingMax) (f : Formula) → j < k + 1 → Node (r .formula) j ms (necessity p f)
-        → (j ≡ k) ⊎ (j ≡ k → ⊥) → getD afters′ j 0 ≡ opening (suc j) (opensAround ms) f
-    for-necessity j p ms f h x (inl q) = rw q (n p ms f (subst (λ i. Node (r .formula) i ms (necessity p f)) q x))
-    for-necessity j p ms f h x (inr q) = sa j q ∙ l .after-is j p ms f (omega (arith, q)) x
+-- what the arrays have at node j
+abbrev OpenedAt : Rule → (opened : List ℕ) → ℕ → Type 0
+OpenedAt r opened j =
+    (ms : List EnclosingMax) (f : Formula) → Node (r .formula) j ms (max f) → getD opened j 0 ≡ opening j (opensAround ms) (max f)
+
+abbrev AfterAt : Rule → (afters : List ℕ) → ℕ → Type 0
+AfterAt r afters j =
+    (p : ℕ) (ms : List EnclosingMax) (f : Formula) → Node (r .formula) j ms (necessity p f)
+    → getD afters j 0 ≡ opening (suc j) (opensAround ms) f
+
+-- Node k is linked, where the arrays stay as they were at all others.
+linked-next : {r : Rule} {k : ℕ} {opened afters opened′ afters′ : List ℕ} → Linked r k opened afters
+    → ((j : ℕ) → (j ≡ k → ⊥) → getD opened′ j 0 ≡ getD opened j 0) → ((j : ℕ) → (j ≡ k → ⊥) → getD afters′ j 0 ≡ getD afters j 0)
+    → OpenedAt r opened′ k → AfterAt r afters′ k → Linked r (k + 1) opened′ afters′
+linked-next {r} {k} {opened′ = opened′} {afters′} l same-opened same-after at-max at-necessity = record {
+  opened-is = λ j ms f h. below-more (OpenedAt r opened′) k
+      (λ j h ms f n. same-opened j (λ q. omega (arith, q)) ∙ l .opened-is j ms f h n) at-max j h ms f;
+  opened-yet = λ j h. same-opened j (λ q. omega (arith, q)) ∙ l .opened-yet j (omega arith);
+  after-is = λ j p ms f h. below-more (AfterAt r afters′) k
+      (λ j h p ms f n. same-after j (λ q. omega (arith, q)) ∙ l .after-is j p ms f h n) at-necessity j h p ms f;
+}
 
 module _ {kinds args opened afters : List ℕ} {k e : ℕ} (r : Rule) (ir : IsRule r kinds args) (l : Linked r k opened afters) where
   pub linked-max : k < length opened → getD kinds k 0 ≡ 6 → IsOpening kinds args opened (k + 1) e → Linked r (k + 1) (set opened k e) afters
@@ -53,37 +54,33 @@ module _ {kinds args opened afters : List ℕ} {k e : ℕ} (r : Rule) (ir : IsRu
       linked-next l (λ j d. getD-set-other opened k j e 0 d) (λ j d. refl) is-open
       (λ p ms f n. absurd (let z : _≡_ {A = ℕ} 6 5 = sym q ∙ kind-at ir n in omega (arith, z)))
     where
-      is-open : (ms : List EnclosingMax) (f : Formula) → Node (r .formula) k ms (max f) → getD (set opened k e) k 0 ≡ opening k (opensAround ms) (max f)
+      is-open : OpenedAt r (set opened k e) k
       is-open ms f n =
           let x = o .is r ir (λ j h. l .opened-yet j (omega arith)) (record { number = k; body = f } ∷ ms) f (rw (add-one k) (body n)) in
           getD-set-same opened k e 0 h ∙ rw (add-one k, l .opened-yet k (omega arith), around-listed l n (omega arith)) at x
 
-  pub linked-necessity : k < length afters → getD kinds k 0 ≡ 5 → IsOpening kinds args opened (k + 1) e → Linked r (k + 1) opened (set afters k e)
+  pub linked-necessity : k < length afters → getD kinds k 0 ≡ 5 → IsOpening kinds args opened (k + 1) e
+      → Linked r (k + 1) opened (set afters k e)
   linked-necessity h q o =
       linked-next l (λ j d. refl) (λ j d. getD-set-other afters k j e 0 d)
       (λ ms f n. absurd (let z : _≡_ {A = ℕ} 5 6 = sym q ∙ kind-at ir n in omega (arith, z))) is-after
     where
-      is-after : (p : ℕ) (ms : List EnclosingMax) (f : Formula) → Node (r .formula) k ms (necessity p f)
-          → getD (set afters k e) k 0 ≡ opening (suc k) (opensAround ms) f
+      is-after : AfterAt r (set afters k e) k
       is-after p ms f n =
           let x = o .is r ir (λ j h. l .opened-yet j (omega arith)) ms f (rw (add-one k) (after n)) in
           getD-set-same afters k e 0 h ∙ rw (add-one k, around-listed l n (omega arith)) at x
 
 pub linked-other : {kinds args opened afters : List ℕ} {k : ℕ} (r : Rule) → IsRule r kinds args → Linked r k opened afters
     → (getD kinds k 0 ≡ 6 → ⊥) → (getD kinds k 0 ≡ 5 → ⊥) → Linked r (k + 1) opened afters
-linked-other r ir l p q = linked-next l (λ j d. refl) (λ j d. refl) (λ ms f n. absurd (p (kind-at ir n))) (λ i ms f n. absurd (q (kind-at ir n)))
+linked-other r ir l p q =
+    linked-next l (λ j d. refl) (λ j d. refl) (λ ms f n. absurd (p (kind-at ir n))) (λ i ms f n. absurd (q (kind-at ir n)))
 
 -- ---- from the first node to the last
-
-pub zeros-at : (n j : ℕ) → getD {A = ℕ} (replicate n 0) j 0 ≡ 0
-zeros-at zero j = refl
-zeros-at (suc n) zero = refl
-zeros-at (suc n) (suc j) = zeros-at n j
 
 pub linked-none : (r : Rule) (n : ℕ) (afters : List ℕ) → Linked r 0 (replicate n 0) afters
 linked-none r n afters = record {
   opened-is = λ j ms f h x. absurd (omega arith);
-  opened-yet = λ j h. zeros-at n j;
+  opened-yet = λ j h. repeated-at 0 n j;
   after-is = λ j p ms f h x. absurd (omega arith);
 }
 

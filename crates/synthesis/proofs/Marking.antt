@@ -1,16 +1,15 @@
 -- Putting a node into the sets of the codes that a pattern covers, one code after the other.
 use Prim.Native.Nat.{ℕ, _+_, _≤_, _<_}
-use mathlib.Core.Path.{_≡_, refl, sym, _∙_, ap}
-use mathlib.Core.Logic.{_⊎_, inl, inr}
+use mathlib.Core.Path.{_≡_, refl, _∙_}
 use mathlib.Core.Bool.{Bool}
 use mathlib.Core.List.{List}
 use native.Mathlib.Omega.{arith}
 use lib.ListN.{length, getD, set, length-set}
 use lib.Seq.{getD-set-same, getD-set-other}
+use borrow.Author.Count.{below-more}
 use Rattle.reading.specs.Pattern.{covers}
 use Rattle.reading.specs.declared.Pattern.{Pattern}
 use Rattle.synthesis.specs.Arrays.{withNode, Marked}
-use Rattle.synthesis.proofs.NodeSetLaws.{same}
 
 -- the codes below c are done
 pub record MarkedTo (c : ℕ) (p : Pattern) (k : ℕ) (before after : List ℕ) : Type 0 where
@@ -25,14 +24,11 @@ pub marked-next : {c : ℕ} {p : Pattern} {k : ℕ} {before after : List ℕ} (b
     → e ≡ withNode (getD after c 0) k b → MarkedTo c p k before after → MarkedTo (c + 1) p k before (set after c e)
 marked-next {c} {p} {k} {before} {after} b e h q w m = record {
   long = length-set after c e ∙ m .long;
-  done = λ j l. on j l (same c j);
+  done = below-more (λ j. getD (set after c e) j 0 ≡ withNode (getD before j 0) k (covers p j)) c
+      (λ j l. getD-set-other after c j e 0 (λ z. omega (arith, z)) ∙ m .done j l)
+      (getD-set-same after c e 0 h ∙ w ∙ rw (q, m .rest c (omega arith)));
   rest = λ j l. getD-set-other after c j e 0 (λ z. omega (arith, z)) ∙ m .rest j (omega arith);
 }
-  where
-    on : (j : ℕ) → j < c + 1 → (c ≡ j) ⊎ (c ≡ j → ⊥) → getD (set after c e) j 0 ≡ withNode (getD before j 0) k (covers p j)
-    on j l (inl z) =
-        rw (← z) (getD-set-same after c e 0 h ∙ w ∙ rw (q, m .rest c (omega arith)))
-    on j l (inr z) = getD-set-other after c j e 0 (λ y. z (sym y)) ∙ m .done j (omega (arith, z))
 
 pub marked-all : {c : ℕ} {p : Pattern} {k : ℕ} {before after : List ℕ} → 256 ≤ c → MarkedTo c p k before after → Marked p k before after
 marked-all l m = record { is = λ j h. m .done j (omega arith) }

@@ -8,8 +8,8 @@ use Rattle.reading.specs.Rule.{Rule, Bytes}
 use Rattle.reading.proofs.AllLaws.{all-append}
 use Rattle.synthesis.specs.Violation.{ViolatesRule}
 use Rattle.synthesis.specs.Monitor.{Answer, dropped, next, kept, ended, Loses, now, later, Monitors}
-use Rattle.synthesis.specs.Promises.{DropsViolations}
-use Rattle.synthesis.proofs.Runs.{kept-all}
+use Rattle.synthesis.specs.Promises.{DropsViolations, MonitorsDrop}
+use Rattle.synthesis.proofs.Runs.{run-induction, kept-all}
 
 module _ {E : Type 0} (answer : E → ℕ → Answer E) where
   pub loses-nothing : {e : E} → Loses answer e [] → ⊥
@@ -26,37 +26,28 @@ module _ {E : Type 0} (answer : E → ℕ → Answer E) where
 
   -- nothing of what was kept is lost
   pub kept-loses : (e : E) (w : List ℕ) → Loses answer e (kept answer e w) → ⊥
-  kept-loses e [] = loses-nothing
-  kept-loses e (c ∷ w) = on (answer e c) refl (kept-loses e w) (λ e′. kept-loses e′ w)
-    where
-      on : (a : Answer E) → answer e c ≡ a → (Loses answer e (kept answer e w) → ⊥) → ((e′ : E) → Loses answer e′ (kept answer e′ w) → ⊥)
-          → Loses answer e (kept answer e (c ∷ w)) → ⊥
-      on dropped q h k = rw q h
-      on (next e′) q h k = rw q (λ l. k e′ (loses-rest q l))
+  kept-loses =
+      run-induction answer (λ e w. Loses answer e (kept answer e w) → ⊥) (λ e. loses-nothing)
+      (λ e c w q h. rw q h) (λ e e′ c w q h. rw q (λ l. h (loses-rest q l)))
 
   -- what loses nothing is kept whole
   pub kept-whole : (e : E) (w : List ℕ) → (Loses answer e w → ⊥) → kept answer e w ≡ w
-  kept-whole e [] none = refl
-  kept-whole e (c ∷ w) none = on (answer e c) refl (λ e′. kept-whole e′ w)
-    where
-      on : (a : Answer E) → answer e c ≡ a → ((e′ : E) → (Loses answer e′ w → ⊥) → kept answer e′ w ≡ w) → kept answer e (c ∷ w) ≡ c ∷ w
-      on dropped q k = absurd (none (now q))
-      on (next e′) q k = rw q (ap (λ (l : List ℕ). c ∷ l) (k e′ (λ l. none (later q l))))
+  kept-whole =
+      run-induction answer (λ e w. (Loses answer e w → ⊥) → kept answer e w ≡ w) (λ e none. refl)
+      (λ e c w q h none. absurd (none (now q)))
+      (λ e e′ c w q h none. rw q (ap (λ (l : List ℕ). c ∷ l) (h (λ l. none (later q l)))))
 
   -- a code after what was kept is lost exactly when it is dropped where the run ended
   pub loses-last : (e : E) (w : List ℕ) (c : ℕ) → (answer (ended answer e w) c ≡ dropped) ↔ Loses answer e (kept answer e w ++ (c ∷ []))
-  loses-last e [] c = (λ q. now q, last)
+  loses-last e w c =
+      run-induction answer (λ e w. (answer (ended answer e w) c ≡ dropped) ↔ Loses answer e (kept answer e w ++ (c ∷ [])))
+      (λ e. (λ q. now q, last))
+      (λ e d w q h. rw q h)
+      (λ e e′ d w q h. rw q (λ z. later q (h .0 z), λ l. h .1 (loses-rest q l))) e w
     where
-      last : Loses answer e (c ∷ []) → answer e c ≡ dropped
+      last : {e : E} → Loses answer e (c ∷ []) → answer e c ≡ dropped
       last (now q) = q
       last (later q l) = absurd (loses-nothing l)
-  loses-last e (d ∷ w) c = on (answer e d) refl (loses-last e w c) (λ e′. loses-last e′ w c)
-    where
-      on : (a : Answer E) → answer e d ≡ a → (answer (ended answer e w) c ≡ dropped) ↔ Loses answer e (kept answer e w ++ (c ∷ []))
-          → ((e′ : E) → (answer (ended answer e′ w) c ≡ dropped) ↔ Loses answer e′ (kept answer e′ w ++ (c ∷ [])))
-          → (answer (ended answer e (d ∷ w)) c ≡ dropped) ↔ Loses answer e (kept answer e (d ∷ w) ++ (c ∷ []))
-      on dropped q h k = rw q h
-      on (next e′) q h k = rw q (λ z. later q (k e′ .0 z), λ l. k e′ .1 (loses-rest q l))
 
 -- ---- any monitor of a rule
 
@@ -77,3 +68,6 @@ kept-safe r answer first monitors w bytes h =
 pub safe-kept : {E : Type 0} (r : Rule) (answer : E → ℕ → Answer E) (first : E) → Monitors r answer first → (w : List ℕ) → Bytes w
     → (ViolatesRule r w → ⊥) → kept answer first w ≡ w
 safe-kept r answer first monitors w bytes safe = kept-whole answer first w (λ l. safe (monitors w bytes .1 l))
+
+pub monitors-drop : MonitorsDrop
+monitors-drop E r answer first monitors = drops-violations r answer first monitors

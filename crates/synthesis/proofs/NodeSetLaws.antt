@@ -2,51 +2,49 @@
 use Prim.Native.Nat.{ℕ, zero, suc, _+_, _*_, _/_, _%_, _^_, _≤_, _<_, min, max}
 use mathlib.Core.Path.{_≡_, refl, sym, _∙_, ap}
 use mathlib.Core.Logic.{_↔_, _⊎_, inl, inr}
-use mathlib.Core.Bool.{Bool, true, false, true≢false}
+use mathlib.Core.Bool.{true, false, true≢false}
+use native.Mathlib.Nat.{mod-lt, mod-eq-of-lt, one-mul, mul-div-mul-right, pow-suc, div-one, div-eq-of-lt, zero-div, div-self, one-le-pow}
 use native.Mathlib.Omega.{arith}
-use native.Mathlib.Nat.{mod-lt, mod-eq-of-lt, one-mul, mul-div-mul-right, pow-suc, div-one, div-eq-of-lt, zero-div, div-div-eq-div-mul, pow-succ', div-self, one-le-pow}
-use lib.Dec.{eqb, eqb→eq}
 use lib.Bits.{bitAnd, bitOr, bitXor, differ, or-shr, or-step, and-shr, and-step, xor-shr, xor-step, xor-add-and}
 use lib.Pow.{pow-lt}
-use borrow.Author.Tests.{eq-eqb, ne-eqb, eqb-true, eqb-false}
+use borrow.Author.Tests.{eq-eqb, ne-eqb, eqb-true}
 use Rattle.reading.specs.Pattern.{bit}
+use Rattle.reading.proofs.Bits.{bit-zero, bit-suc}
 use Rattle.synthesis.specs.NodeSet.{Has, has, none, single, union, common}
 
--- ---- a bit of a union, of what is common, of a difference
+-- ---- bits
 
 bit-small : (i n : ℕ) → bit i n < 2
 unfolding bit
 bit-small i n = mod-lt (n / 2 ^ i) (omega arith)
 
+no-bit : (x : ℕ) → x ≡ 0 → x % 2 ≡ 1 → ⊥
+no-bit x e h = omega arith
+
 low-digit : (z u v : ℕ) → z ≡ u * 2 + v → v < 2 → z % 2 ≡ v
 low-digit z u v e h = omega arith
 
-max-small : (x y : ℕ) → x < 2 → y < 2 → max x y < 2
-max-small x y h k = omega arith
-
-min-small : (x y : ℕ) → x < 2 → y < 2 → min x y < 2
-min-small x y h k = omega arith
+-- an operation that goes digit by digit
+module _ (op digit : ℕ → ℕ → ℕ) (shift : (a b i : ℕ) → op a b / 2 ^ i ≡ op (a / 2 ^ i) (b / 2 ^ i))
+    (step : (a b : ℕ) → op a b ≡ op (a / 2) (b / 2) * 2 + digit (a % 2) (b % 2))
+    (small : (x y : ℕ) → x < 2 → y < 2 → digit x y < 2) where
+  bit-wise : (a b i : ℕ) → bit i (op a b) ≡ digit (bit i a) (bit i b)
+  unfolding bit
+  bit-wise a b i =
+      rw (shift a b i)
+      (low-digit _ _ _ (step (a / 2 ^ i) (b / 2 ^ i)) (small _ _ (mod-lt _ (omega arith)) (mod-lt _ (omega arith))))
 
 bit-union : (a b i : ℕ) → bit i (union a b) ≡ max (bit i a) (bit i b)
-unfolding bit
-bit-union a b i =
-    rw (or-shr a b i)
-    (low-digit _ _ _ (or-step (a / 2 ^ i) (b / 2 ^ i)) (max-small _ _ (mod-lt _ (omega arith)) (mod-lt _ (omega arith))))
+bit-union = bit-wise bitOr max or-shr or-step (λ x y h k. omega arith)
 
 bit-common : (a b i : ℕ) → bit i (common a b) ≡ min (bit i a) (bit i b)
-unfolding bit
-bit-common a b i =
-    rw (and-shr a b i)
-    (low-digit _ _ _ (and-step (a / 2 ^ i) (b / 2 ^ i)) (min-small _ _ (mod-lt _ (omega arith)) (mod-lt _ (omega arith))))
+bit-common = bit-wise bitAnd min and-shr and-step (λ x y h k. omega arith)
 
 -- ---- members
 
 pub has-none : (n : ℕ) → Has none n → ⊥
 unfolding bit
 has-none n h = no-bit (0 / 2 ^ n) (zero-div (2 ^ n)) h
-  where
-    no-bit : (x : ℕ) → x ≡ 0 → x % 2 ≡ 1 → ⊥
-    no-bit x e h = omega arith
 
 pub has-union : (a b n : ℕ) → Has (union a b) n ↔ (Has a n ⊎ Has b n)
 has-union a b n = (λ h. either _ _ (sym (bit-union a b n) ∙ h) (bit-small n a) (bit-small n b), back)
@@ -63,13 +61,11 @@ has-union a b n = (λ h. either _ _ (sym (bit-union a b n) ∙ h) (bit-small n a
     back h = bit-union a b n ∙ most _ _ h (bit-small n a) (bit-small n b)
 
 pub has-common : (a b n : ℕ) → Has (common a b) n ↔ (Has a n × Has b n)
-has-common a b n = (λ h. least _ _ (sym (bit-common a b n) ∙ h) (bit-small n a) (bit-small n b), λ h. bit-common a b n ∙ ap₂′ (h .0) (h .1))
+has-common a b n =
+    (λ h. least _ _ (sym (bit-common a b n) ∙ h) (bit-small n a) (bit-small n b), λ h. bit-common a b n ∙ rw (h .0, h .1))
   where
     least : (x y : ℕ) → min x y ≡ 1 → x < 2 → y < 2 → (x ≡ 1) × (y ≡ 1)
     least x y e h k = (omega arith, omega arith)
-
-    ap₂′ : {x y : ℕ} → x ≡ 1 → y ≡ 1 → min x y ≡ 1
-    ap₂′ e f = rw (e, f)
 
 pub has-single : (k : ℕ) → Has (single k) k
 unfolding bit
@@ -79,17 +75,25 @@ pub single-has : (k n : ℕ) → Has (single k) n → k ≡ n
 unfolding bit
 single-has zero zero h = refl
 single-has zero (suc n) h = absurd (no-bit (1 / 2 ^ suc n) (div-eq-of-lt (pow-lt {i = 0} {j = suc n} (omega arith))) h)
-  where
-    no-bit : (x : ℕ) → x ≡ 0 → x % 2 ≡ 1 → ⊥
-    no-bit x e h = omega arith
 single-has (suc k) zero h = absurd (even (2 ^ k) (rw (pow-suc 2 k, div-one (2 ^ k * 2)) at h))
   where
     even : (x : ℕ) → x * 2 % 2 ≡ 1 → ⊥
     even x h = omega arith
-single-has (suc k) (suc n) h = ap suc (single-has k n (rw (pow-suc 2 k, pow-suc 2 n, mul-div-mul-right {m = 2} (2 ^ k) (2 ^ n) (omega arith)) at h))
+single-has (suc k) (suc n) h =
+    ap suc (single-has k n (rw (pow-suc 2 k, pow-suc 2 n, mul-div-mul-right {m = 2} (2 ^ k) (2 ^ n) (omega arith)) at h))
+
+-- the lowest node taken out, and every other moved down by one
+pub half-has : (e n : ℕ) → Has (e / 2) n ↔ Has e (suc n)
+half-has e n = (λ h. bit-suc n e ∙ h, λ h. sym (bit-suc n e) ∙ h)
+
+-- a shifted one in 64 bits
+pub shl-one : (k : ℕ) → k < 64 → 1 * 2 ^ k % 18446744073709551616 ≡ single k
+shl-one k h = rw (one-mul (2 ^ k), mod-eq-of-lt (pow-lt {j = 64} h))
+
+-- ---- the test for a member
 
 pub has-true : (e n : ℕ) → has e n ≡ true → Has e n
-has-true e n h = eqb→eq (bit n e) 1 (rw h tt)
+has-true e n h = eqb-true (bit n e) 1 h
 
 pub has-false : (e n : ℕ) → has e n ≡ false → Has e n → ⊥
 has-false e n h k = true≢false (rw k at h)
@@ -100,19 +104,7 @@ true-has e n h = eq-eqb (bit n e) 1 h
 pub false-has : (e n : ℕ) → (Has e n → ⊥) → has e n ≡ false
 false-has e n h = ne-eqb (bit n e) 1 h
 
--- a shifted one in 64 bits
-pub shl-one : (k : ℕ) → k < 64 → 1 * 2 ^ k % 18446744073709551616 ≡ single k
-shl-one k h = rw (one-mul (2 ^ k), mod-eq-of-lt (pow-lt {j = 64} h))
-
 -- ---- two sets with the same members are one
-
-pub half-has : (e n : ℕ) → bit n (e / 2) ≡ bit (suc n) e
-unfolding bit
-half-has e n = rw (div-div-eq-div-mul, pow-succ')
-
-pub low-has : (e : ℕ) → bit 0 e ≡ e % 2
-unfolding bit
-low-has e = rw (div-one e)
 
 low : (x y : ℕ) → x < 2 → y < 2 → (x ≡ 1) ↔ (y ≡ 1) → x ≡ y
 low zero zero p q h = refl
@@ -122,8 +114,8 @@ low (suc x) y p q h = omega (arith, h .0 (omega arith))
 ext : (k a b : ℕ) → a ≤ k → b ≤ k → ((n : ℕ) → Has a n ↔ Has b n) → a ≡ b
 ext zero a b p q h = omega arith
 ext (suc k) a b p q h =
-    let high : a / 2 ≡ b / 2 = ext k (a / 2) (b / 2) (omega arith) (omega arith) (λ n. rw (half-has a n, half-has b n) (h (suc n))) in
-    let l : a % 2 ≡ b % 2 = low (a % 2) (b % 2) (omega arith) (omega arith) (rw (low-has a, low-has b) at (h 0)) in
+    let high : a / 2 ≡ b / 2 = ext k (a / 2) (b / 2) (omega arith) (omega arith) (λ n. rw (← bit-suc n a, ← bit-suc n b) (h (suc n))) in
+    let l : a % 2 ≡ b % 2 = low (a % 2) (b % 2) (omega arith) (omega arith) (rw (bit-zero a, bit-zero b) at (h 0)) in
     omega arith
 
 pub has-ext : (a b : ℕ) → ((n : ℕ) → Has a n ↔ Has b n) → a ≡ b
@@ -142,8 +134,8 @@ some-of e h = below e e (omega arith) h
     below (suc k) e p h = on (e % 2) refl (below k (e / 2))
       where
         on : (d : ℕ) → e % 2 ≡ d → (e / 2 ≤ k → 0 < e / 2 → (n : ℕ) × Has (e / 2) n) → (n : ℕ) × Has e n
-        on zero q ih = let r = ih (omega arith) (omega arith) in (suc (r .0), sym (half-has e (r .0)) ∙ r .1)
-        on (suc d) q ih = (0, low-has e ∙ omega (arith))
+        on zero q ih = let r = ih (omega arith) (omega arith) in (suc (r .0), half-has e (r .0) .0 (r .1))
+        on (suc d) q ih = (0, bit-zero e ∙ omega arith)
 
 -- ---- a set without one of its members
 
@@ -158,14 +150,7 @@ differ-small (suc zero) (suc y) h k = omega arith
 differ-small (suc (suc x)) y h k = absurd (omega arith)
 
 bit-toggled : (e k n : ℕ) → bit n (toggled e k) ≡ differ (bit n e) (bit n (single k))
-unfolding bit
-bit-toggled e k n =
-    rw (xor-shr e (2 ^ k) n)
-    (low-digit _ _ _ (xor-step (e / 2 ^ n) (2 ^ k / 2 ^ n)) (differ-small (e / 2 ^ n % 2) (2 ^ k / 2 ^ n % 2) (mod-lt _ (omega arith)) (mod-lt _ (omega arith))))
-
-differ-self : (x : ℕ) → differ x x ≡ 0
-differ-self zero = refl
-differ-self (suc x) = differ-self x
+bit-toggled e k = bit-wise bitXor differ xor-shr xor-step differ-small e (single k)
 
 differ-none : (x y : ℕ) → y < 2 → (y ≡ 1 → ⊥) → differ x y ≡ x
 differ-none zero zero h n = refl
@@ -173,36 +158,23 @@ differ-none (suc x) zero h n = refl
 differ-none x (suc zero) h n = absurd (n refl)
 differ-none x (suc (suc y)) h n = absurd (omega arith)
 
--- two nodes are the same, or they aren't
-pub same : (k n : ℕ) → (k ≡ n) ⊎ (k ≡ n → ⊥)
-same k n = on (eqb k n) refl
+-- the other members stay
+pub toggled-other : (e k n : ℕ) → (k ≡ n → ⊥) → Has (toggled e k) n ↔ Has e n
+toggled-other e k n d = (λ h. sym stays ∙ h, λ h. stays ∙ h)
   where
-    on : (b : Bool) → eqb k n ≡ b → (k ≡ n) ⊎ (k ≡ n → ⊥)
-    on true q = inl (eqb-true k n q)
-    on false q = inr (eqb-false k n q)
-
--- a member stays, unless it is the one taken out
-pub toggled-other : (e k n : ℕ) → (k ≡ n → ⊥) → bit n (toggled e k) ≡ bit n e
-toggled-other e k n d = bit-toggled e k n ∙ differ-none (bit n e) (bit n (single k)) (bit-small n (single k)) (λ h. d (single-has k n h))
-
-pub toggled-self : (e k : ℕ) → Has e k → Has (toggled e k) k → ⊥
-toggled-self e k h t = two (bit k e) (bit k (single k)) h (has-single k) (sym (bit-toggled e k k) ∙ t)
-  where
-    two : (x y : ℕ) → x ≡ 1 → y ≡ 1 → differ x y ≡ 1 → ⊥
-    two x y p q r = absurd (let z : differ 1 1 ≡ 1 = rw (p, q) at r in omega (arith, z))
+    stays : bit n (toggled e k) ≡ bit n e
+    stays = bit-toggled e k n ∙ differ-none (bit n e) (bit n (single k)) (bit-small n (single k)) (λ h. d (single-has k n h))
 
 pub toggled-lt : (e k : ℕ) → Has e k → toggled e k < e
 toggled-lt e k h =
-    let inside : common e (single k) ≡ single k =
-    has-ext (common e (single k)) (single k)
-    (λ n. (λ x. has-common e (single k) n .0 x .1, λ x. has-common e (single k) n .1 (ap′ n (single-has k n x), x)))
-    in
-    let sum : toggled e k + common e (single k) * 2 ≡ e + single k = xor-add-and e (single k) in
-    let some : 0 < single k = one-le-pow k 2 (omega arith) in
-    less (toggled e k) (common e (single k)) e (single k) inside sum some
+    less (toggled e k) (common e (single k)) e (single k) inside (xor-add-and e (single k)) (one-le-pow k 2 (omega arith))
   where
-    ap′ : (n : ℕ) → k ≡ n → Has e n
-    ap′ n q = rw (← q) h
+    member : (n : ℕ) → k ≡ n → Has e n
+    member n q = rw (← q) h
+
+    inside : common e (single k) ≡ single k
+    inside = has-ext (common e (single k)) (single k) (λ n.
+        (λ x. has-common e (single k) n .0 x .1, λ x. has-common e (single k) n .1 (member n (single-has k n x), x)))
 
     less : (x c e s : ℕ) → c ≡ s → x + c * 2 ≡ e + s → 0 < s → x < e
     less x c e s p q r = omega arith

@@ -1,16 +1,17 @@
 -- The sets that are computed along a formula, node by node: its ff nodes, and what the members of an equation lead to.
 use Prim.Native.Nat.{ℕ, suc, _+_}
-use mathlib.Core.Path.{_≡_, refl, sym}
+use mathlib.Core.Path.{_≡_}
 use mathlib.Core.Logic.{_↔_}
-use mathlib.Core.Bool.{Bool, true, false, cond, _&&_, true≢false}
+use mathlib.Core.Bool.{Bool, true, false, cond, _&&_, and-eq-true-iff}
 use mathlib.Core.List.{List, []}
+use lib.Dec.{eqb}
 use Rattle.reading.specs.Formula.{Formula, truth, falsity, both, necessity, max, variable, size}
 use Rattle.reading.specs.Nodes.{EnclosingMax, Node, whole, first, second, after, body}
-use Rattle.synthesis.specs.NodeSet.{Has, has, none, single}
+use Rattle.synthesis.specs.NodeSet.{Has, has, none, single, common}
 use Rattle.synthesis.specs.Opening.{IsFalsity}
 use Rattle.synthesis.specs.Answering.{opening, opensAround, falsities, reached}
 use Rattle.synthesis.proofs.NodeSetLaws.{has-none, has-single, single-has, has-true, true-has}
-use Rattle.synthesis.proofs.MemberLaws.{cond-has, in-first, in-second, union-cases}
+use Rattle.synthesis.proofs.MemberLaws.{cond-has, in-first, in-second, union-cases, none-common, some-common}
 
 -- ---- the ff nodes
 
@@ -38,11 +39,14 @@ module _ (m : ℕ) {root : Formula} where
 pub falsities-has : (root : Formula) (n : ℕ) → Has (falsities 0 root) n ↔ IsFalsity root n
 falsities-has root n = (falsities-sound n root whole, λ h. falsities-inside n (h .1) (has-single n))
 
--- ---- what the members of an equation lead to
+-- a set without an ff node, and one with some
+pub no-falsity : (root : Formula) (s : ℕ) → eqb (common s (falsities 0 root)) none ≡ true → (m : ℕ) → Has s m → IsFalsity root m → ⊥
+no-falsity root s h m p f = none-common s (falsities 0 root) h m p (falsities-has root m .1 f)
 
-both-true : (a b : Bool) → (a && b) ≡ true → (a ≡ true) × (b ≡ true)
-both-true true b h = (refl, h)
-both-true false b h = absurd (true≢false (sym h))
+pub some-falsity : (root : Formula) (s : ℕ) → eqb (common s (falsities 0 root)) none ≡ false → (m : ℕ) × Has s m × IsFalsity root m
+some-falsity root s h = let (m, p, q) = some-common s (falsities 0 root) h in (m, p, falsities-has root m .0 q)
+
+-- ---- what the members of an equation lead to
 
 module _ (covered : ℕ → ℕ → Bool) (root : Formula) (e c m : ℕ) where
   -- m is among what opening the formula after a member of e gives, whose pattern covers c
@@ -61,7 +65,7 @@ module _ (covered : ℕ → ℕ → Bool) (root : Formula) (e c m : ℕ) where
   alone-sound : {k p : ℕ} {ms : List EnclosingMax} {f : Formula} → Node root k ms (necessity p f) → Has (alone k ms p f) m → Reaches
   alone-sound {k} {p} {ms} {f} n h =
       let t = cond-has (has e k && covered p c) (opening (suc k) (opensAround ms) f) m h in
-      let b = both-true (has e k) (covered p c) (t .0) in
+      let b = and-eq-true-iff (has e k) (covered p c) .0 (t .0) in
       (k, p, ms, f, n, has-true e k (b .0), b .1, t .1)
 
   reached-sound : {k : ℕ} {ms : List EnclosingMax} (f : Formula) → Node root k ms f → Has (inside k ms f) m → Reaches

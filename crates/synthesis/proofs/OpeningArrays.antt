@@ -1,28 +1,30 @@
 -- Opening a node by the arrays of its rule: a row for each kind.
-use Prim.Native.Nat.{ℕ, zero, suc, _+_, _*_, _%_, _^_, _≤_, _<_}
-use mathlib.Core.Path.{_≡_, refl, sym, _∙_, ap, ap₂, subst}
-use mathlib.Core.Logic.{_⊎_, inl, inr}
-use mathlib.Core.List.{List, [], _∷_, map}
-use native.Mathlib.Omega.{arith}
+use Prim.Native.Nat.{ℕ, _+_, _*_, _%_, _^_, _<_}
+use mathlib.Core.Path.{_≡_, refl, ap}
+use mathlib.Core.List.{List, _∷_}
 use native.Mathlib.Numerals.{add-one}
+use native.Mathlib.Omega.{arith}
 use lib.Bits.{bitOr}
-use lib.ListN.{length, getD, List·getD-map}
-use Rattle.reading.specs.Formula.{Formula, truth, falsity, both, necessity, max, variable, size}
+use lib.ListN.{length, getD}
+use Rattle.reading.specs.Formula.{Formula, truth, falsity, both, necessity, max, variable}
 use Rattle.reading.specs.Rule.{Rule}
-use Rattle.reading.specs.Nodes.{EnclosingMax, noMax, Node}
-use Rattle.reading.specs.Numbered.{kind, argument, numberOf}
-use Rattle.reading.proofs.NodeLaws.{node-fits, node-exists, variable-bound}
-use Rattle.synthesis.specs.NodeSet.{none, single, union}
+use Rattle.reading.specs.Nodes.{EnclosingMax, noMax, Node, Resolves, is-truth, is-falsity, is-both, is-necessity, is-max, is-variable}
+use Rattle.reading.specs.Numbered.{kind, numberOf}
+use Rattle.reading.proofs.NodeLaws.{Numbers, node-exists, variable-bound}
+use Rattle.reading.proofs.NumberedLaws.{mapped-at}
 use Rattle.synthesis.specs.Answering.{opening}
 use Rattle.synthesis.specs.Arrays.{IsRule, SomeNode, ZeroFrom, IsOpening, listedAround}
 use Rattle.synthesis.proofs.NodeSetLaws.{shl-one}
-use Rattle.synthesis.proofs.NodeArrays.{node-below, kinds-long, args-long, resolved, kind-at, argument-at, in-64, both-at, necessity-at, max-at, variable-at, IsBoth, IsMax, IsVariable, IsNecessity}
+use Rattle.synthesis.proofs.NodeArrays.{node-below, kinds-long, args-long, kind-at, argument-at, in-64, resolved}
 
 -- ---- where the parts of a node stand
 
 module _ {kinds args : List ℕ} {k : ℕ} (some : SomeNode kinds args k) where
+  node : Numbers (some .rule .formula) k
+  node = node-exists (some .rule .formula) k (some .below)
+
   pub node-in-64 : k < 64
-  node-in-64 = let n = node-exists (some .rule .formula) k (some .below) in in-64 (some .is-rule) (n .2)
+  node-in-64 = in-64 (some .is-rule) (node .2)
 
   pub kinds-are-64 : length kinds ≡ 64
   kinds-are-64 = kinds-long (some .is-rule)
@@ -30,95 +32,84 @@ module _ {kinds args : List ℕ} {k : ℕ} (some : SomeNode kinds args k) where
   pub args-are-64 : length args ≡ 64
   args-are-64 = args-long (some .is-rule)
 
-  pub some-both : getD kinds k 0 ≡ 4 → SomeNode kinds args (k + 1) × SomeNode kinds args (getD args k 0) × (k < getD args k 0)
-  some-both q =
-      let n = node-exists (some .rule .formula) k (some .below) in
-      let b = both-at (resolved (some .is-rule) (n .2)) q in
-      (there (b .left-node), there (b .right-node), later (n .2) b)
+  part : {j : ℕ} {ms : List EnclosingMax} {f : Formula} → Node (some .rule .formula) j ms f → SomeNode kinds args j
+  part n = record { rule = some .rule; is-rule = some .is-rule; below = node-below n }
+
+  -- a "both", a necessity and a max have a part right after them
+  pub some-next : {kd : ℕ} → getD kinds k 0 ≡ kd → 3 < kd → kd < 7 → SomeNode kinds args (k + 1)
+  some-next q l h = on (resolved (some .is-rule) (node .2) q) l h
     where
-      there : {j : ℕ} {ms : List EnclosingMax} {f : Formula} → Node (some .rule .formula) j ms f → SomeNode kinds args j
-      there n = record { rule = some .rule; is-rule = some .is-rule; below = node-below n }
+      on : {ms : List EnclosingMax} {f : Formula} {kd x : ℕ} → Resolves (some .rule .formula) k ms kd x f → 3 < kd → kd < 7
+          → SomeNode kinds args (k + 1)
+      on is-truth l h = absurd (omega arith)
+      on is-falsity l h = absurd (omega arith)
+      on (is-both a b) l h = rw (add-one k) (part a)
+      on (is-necessity a) l h = rw (add-one k) (part a)
+      on (is-max a) l h = rw (add-one k) (part a)
+      on (is-variable e a b) l h = absurd (omega arith)
 
-      later : {ms : List EnclosingMax} {f : Formula} → Node (some .rule .formula) k ms f → IsBoth (some .rule .formula) k ms f (getD args k 0)
-          → k < getD args k 0
-      later {ms} n b =
-          let a : getD args k 0 ≡ k + suc (size (b .left)) = argument-at (some .is-rule) n ∙ ap (argument k (map numberOf ms)) (b .is) in
-          omega (arith, a)
-
-  pub some-necessity : getD kinds k 0 ≡ 5 → SomeNode kinds args (k + 1)
-  some-necessity q =
-      let n = node-exists (some .rule .formula) k (some .below) in
-      let b = necessity-at (resolved (some .is-rule) (n .2)) q in
-      record { rule = some .rule; is-rule = some .is-rule; below = node-below (b .rest-node) }
-
-  pub some-max : getD kinds k 0 ≡ 6 → SomeNode kinds args (k + 1)
-  some-max q =
-      let n = node-exists (some .rule .formula) k (some .below) in
-      let b = max-at (resolved (some .is-rule) (n .2)) q in
-      record { rule = some .rule; is-rule = some .is-rule; below = node-below (b .body-node) }
+  pub some-second : getD kinds k 0 ≡ 4 → SomeNode kinds args (getD args k 0) × (k < getD args k 0)
+  some-second q = on (node .2) (resolved (some .is-rule) (node .2) q)
+    where
+      on : {ms : List EnclosingMax} {f : Formula} → Node (some .rule .formula) k ms f
+          → Resolves (some .rule .formula) k ms 4 (getD args k 0) f → SomeNode kinds args (getD args k 0) × (k < getD args k 0)
+      on n (is-both a b) = (part b, omega (arith, argument-at (some .is-rule) n))
 
   pub some-variable : getD kinds k 0 ≡ 7 → getD args k 0 < 64
-  some-variable q =
-      let n = node-exists (some .rule .formula) k (some .below) in
-      omega (arith, variable-at (resolved (some .is-rule) (n .2)) q .before, in-64 (some .is-rule) (n .2))
+  some-variable q = omega (arith, on (resolved (some .is-rule) (node .2) q), node-in-64)
+    where
+      on : {ms : List EnclosingMax} {f : Formula} {x : ℕ} → Resolves (some .rule .formula) k ms 7 x f → x < k
+      on (is-variable e a b) = b
 
 -- ---- a row for each kind
 
-listed-at : (opened : List ℕ) (d : ℕ) (ms : List EnclosingMax) → d < length ms
-    → getD (listedAround opened ms) d none ≡ getD opened (getD ms d noMax .number) 0
-listed-at opened d [] h = absurd (omega arith)
-listed-at opened zero (m ∷ ms) h = refl
-listed-at opened (suc d) (m ∷ ms) h = listed-at opened d ms (omega arith)
-
--- ff and a necessity give themselves
-itself : (k : ℕ) (xs : List ℕ) (f : Formula) → (kind f ≡ 3) ⊎ (kind f ≡ 5) → single k ≡ opening k xs f
-itself k xs truth (inl q) = absurd (omega arith)
-itself k xs truth (inr q) = absurd (omega arith)
-itself k xs falsity o = refl
-itself k xs (both f g) (inl q) = absurd (omega arith)
-itself k xs (both f g) (inr q) = absurd (omega arith)
-itself k xs (necessity p f) o = refl
-itself k xs (max f) (inl q) = absurd (omega arith)
-itself k xs (max f) (inr q) = absurd (omega arith)
-itself k xs (variable d) (inl q) = absurd (omega arith)
-itself k xs (variable d) (inr q) = absurd (omega arith)
+-- Where node k is of the kind kd, e is what opening it gives.
+abbrev Row : (kinds args opened : List ℕ) → (k kd e : ℕ) → Type 0
+Row kinds args opened k kd e =
+    (r : Rule) → IsRule r kinds args → ZeroFrom k opened → (ms : List EnclosingMax) (f : Formula) → Node (r .formula) k ms f
+    → (x : ℕ) → getD args k 0 ≡ x → Resolves (r .formula) k ms kd x f → e ≡ opening k (listedAround opened ms) f
 
 module _ {kinds args opened : List ℕ} {k : ℕ} where
+  by-row : {kd e : ℕ} → getD kinds k 0 ≡ kd → Row kinds args opened k kd e → IsOpening kinds args opened k e
+  by-row q row = record { is = λ r ir z ms f n. row r ir z ms f n (getD args k 0) refl (resolved ir n q) }
+
   pub opening-both : {e₁ e₂ : ℕ} → k < getD args k 0 → getD kinds k 0 ≡ 4 → IsOpening kinds args opened (k + 1) e₁
       → IsOpening kinds args opened (getD args k 0) e₂ → IsOpening kinds args opened k (bitOr e₁ e₂)
-  opening-both {e₁} {e₂} l q a b = record { is = λ r ir z ms f n. on r ir z ms f n (both-at (resolved ir n) q) }
+  opening-both {e₁} {e₂} l q a b = by-row q on
     where
-      on : (r : Rule) → IsRule r kinds args → ZeroFrom k opened → (ms : List EnclosingMax) (f : Formula) (n : Node (r .formula) k ms f)
-          → IsBoth (r .formula) k ms f (getD args k 0) → bitOr e₁ e₂ ≡ opening k (listedAround opened ms) f
-      on r ir z ms f n t =
-          let x = a .is r ir (λ j h. z j (omega arith)) ms (t .left) (t .left-node) in
-          let y = b .is r ir (λ j h. z j (omega arith)) ms (t .right) (t .right-node) in
-          let g : getD args k 0 ≡ k + suc (size (t .left)) = argument-at ir n ∙ ap (argument k (map numberOf ms)) (t .is) in
-          rw (t .is, x, y, g, add-one k)
+      on : Row kinds args opened k 4 (bitOr e₁ e₂)
+      on r ir z ms (both f g) n x is (is-both n₁ n₂) =
+          let first = a .is r ir (λ j h. z j (omega arith)) ms f (rw (add-one k) n₁) in
+          let second = b .is r ir (λ j h. z j (omega arith)) ms g (rw is n₂) in
+          rw (first, second, argument-at ir n, add-one k)
 
   pub opening-max : {e : ℕ} → getD kinds k 0 ≡ 6 → IsOpening kinds args opened (k + 1) e → IsOpening kinds args opened k e
-  opening-max {e} q a = record { is = λ r ir z ms f n. on r ir z ms f (max-at (resolved ir n) q) }
+  opening-max {e} q a = by-row q on
     where
-      on : (r : Rule) → IsRule r kinds args → ZeroFrom k opened → (ms : List EnclosingMax) (f : Formula)
-          → IsMax (r .formula) k ms f → e ≡ opening k (listedAround opened ms) f
-      on r ir z ms f t =
-          let x = a .is r ir (λ j h. z j (omega arith)) (record { number = k; body = t .inner } ∷ ms) (t .inner) (t .body-node) in
-          rw (t .is, x, add-one k, z k (omega arith))
+      on : Row kinds args opened k 6 e
+      on r ir z ms (max f) n x is (is-max n₁) =
+          let inner = a .is r ir (λ j h. z j (omega arith)) (record { number = k; body = f } ∷ ms) f (rw (add-one k) n₁) in
+          rw (inner, add-one k, z k (omega arith))
 
   pub opening-variable : getD kinds k 0 ≡ 7 → IsOpening kinds args opened k (getD opened (getD args k 0) 0)
-  opening-variable q = record { is = λ r ir z ms f n. on r ir z ms f n (variable-at (resolved ir n) q) }
+  opening-variable q = by-row q on
     where
-      on : (r : Rule) → IsRule r kinds args → ZeroFrom k opened → (ms : List EnclosingMax) (f : Formula) (n : Node (r .formula) k ms f)
-          → IsVariable (r .formula) k ms f (getD args k 0) → getD opened (getD args k 0) 0 ≡ opening k (listedAround opened ms) f
-      on r ir z ms f n t =
-          let bound : t .depth < length ms = variable-bound (length (r .patterns)) (ir .well-formed .formula) (subst (Node (r .formula) k ms) (t .is) n) in
-          rw (t .is, listed-at opened (t .depth) ms bound, t .max-is)
+      on : Row kinds args opened k 7 (getD opened (getD args k 0) 0)
+      on r ir z ms (variable d) n x is (is-variable m n₁ before) =
+          let bound = variable-bound (length (r .patterns)) (ir .well-formed .formula) n in
+          rw (mapped-at (λ (m : EnclosingMax). getD opened (m .number) 0) ms d noMax 0 bound, ap numberOf m, is)
 
   pub opening-falsity : k < 64 → getD kinds k 0 ≡ 3 → IsOpening kinds args opened k (1 * 2 ^ k % 18446744073709551616)
-  opening-falsity h q = record { is = λ r ir z ms f n. shl-one k h ∙ itself k (listedAround opened ms) f (inl (sym (kind-at ir n) ∙ q)) }
+  opening-falsity h q = by-row q on
+    where
+      on : Row kinds args opened k 3 (1 * 2 ^ k % 18446744073709551616)
+      on r ir z ms falsity n x is is-falsity = shl-one k h
 
   pub opening-necessity : k < 64 → getD kinds k 0 ≡ 5 → IsOpening kinds args opened k (1 * 2 ^ k % 18446744073709551616)
-  opening-necessity h q = record { is = λ r ir z ms f n. shl-one k h ∙ itself k (listedAround opened ms) f (inr (sym (kind-at ir n) ∙ q)) }
+  opening-necessity h q = by-row q on
+    where
+      on : Row kinds args opened k 5 (1 * 2 ^ k % 18446744073709551616)
+      on r ir z ms (necessity p f) n x is (is-necessity n₁) = shl-one k h
 
   pub opening-truth : (getD kinds k 0 ≡ 3 → ⊥) → (getD kinds k 0 ≡ 4 → ⊥) → (getD kinds k 0 ≡ 5 → ⊥) → (getD kinds k 0 ≡ 6 → ⊥)
       → (getD kinds k 0 ≡ 7 → ⊥) → IsOpening kinds args opened k 0

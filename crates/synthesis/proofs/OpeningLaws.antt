@@ -1,8 +1,8 @@
 -- What is computed as opening a node is what opening it gives.
 use Prim.Native.Nat.{ℕ, zero, suc, _+_, _<_}
-use mathlib.Core.Path.{_≡_, refl, sym}
+use mathlib.Core.Path.{_≡_, refl}
 use mathlib.Core.Logic.{_↔_, _⊎_, inl, inr}
-use mathlib.Core.Bool.{true, false, true≢false}
+use mathlib.Core.Bool.{true, false, false≢true}
 use mathlib.Core.List.{List, [], _∷_}
 use native.Mathlib.Omega.{arith}
 use lib.ListN.{length, getD}
@@ -17,6 +17,11 @@ use Rattle.synthesis.specs.Promises.{OpensAsDefined}
 use Rattle.synthesis.proofs.NodeSetLaws.{has-none}
 use Rattle.synthesis.proofs.MemberLaws.{single-iff, union-iff}
 
+-- A number has one formula and one list of maxes.
+pub same-node : (P : List EnclosingMax → Formula → Type 0) {root : Formula} {k : ℕ} {ms ms′ : List EnclosingMax} {f f′ : Formula}
+    → Node root k ms f → Node root k ms′ f′ → P ms f → P ms′ f′
+same-node P n n′ h = let u = node-unique n n′ in rw (← (u .0), ← (u .1)) h
+
 -- ---- opening by the formula of the node
 
 module _ (root : Formula) where
@@ -29,18 +34,13 @@ module _ (root : Formula) where
   OpensBy k m ms (max f) = Opens root (suc k) m
   OpensBy k m ms (variable d) = (d < length ms) × Opens root (suc (getD ms d noMax .number)) m
 
-  -- a number has one formula and one list of maxes
-  same-node : (m : ℕ) {k : ℕ} {ms ms′ : List EnclosingMax} {f f′ : Formula} → Node root k ms f → Node root k ms′ f′ → OpensBy k m ms f
-      → OpensBy k m ms′ f′
-  same-node m n n′ h = let u = node-unique n n′ in rw (← (u .0), ← (u .1)) h
-
   opens-by : {k m : ℕ} {ms : List EnclosingMax} {f : Formula} → Node root k ms f → Opens root k m → OpensBy k m ms f
-  opens-by {m = m} n (falsity-itself n′) = same-node m n′ n refl
-  opens-by {m = m} n (necessity-itself n′) = same-node m n′ n refl
-  opens-by {m = m} n (first-part n′ o) = same-node m n′ n (inl o)
-  opens-by {m = m} n (second-part n′ o) = same-node m n′ n (inr o)
-  opens-by {m = m} n (body-of-max n′ o) = same-node m n′ n o
-  opens-by {m = m} n (body-of-variable n′ b o) = same-node m n′ n (b, o)
+  opens-by {k} {m} n (falsity-itself n′) = same-node (OpensBy k m) n′ n refl
+  opens-by {k} {m} n (necessity-itself n′) = same-node (OpensBy k m) n′ n refl
+  opens-by {k} {m} n (first-part n′ o) = same-node (OpensBy k m) n′ n (inl o)
+  opens-by {k} {m} n (second-part n′ o) = same-node (OpensBy k m) n′ n (inr o)
+  opens-by {k} {m} n (body-of-max n′ o) = same-node (OpensBy k m) n′ n o
+  opens-by {k} {m} n (body-of-variable n′ b o) = same-node (OpensBy k m) n′ n (b, o)
 
   by-opens : {k : ℕ} {ms : List EnclosingMax} (m : ℕ) (f : Formula) → Node root k ms f → OpensBy k m ms f → Opens root k m
   by-opens m truth n h = absurd h
@@ -70,7 +70,7 @@ known-inside {root} {g} {ms} {around} x known = record { at = at }
   where
     at : (d : ℕ) → d < suc (length ms) → getD (false ∷ g) d false ≡ true → (m : ℕ)
         → Has (getD (none ∷ around) d none) m ↔ Opens root (suc (getD (x ∷ ms) d noMax .number)) m
-    at zero b e m = absurd (true≢false (sym e))
+    at zero b e m = absurd (false≢true e)
     at (suc d) b e m = known .at d (omega arith) e m
 
 module _ (patterns : ℕ) (root : Formula) (wf : WellFormed patterns [] root) where

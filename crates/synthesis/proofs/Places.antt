@@ -3,11 +3,11 @@ use Prim.Native.Nat.{ℕ, zero, suc, _≤_, _<_}
 use mathlib.Core.Path.{_≡_, refl, sym, _∙_, ap}
 use mathlib.Core.Bool.{Bool, true, false, cond}
 use mathlib.Core.List.{List, [], _∷_, _++_}
-use native.Mathlib.Omega.{arith}
 use native.Mathlib.Decide.{decLt}
+use native.Mathlib.Omega.{arith}
 use lib.Dec.{eqb, ltb}
-use lib.ListN.{length, getD, length-append, List·getD-append}
-use lib.Seq.{getD-at}
+use lib.ListN.{length, getD, take, length-append, List·getD-append}
+use lib.Seq.{length-take-le, getD-take, getD-at}
 use borrow.Author.Tests.{eq-eqb, eqb-true, eqb-false, ltb-true, ltb-false, lt-ltb, le-ltb}
 use Rattle.synthesis.specs.Search.{place, with}
 
@@ -53,6 +53,33 @@ member-at e l i h p = omega (arith, place-first e l i h p)
 
 pub one-place : (e e′ : ℕ) (l : List ℕ) → Member e l → Member e′ l → place e l ≡ place e′ l → e ≡ e′
 one-place e e′ l h h′ p = sym (place-is e l h) ∙ ap (λ (i : ℕ). getD l i 0) p ∙ place-is e′ l h′
+
+-- ---- the place among the first n of a list
+
+-- none of the first i of a list is e
+abbrev pub AbsentBelow : ℕ → List ℕ → ℕ → Type 0
+AbsentBelow e l i = (j : ℕ) → j < i → getD l j 0 ≡ e → ⊥
+
+module _ (e : ℕ) (l : List ℕ) (n : ℕ) (inside : n ≤ length l) where
+  pub take-place-le : place e (take n l) ≤ n
+  take-place-le = omega (arith, place-le e (take n l), length-take-le n l inside)
+
+  not-before : (i : ℕ) → i ≤ n → AbsentBelow e l i → i ≤ place e (take n l)
+  not-before i h absent = on (decLt (place e (take n l)) i)
+    where
+      on : Dec (place e (take n l) < i) → i ≤ place e (take n l)
+      on (yes a) =
+          let is : getD (take n l) (place e (take n l)) 0 ≡ e = place-is e (take n l) (omega (arith, length-take-le n l inside)) in
+          absurd (absent (place e (take n l)) a (sym (getD-take n l (place e (take n l)) 0 (omega arith)) ∙ is))
+      on (no a) = omega arith
+
+  pub take-place : (i : ℕ) → i < n → AbsentBelow e l i → getD l i 0 ≡ e → place e (take n l) ≡ i
+  take-place i h absent is =
+      let there : i < length (take n l) = omega (arith, length-take-le n l inside) in
+      omega (arith, not-before i (omega arith) absent, place-first e (take n l) i there (getD-take n l i 0 h ∙ is))
+
+  pub take-absent : AbsentBelow e l n → place e (take n l) ≡ n
+  take-absent absent = omega (arith, not-before n (omega arith) absent, take-place-le)
 
 -- ---- longer lists
 

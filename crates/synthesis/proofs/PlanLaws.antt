@@ -1,38 +1,37 @@
 -- A plan is that of what is made of a rule file: a row for each way out.
 use Prim.Native.Nat.{ℕ, _≤_, _<_}
-use mathlib.Core.Path.{_≡_, refl, sym, _∙_, ap, subst}
-use mathlib.Core.Bool.{Bool, true, false}
+use mathlib.Core.Path.{_≡_, refl, sym, _∙_, ap}
+use mathlib.Core.Bool.{false, not}
 use mathlib.Core.List.{List}
 use native.Mathlib.Omega.{arith}
-use lib.ListN.{length, getD, take}
-use lib.Seq.{length-take-le}
+use lib.Dec.{eqb}
 use lib.Bits.{bitAnd}
+use lib.ListN.{length, take}
+use lib.Seq.{length-take-le}
 use borrow.Author.Tests.{ne-eqb, eq-eqb}
-use Rattle.reading.specs.Formula.{size}
-use Rattle.reading.specs.Rule.{Rule, Bytes, WellFormedRule}
+use Rattle.reading.specs.Rule.{Rule, Bytes}
 use Rattle.reading.specs.Outcome.{Outcome, accepted, refused}
 use Rattle.reading.specs.File.{ruleOf}
-use Rattle.reading.specs.Numbered.{numbered, readingOf}
-use Rattle.reading.specs.declared.Answer.{Answer}
+use Rattle.reading.specs.Numbered.{readingOf}
 use Rattle.reading.specs.declared.Answer.the-variants.{Accepted, Refused}
 use Rattle.reading.specs.declared.Reading.{Reading}
 use Rattle.reading.specs.declared.NumberedRule.{NumberedRule}
 use Rattle.reading.proofs.Accepted.{reading-accepts}
-use Rattle.synthesis.specs.NodeSet.{common}
-use Rattle.synthesis.specs.Answering.{firstOf, falsities, answerOf, hopeless}
+use Rattle.reading.proofs.Listings.{size-positive}
+use Rattle.synthesis.specs.NodeSet.{none, common}
+use Rattle.synthesis.specs.Answering.{answerOf, hopeless}
 use Rattle.synthesis.specs.Search.{found}
+use Rattle.synthesis.specs.Building.{equationsOf, synthesisOf}
 use Rattle.synthesis.specs.Arrays.{IsNumbered, SomeNumbered, IsGraph, answerBy, Holds}
-use Rattle.synthesis.specs.Building.{equationsOf, Synthesis, synthesized, synthesisOf, countedOf}
-use Rattle.synthesis.specs.Plans.{refusalOf, Fills, CanFill, IsPlan}
+use Rattle.synthesis.specs.Plans.{refusalOf, IsPlan}
 use Rattle.synthesis.specs.declared.Counted.{Counted}
 use Rattle.synthesis.specs.declared.Counted.the-variants as counted
 use Rattle.synthesis.specs.declared.Plan.{Plan}
 use Rattle.synthesis.specs.declared.graph.Graph.{Graph}
-use Rattle.synthesis.proofs.NodeArrays.{some-size}
 use Rattle.synthesis.proofs.Finding.{found-cong}
+use Rattle.synthesis.proofs.Synthesized.{accepts-made, refuses-eight, refuses-nine}
 use Rattle.synthesis.proofs.HoldsLaws.{held-few, held-many}
 use Rattle.synthesis.proofs.GraphLaws.{graph-answers}
-use Rattle.synthesis.proofs.Synthesized.{made, accepts-made, refuses-eight, refuses-nine}
 
 -- the plan of a file that is refused so
 pub refused-plan : (limit : ℕ) (s : List ℕ) (number place : ℕ) {p : Plan} → synthesisOf limit s ≡ refused number place
@@ -45,10 +44,10 @@ not-read : (limit : ℕ) (s : List ℕ) (o : Outcome Rule) → ruleOf s ≡ o �
     → (p : Plan) → p .answer ≡ refusalOf (readingOf o .answer) → IsPlan (synthesisOf limit s) p
 unfolding synthesisOf
 not-read limit s (accepted r) q number place d p e = let z : _≡_ {A = ℕ} 0 1 = cc in absurd (omega arith)
-not-read limit s (refused number′ place′) q number place d p e = rw q (record { answer-is = e; fills = tt })
+not-read limit s (refused number′ place′) q number place d p e = refused-plan limit s number′ place′ (rw q) e
 
-pub unread-plan : (limit : ℕ) (s : List ℕ) (x : Reading) → x ≡ readingOf (ruleOf s) → {number place : ℕ} → x .answer ≡ Refused number place → (a : Counted) → a ≡ refusalOf (x .answer)
-    → (p : Plan) → p .answer ≡ a → IsPlan (synthesisOf limit s) p
+pub unread-plan : (limit : ℕ) (s : List ℕ) (x : Reading) → x ≡ readingOf (ruleOf s) → {number place : ℕ} → x .answer ≡ Refused number place
+    → (a : Counted) → a ≡ refusalOf (x .answer) → (p : Plan) → p .answer ≡ a → IsPlan (synthesisOf limit s) p
 unread-plan limit s x q d a e p f =
     let g : x .answer ≡ readingOf (ruleOf s) .answer = ap (λ (y : Reading). y .answer) q in
     not-read limit s (ruleOf s) refl _ _ (sym g ∙ d) p (f ∙ e ∙ ap refusalOf g)
@@ -61,7 +60,8 @@ pub record Read (s : List ℕ) (n : NumberedRule) : Type 0 where
   pub is : ruleOf s ≡ accepted rule
   pub numbers : IsNumbered rule n
 
-read-as : (s : List ℕ) → Bytes s → (o : Outcome Rule) → ruleOf s ≡ o → (n : NumberedRule) → n ≡ readingOf o .rule → readingOf o .answer ≡ Accepted → Read s n
+read-as : (s : List ℕ) → Bytes s → (o : Outcome Rule) → ruleOf s ≡ o → (n : NumberedRule) → n ≡ readingOf o .rule
+    → readingOf o .answer ≡ Accepted → Read s n
 read-as s b (accepted r) q n e a = record {
   rule = r;
   is = q;
@@ -82,32 +82,35 @@ read-is s b x q a =
     read-as s b (ruleOf s) refl (x .rule) (ap (λ (y : Reading). y .rule) q) (sym (ap (λ (y : Reading). y .answer) q) ∙ a)
 
 pub read-some : {s : List ℕ} {n : NumberedRule} → Read s n → SomeNumbered n 0
-read-some d = record { rule = d .rule; is-numbered = d .numbers; below = some-size (d .rule .formula) }
+read-some d = record { rule = d .rule; is-numbered = d .numbers; below = size-positive (d .rule .formula) }
 
 module _ {s : List ℕ} {n : NumberedRule} (d : Read s n) (g : Graph) (is : (r : Rule) → IsNumbered r n → IsGraph r g) where
   graph : IsGraph (d .rule) g
   graph = is (d .rule) (d .numbers)
 
   -- ---- 8
-  is-hopeless : (bitAnd (g .first) (g .falsities) ≡ 0 → ⊥) → hopeless (d .rule) ≡ true
-  unfolding hopeless
-  is-hopeless h = rw (ne-eqb (common (firstOf (d .rule)) (falsities 0 (d .rule .formula))) 0 (λ q. h (rw (graph .first-is, graph .falsities-are) q)))
 
-  not-hopeless : bitAnd (g .first) (g .falsities) ≡ 0 → hopeless (d .rule) ≡ false
+  tested : hopeless (d .rule) ≡ not (eqb (common (g .first) (g .falsities)) none)
   unfolding hopeless
-  not-hopeless h = rw (eq-eqb (common (firstOf (d .rule)) (falsities 0 (d .rule .formula))) 0 (rw (graph .first-is, graph .falsities-are) at h))
+  tested = rw (graph .first-is, graph .falsities-are)
 
-  pub hopeless-plan : (bitAnd (g .first) (g .falsities) ≡ 0 → ⊥) → {p : Plan} → p .answer ≡ counted.Refused 8 0 → IsPlan (synthesisOf 128 s) p
-  hopeless-plan h e = refused-plan 128 s 8 0 (refuses-eight 128 s (d .rule) (d .is) (is-hopeless h)) e
+  pub hopeless-plan : (bitAnd (g .first) (g .falsities) ≡ 0 → ⊥) → {p : Plan} → p .answer ≡ counted.Refused 8 0
+      → IsPlan (synthesisOf 128 s) p
+  hopeless-plan h e =
+      refused-plan 128 s 8 0 (refuses-eight 128 s (d .rule) (d .is) (rw (tested, ne-eqb (common (g .first) (g .falsities)) none h))) e
+
+  hopeful : bitAnd (g .first) (g .falsities) ≡ 0 → hopeless (d .rule) ≡ false
+  hopeful h = rw (tested, eq-eqb (common (g .first) (g .falsities)) none h)
 
   -- ---- 9
+
   module _ (calm : bitAnd (g .first) (g .falsities) ≡ 0) (list : List ℕ) (count : ℕ)
       (holds : Holds 128 list count (found 256 (answerBy (g .after) (g .waiting) (g .falsities)) 128 (g .first))) where
     -- what the search over the graph finds is what the definition finds
     equations-found : found 256 (answerBy (g .after) (g .waiting) (g .falsities)) 128 (g .first) ≡ equationsOf 128 (d .rule)
     unfolding equationsOf
     equations-found =
-        found-cong 256 (answerBy (g .after) (g .waiting) (g .falsities)) (answerOf (d .rule)) (λ e c l. graph-answers g graph e c l) 128 (g .first)
+        found-cong 256 (answerBy (g .after) (g .waiting) (g .falsities)) (answerOf (d .rule)) (graph-answers g graph) 128 (g .first)
         ∙ ap (found 256 (answerOf (d .rule)) 128) (graph .first-is)
 
     held : Holds 128 list count (equationsOf 128 (d .rule))
@@ -116,15 +119,16 @@ module _ {s : List ℕ} {n : NumberedRule} (d : Read s n) (g : Graph) (is : (r :
     pub many-plan : 128 < count → {p : Plan} → p .answer ≡ counted.Refused 9 0 → IsPlan (synthesisOf 128 s) p
     many-plan h e =
         refused-plan 128 s 9 0
-        (refuses-nine 128 s (d .rule) (d .is) (not-hopeless calm) (held-many 128 list count (equationsOf 128 (d .rule)) held h)) e
+        (refuses-nine 128 s (d .rule) (d .is) (hopeful calm) (held-many 128 list count (equationsOf 128 (d .rule)) held h)) e
 
     -- ---- the count
+
     pub counted-plan : count ≤ 128 → length list ≡ 128
         → IsPlan (synthesisOf 128 s) (record { answer = counted.Equations count; graph = g; found = list })
     counted-plan h k =
         let es : take count list ≡ equationsOf 128 (d .rule) = held-few 128 list count (equationsOf 128 (d .rule)) held h in
         let n : count ≡ length (equationsOf 128 (d .rule)) = sym (length-take-le count list (omega (arith, h, k))) ∙ ap length es in
-        rw (accepts-made 128 s (d .rule) (d .is) (not-hopeless calm) (omega (arith, n, h)))
+        rw (accepts-made 128 s (d .rule) (d .is) (hopeful calm) (omega (arith, n, h)))
         (record {
           answer-is = ap counted.Equations n;
           fills = record { graph-is = graph; found-is = rw (← n) es; few = omega (arith, n, h); found-length = k };

@@ -2,9 +2,10 @@
 use Prim.Native.Nat.{ℕ, _<_}
 use mathlib.Core.Path.{_≡_, refl, ap}
 use mathlib.Core.Logic.{_↔_}
-use mathlib.Core.List.{List, [], _∷_}
+use mathlib.Core.List.{List, _∷_}
 use Rattle.reading.specs.Rule.{Rule, All}
 use Rattle.synthesis.specs.Monitor.{Answer, dropped, next, kept, verdicts, ended, Loses, now, later, Monitors}
+use Rattle.synthesis.proofs.Runs.{run-induction}
 use Rattle.synthesis.proofs.MonitorLaws.{loses-nothing, loses-rest}
 
 -- The equations e with `Ok e` are renamed by f, and answer each code alike. Several may get one name.
@@ -17,16 +18,14 @@ pub record Renames {E F : Type 0} (codes : ℕ) (Ok : E → Type 0) (answer : E 
 module _ {E F : Type 0} (codes : ℕ) (Ok : E → Type 0) (answer : E → ℕ → Answer E) (answer′ : F → ℕ → Answer F) (f : E → F)
     (renames : Renames codes Ok answer answer′ f) where
   pub renamed-loses : (e : E) (w : List ℕ) → Ok e → All (λ c. c < codes) w → Loses answer e w ↔ Loses answer′ (f e) w
-  renamed-loses e [] ok all = (λ l. absurd (loses-nothing answer l), λ l. absurd (loses-nothing answer′ l))
-  renamed-loses e (c ∷ w) ok all = on (answer e c) refl (λ e′ ok′. renamed-loses e′ w ok′ (all .1))
-    where
-      on : (a : Answer E) → answer e c ≡ a → ((e′ : E) → Ok e′ → Loses answer e′ w ↔ Loses answer′ (f e′) w)
-          → Loses answer e (c ∷ w) ↔ Loses answer′ (f e) (c ∷ w)
-      on dropped q ih = (λ l. now (renames .drops e c ok (all .0) q), λ l. now q)
-      on (next e′) q ih =
-          let rest = ih e′ (renames .stays e e′ c ok (all .0) q) in
-          let q′ = renames .follows e e′ c ok (all .0) q in
-          (λ l. later q′ (rest .0 (loses-rest answer q l)), λ l. later q (rest .1 (loses-rest answer′ q′ l)))
+  renamed-loses =
+      run-induction answer (λ e w. Ok e → All (λ c. c < codes) w → Loses answer e w ↔ Loses answer′ (f e) w)
+      (λ e ok all. (λ l. absurd (loses-nothing answer l), λ l. absurd (loses-nothing answer′ l)))
+      (λ e c w q h ok all. (λ l. now (renames .drops e c ok (all .0) q), λ l. now q))
+      (λ e e′ c w q h ok all.
+      let q′ = renames .follows e e′ c ok (all .0) q in
+      let rest = h (renames .stays e e′ c ok (all .0) q) (all .1) in
+      (λ l. later q′ (rest .0 (loses-rest answer q l)), λ l. later q (rest .1 (loses-rest answer′ q′ l))))
 
   pub record Alike (e : E) (w : List ℕ) : Type 0 where
     pub keeps : kept answer′ (f e) w ≡ kept answer e w
@@ -34,25 +33,25 @@ module _ {E F : Type 0} (codes : ℕ) (Ok : E → Type 0) (answer : E → ℕ �
     pub ends : ended answer′ (f e) w ≡ f (ended answer e w)
 
   pub renamed-runs : (e : E) (w : List ℕ) → Ok e → All (λ c. c < codes) w → Alike e w
-  renamed-runs e [] ok all = record { keeps = refl; judges = refl; ends = refl }
-  renamed-runs e (c ∷ w) ok all = on (answer e c) refl (renamed-runs e w ok (all .1)) (λ e′ ok′. renamed-runs e′ w ok′ (all .1))
-    where
-      on : (a : Answer E) → answer e c ≡ a → Alike e w → ((e′ : E) → Ok e′ → Alike e′ w) → Alike e (c ∷ w)
-      on dropped q h ih =
-          let q′ = renames .drops e c ok (all .0) q in
-          record {
-            keeps = rw (q, q′) (h .keeps);
-            judges = rw (q, q′) (ap (λ (l : List ℕ). 1 ∷ l) (h .judges));
-            ends = rw (q, q′) (h .ends);
-          }
-      on (next e′) q h ih =
-          let q′ = renames .follows e e′ c ok (all .0) q in
-          let rest = ih e′ (renames .stays e e′ c ok (all .0) q) in
-          record {
-            keeps = rw (q, q′) (ap (λ (l : List ℕ). c ∷ l) (rest .keeps));
-            judges = rw (q, q′) (ap (λ (l : List ℕ). 0 ∷ l) (rest .judges));
-            ends = rw (q, q′) (rest .ends);
-          }
+  renamed-runs =
+      run-induction answer (λ e w. Ok e → All (λ c. c < codes) w → Alike e w)
+      (λ e ok all. record { keeps = refl; judges = refl; ends = refl })
+      (λ e c w q h ok all.
+      let q′ = renames .drops e c ok (all .0) q in
+      let rest = h ok (all .1) in
+      record {
+        keeps = rw (q, q′) (rest .keeps);
+        judges = rw (q, q′) (ap (λ (l : List ℕ). 1 ∷ l) (rest .judges));
+        ends = rw (q, q′) (rest .ends);
+      })
+      (λ e e′ c w q h ok all.
+      let q′ = renames .follows e e′ c ok (all .0) q in
+      let rest = h (renames .stays e e′ c ok (all .0) q) (all .1) in
+      record {
+        keeps = rw (q, q′) (ap (λ (l : List ℕ). c ∷ l) (rest .keeps));
+        judges = rw (q, q′) (ap (λ (l : List ℕ). 0 ∷ l) (rest .judges));
+        ends = rw (q, q′) (rest .ends);
+      })
 
 -- a monitor of a rule is one under new names too
 pub renamed-monitors : {E F : Type 0} (r : Rule) (Ok : E → Type 0) (answer : E → ℕ → Answer E) (answer′ : F → ℕ → Answer F) (f : E → F)

@@ -7,6 +7,18 @@ use Rattle.reading.specs.Rule.{All}
 use Rattle.synthesis.specs.Monitor.{Answer, dropped, next, kept, verdicts, ended}
 
 module _ {E : Type 0} (answer : E → ℕ → Answer E) where
+  -- What holds of every run: of one over no codes, and from the run over the rest, where the first code is dropped and where it is kept.
+  pub run-induction : (P : E → List ℕ → Type 0) → ((e : E) → P e [])
+      → ((e : E) (c : ℕ) (w : List ℕ) → answer e c ≡ dropped → P e w → P e (c ∷ w))
+      → ((e e′ : E) (c : ℕ) (w : List ℕ) → answer e c ≡ next e′ → P e′ w → P e (c ∷ w)) → (e : E) (w : List ℕ) → P e w
+  run-induction P none drops keeps e [] = none e
+  run-induction P none drops keeps e (c ∷ w) =
+      on (answer e c) refl (run-induction P none drops keeps e w) (λ e′. run-induction P none drops keeps e′ w)
+    where
+      on : (a : Answer E) → answer e c ≡ a → P e w → ((e′ : E) → P e′ w) → P e (c ∷ w)
+      on dropped q h k = drops e c w q h
+      on (next e′) q h k = keeps e e′ c w q (k e′)
+
   -- ---- one list and then another
 
   record Joined (e : E) (w v : List ℕ) : Type 0 where
@@ -15,16 +27,18 @@ module _ {E : Type 0} (answer : E → ℕ → Answer E) where
     ends : ended answer e (w ++ v) ≡ ended answer (ended answer e w) v
 
   joined : (e : E) (w v : List ℕ) → Joined e w v
-  joined e [] v = record { keeps = refl; judges = refl; ends = refl }
-  joined e (c ∷ w) v = on (answer e c) refl (joined e w v) (λ e′. joined e′ w v)
-    where
-      on : (a : Answer E) → answer e c ≡ a → Joined e w v → ((e′ : E) → Joined e′ w v) → Joined e (c ∷ w) v
-      on dropped q h k = record { keeps = rw q (h .keeps); judges = rw q (ap (λ (l : List ℕ). 1 ∷ l) (h .judges)); ends = rw q (h .ends) }
-      on (next e′) q h k = record {
-        keeps = rw q (ap (λ (l : List ℕ). c ∷ l) (k e′ .keeps));
-        judges = rw q (ap (λ (l : List ℕ). 0 ∷ l) (k e′ .judges));
-        ends = rw q (k e′ .ends);
-      }
+  joined e w v =
+      run-induction (λ e w. Joined e w v) (λ e. record { keeps = refl; judges = refl; ends = refl })
+      (λ e c w q h. record {
+        keeps = rw q (h .keeps);
+        judges = rw q (ap (λ (l : List ℕ). 1 ∷ l) (h .judges));
+        ends = rw q (h .ends);
+      })
+      (λ e e′ c w q h. record {
+        keeps = rw q (ap (λ (l : List ℕ). c ∷ l) (h .keeps));
+        judges = rw q (ap (λ (l : List ℕ). 0 ∷ l) (h .judges));
+        ends = rw q (h .ends);
+      }) e w
 
   pub kept-append : (e : E) (w v : List ℕ) → kept answer e (w ++ v) ≡ kept answer e w ++ kept answer (ended answer e w) v
   kept-append e w v = joined e w v .keeps
@@ -44,36 +58,26 @@ module _ {E : Type 0} (answer : E → ℕ → Answer E) where
   ended-last e w c q = ended-append e w (c ∷ []) ∙ rw q
 
   pub verdicts-length : (e : E) (w : List ℕ) → length (verdicts answer e w) ≡ length w
-  verdicts-length e [] = refl
-  verdicts-length e (c ∷ w) = on (answer e c) refl (verdicts-length e w) (λ e′. verdicts-length e′ w)
-    where
-      on : (a : Answer E) → answer e c ≡ a → length (verdicts answer e w) ≡ length w
-          → ((e′ : E) → length (verdicts answer e′ w) ≡ length w) → length (verdicts answer e (c ∷ w)) ≡ suc (length w)
-      on dropped q h k = rw q (ap suc h)
-      on (next e′) q h k = rw q (ap suc (k e′))
+  verdicts-length =
+      run-induction (λ e w. length (verdicts answer e w) ≡ length w) (λ e. refl)
+      (λ e c w q h. rw q (ap suc h)) (λ e e′ c w q h. rw q (ap suc h))
 
   -- ---- what was kept has the properties of all, is kept again, and leads to the same equation
 
   pub kept-all : (P : ℕ → Type 0) (e : E) (w : List ℕ) → All P w → All P (kept answer e w)
-  kept-all P e [] all = tt
-  kept-all P e (c ∷ w) all = on (answer e c) refl (kept-all P e w (all .1)) (λ e′. kept-all P e′ w (all .1))
-    where
-      on : (a : Answer E) → answer e c ≡ a → All P (kept answer e w) → ((e′ : E) → All P (kept answer e′ w))
-          → All P (kept answer e (c ∷ w))
-      on dropped q h k = rw q h
-      on (next e′) q h k = rw q (all .0, k e′)
+  kept-all P =
+      run-induction (λ e w. All P w → All P (kept answer e w)) (λ e all. tt)
+      (λ e c w q h all. rw q (h (all .1))) (λ e e′ c w q h all. rw q (all .0, h (all .1)))
 
   record Again (e : E) (w : List ℕ) : Type 0 where
     keeps : kept answer e (kept answer e w) ≡ kept answer e w
     ends : ended answer e (kept answer e w) ≡ ended answer e w
 
   again : (e : E) (w : List ℕ) → Again e w
-  again e [] = record { keeps = refl; ends = refl }
-  again e (c ∷ w) = on (answer e c) refl (again e w) (λ e′. again e′ w)
-    where
-      on : (a : Answer E) → answer e c ≡ a → Again e w → ((e′ : E) → Again e′ w) → Again e (c ∷ w)
-      on dropped q h k = record { keeps = rw q (h .keeps); ends = rw q (h .ends) }
-      on (next e′) q h k = record { keeps = rw (q, q) (ap (λ (l : List ℕ). c ∷ l) (k e′ .keeps)); ends = rw (q, q) (k e′ .ends) }
+  again =
+      run-induction Again (λ e. record { keeps = refl; ends = refl })
+      (λ e c w q h. record { keeps = rw q (h .keeps); ends = rw q (h .ends) })
+      (λ e e′ c w q h. record { keeps = rw (q, q) (ap (λ (l : List ℕ). c ∷ l) (h .keeps)); ends = rw (q, q) (h .ends) })
 
   pub kept-kept : (e : E) (w : List ℕ) → kept answer e (kept answer e w) ≡ kept answer e w
   kept-kept e w = again e w .keeps

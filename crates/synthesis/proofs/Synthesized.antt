@@ -1,6 +1,6 @@
 -- What building and synthesis accept and refuse, step by step.
 use Prim.Native.Nat.{ℕ, _*_, _≤_, _<_}
-use mathlib.Core.Path.{_≡_, refl, subst}
+use mathlib.Core.Path.{_≡_, refl, sym, _∙_, ap, subst}
 use mathlib.Core.Bool.{Bool, true, false}
 use mathlib.Core.List.{List}
 use native.Mathlib.Omega.{arith}
@@ -8,11 +8,12 @@ use lib.Dec.{ltb}
 use lib.ListN.{length}
 use borrow.Author.Tests.{ltb-true, ltb-false, lt-ltb, le-ltb}
 use Rattle.reading.specs.Rule.{Rule}
-use Rattle.reading.specs.Outcome.{accepted, refused, refuse}
+use Rattle.reading.specs.Outcome.{Outcome, accepted, refused, refuse}
 use Rattle.reading.specs.File.{ruleOf}
 use Rattle.reading.proofs.Outcomes.{accepted-is, passes, accepted-by}
 use Rattle.synthesis.specs.Answering.{hopeless}
-use Rattle.synthesis.specs.Building.{equationsOf, Synthesis, synthesized, synthesisOf, buildingOf}
+use Rattle.synthesis.specs.Building.{equationsOf, Synthesis, synthesized, synthesisOf, buildingOf, countedOf}
+use Rattle.synthesis.specs.declared.Counted.the-variants.{Equations, Refused}
 
 -- the synthesis of a rule that is accepted
 abbrev pub made : (limit : ℕ) → Rule → Synthesis
@@ -82,3 +83,18 @@ module _ (limit : ℕ) (s : List ℕ) (r : Rule) (read : ruleOf s ≡ accepted r
 
   pub refuses-nine : hopeless r ≡ false → limit < length (equationsOf limit r) → synthesisOf limit s ≡ refused 9 0
   refuses-nine h k = rw (synthesis-of, h, lt-ltb limit (length (equationsOf limit r)) k)
+
+-- ---- what the answer says of the outcome
+
+pub counted-accepts : (o : Outcome Synthesis) (n : ℕ) → countedOf o ≡ Equations n → (y : Synthesis) × (o ≡ accepted y) × (n ≡ length (y .equations))
+counted-accepts (accepted y) n e = (y, refl, cc)
+counted-accepts (refused number place) n e = let z : _≡_ {A = ℕ} 0 1 = cc in absurd (omega arith)
+
+pub counted-refuses : (o : Outcome Synthesis) (number place : ℕ) → countedOf o ≡ Refused number place → o ≡ refused number place
+counted-refuses (accepted y) number place e = let z : _≡_ {A = ℕ} 0 1 = cc in absurd (omega arith)
+counted-refuses (refused number′ place′) number place e = cc
+
+-- what is accepted is made of the rule that the file says
+pub accepts-as : (limit : ℕ) (s : List ℕ) (r : Rule) → ruleOf s ≡ accepted r → (y : Synthesis) → synthesisOf limit s ≡ accepted y → y ≡ made limit r
+accepts-as limit s r read =
+    synthesis-accepts limit s (λ y. y ≡ made limit r) (λ r′ read′ h few. ap (made limit) (accepted-is (sym read′ ∙ read)))

@@ -8,10 +8,10 @@ use lib.ListN.{length, getD, drop}
 use Rattle.reading.specs.Formula.{Formula, necessity, WellFormed}
 use Rattle.reading.specs.Nodes.{EnclosingMax, noMax, Node, first, second, body}
 use Rattle.reading.proofs.NodeLaws.{max-around, variable-bound}
-use Rattle.reading.proofs.Listings.{node-unique}
 use Rattle.synthesis.specs.Violation.{Violates, by-falsity, by-first, by-second, by-code, by-body, by-variable}
 use Rattle.synthesis.specs.Opening.{Opens, falsity-itself, necessity-itself, first-part, second-part, body-of-max, body-of-variable}
 use Rattle.synthesis.specs.Opening.{IsFalsity, bodyOf}
+use Rattle.synthesis.proofs.OpeningLaws.{same-node}
 
 -- the bodies of the maxes around, from max d on
 bodies-from : (ms : List EnclosingMax) (d : ℕ) → d < length ms
@@ -29,7 +29,7 @@ module _ (covered : ℕ → ℕ → Bool) (root : Formula) where
 
   pub violates-node : {k : ℕ} {ms : List EnclosingMax} {f : Formula} {w : List ℕ} → Node root k ms f → Violates covered (map bodyOf ms) f w
       → ViolatesNode k w
-  violates-node n v ms′ f′ n′ = let u = node-unique n n′ in rw (← (u .0), ← (u .1)) v
+  violates-node {w = w} n v ms′ f′ n′ = same-node (λ ms f. Violates covered (map bodyOf ms) f w) n n′ v
 
   pub opens-violates : {k m : ℕ} {w : List ℕ} → Opens root k m → ViolatesNode m w → ViolatesNode k w
   opens-violates (falsity-itself n) v = v

@@ -90,7 +90,8 @@ pub record SomeNumbered (n : NumberedRule) (k : ℕ) : Type 0 where
 
 -- Node n waits for the code c: it is a necessity whose pattern covers c.
 abbrev pub WaitsFor : Rule → (c n : ℕ) → Type 0
-WaitsFor r c n = (p : ℕ) × (ms : List EnclosingMax) × (f : Formula) × Node (r .formula) n ms (necessity p f) × (coveredBy (r .patterns) p c ≡ true)
+WaitsFor r c n =
+    (p : ℕ) × (ms : List EnclosingMax) × (f : Formula) × Node (r .formula) n ms (necessity p f) × (coveredBy (r .patterns) p c ≡ true)
 
 -- The array has, for each code, the nodes below k that wait for it.
 pub record Waiting (r : Rule) (k : ℕ) (waiting : List ℕ) : Type 0 where

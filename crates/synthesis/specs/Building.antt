@@ -1,5 +1,5 @@
--- What counting and building answer, and what building leaves in the table that it is lent. The limit on equations is any; the
--- paper's is 128.
+-- What counting and building answer, and what building leaves in the table that it is lent. The limit on equations and the mark for
+-- dropped are any; the paper's are 128 and 255.
 use Prim.Native.Nat.{ℕ, _*_}
 use mathlib.Core.List.{List}
 use lib.Dec.{ltb}
@@ -42,7 +42,7 @@ abbrev pub countedOf : Outcome Synthesis → Counted
 countedOf (accepted y) = Equations (length (y .equations))
 countedOf (refused number place) = Refused number place
 
--- What each outcome leaves in a table: the rows of the equations, or no change.
-abbrev pub tableAfter : Outcome Synthesis → List ℕ → List ℕ
-tableAfter (accepted y) table = filled 255 (answerOf (y .rule)) (y .equations) 256 table
-tableAfter (refused number place) table = table
+-- What each outcome leaves in a table, with a mark for dropped: the rows of the equations, or no change.
+abbrev pub tableAfter : (mark : ℕ) → Outcome Synthesis → List ℕ → List ℕ
+tableAfter mark (accepted y) table = filled mark (answerOf (y .rule)) (y .equations) 256 table
+tableAfter mark (refused number place) table = table

@@ -36,6 +36,6 @@ module _ {E : Type 0} (answer : E → ℕ → Answer E) where
     now : {e : E} {c : ℕ} {w : List ℕ} → answer e c ≡ dropped → Loses e (c ∷ w)
     later : {e e′ : E} {c : ℕ} {w : List ℕ} → answer e c ≡ next e′ → Loses e′ w → Loses e (c ∷ w)
 
--- Begun in its first equation, the monitor drops something of exactly the lists of codes that violate the rule.
+-- The run from the first equation drops something of a list of codes exactly when the list violates the rule.
 abbrev pub Monitors : {E : Type 0} → Rule → (answer : E → ℕ → Answer E) → (first : E) → Type 0
 Monitors r answer first = (w : List ℕ) → Bytes w → ViolatesRule r w ↔ Loses answer first w

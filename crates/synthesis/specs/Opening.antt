@@ -1,7 +1,7 @@
 -- Opening a node, equations and what they answer, as the paper says it under "Equations".
 use Prim.Native.Nat.{ℕ, suc, _+_, _<_}
 use mathlib.Core.Path.{_≡_}
-use mathlib.Core.Logic.{_↔_, _⊎_}
+use mathlib.Core.Logic.{_↔_}
 use mathlib.Core.Bool.{true}
 use mathlib.Core.List.{List, map}
 use lib.ListN.{length, getD}
@@ -12,13 +12,14 @@ use Rattle.synthesis.specs.Violation.{coveredBy, Violates}
 use Rattle.synthesis.specs.Monitor.{Answer, dropped, next}
 use Rattle.synthesis.specs.NodeSet.{Has}
 
--- Opening node k of the formula `root` gives node m: tt gives nothing; ff and a necessity give themselves; "both" opens its parts;
--- a max and its variable open the body of that max.
+-- Opening node k of the formula `root` gives node m. Only ff nodes and necessities are given; on the way to them, "both" is followed into
+-- either part, and a max, like each of its variables, into its body. Nothing is given by tt.
 pub data Opens (root : Formula) : (k m : ℕ) → Type 0 where
   falsity-itself : {k : ℕ} {ms : List EnclosingMax} → Node root k ms falsity → Opens root k k
   necessity-itself : {k p : ℕ} {ms : List EnclosingMax} {f : Formula} → Node root k ms (necessity p f) → Opens root k k
   first-part : {k m : ℕ} {ms : List EnclosingMax} {f g : Formula} → Node root k ms (both f g) → Opens root (suc k) m → Opens root k m
-  second-part : {k m : ℕ} {ms : List EnclosingMax} {f g : Formula} → Node root k ms (both f g) → Opens root (k + suc (size f)) m → Opens root k m
+  second-part : {k m : ℕ} {ms : List EnclosingMax} {f g : Formula} → Node root k ms (both f g) → Opens root (k + suc (size f)) m
+      → Opens root k m
   body-of-max : {k m : ℕ} {ms : List EnclosingMax} {f : Formula} → Node root k ms (max f) → Opens root (suc k) m → Opens root k m
   body-of-variable : {k m d : ℕ} {ms : List EnclosingMax} → Node root k ms (variable d) → d < length ms
       → Opens root (suc (getD ms d noMax .number)) m → Opens root k m

@@ -1,7 +1,6 @@
 -- What the crate's own functions say of the plan for a table.
 use Prim.Native.Nat.{_≤_}
 use mathlib.Core.Path.{_≡_}
-use mathlib.Core.List.{List}
 use lib.ListN.{length, take}
 use Rattle.reading.specs.Outcome.{Outcome, accepted, refused}
 use Rattle.reading.specs.declared.Answer.{Answer}

@@ -5,7 +5,7 @@ use mathlib.Core.Logic.{_↔_, _⊎_}
 use mathlib.Core.Bool.{Bool}
 use mathlib.Core.List.{List, [], _∷_, _++_}
 use lib.ListN.{length, getD, drop}
-use Rattle.reading.specs.Formula.{Formula, WellFormed}
+use Rattle.reading.specs.Formula.{Formula, necessity, WellFormed}
 use Rattle.reading.specs.Rule.{Rule, Bytes}
 use Rattle.reading.specs.Outcome.{accepted, refused}
 use Rattle.reading.specs.File.{ruleOf}
@@ -15,99 +15,139 @@ use Rattle.synthesis.specs.Monitor.{Answer, dropped, next, kept, ended, 
 use Rattle.synthesis.specs.NodeSet.{Has, none}
 use Rattle.synthesis.specs.Opening.{Opens, OpensToFalsity, Answers, IsFirst, ViolatesEquation}
 use Rattle.synthesis.specs.Answering.{opening, opensAround, firstOf, answerOf}
-use Rattle.synthesis.specs.Table.{rowOf, tabled}
-use Rattle.synthesis.specs.Building.{Synthesis, synthesisOf, buildingOf, tableAfter}
+use Rattle.synthesis.specs.Table.{rowOf, entry}
+use Rattle.synthesis.specs.Building.{equationsOf, synthesisOf, buildingOf, countedOf, tableAfter}
+use Rattle.synthesis.specs.declared.Counted.the-variants.{Equations, Refused}
 
--- 1. A list that goes on from one that violates a formula violates it.
+-- 1. Whoever violates a formula goes on violating it.
 abbrev pub ClosedUnderExtension : Type 0
 ClosedUnderExtension =
     (covered : ℕ → ℕ → Bool) (bodies : List Formula) (f : Formula) (w v : List ℕ) → Violates covered bodies f w → Violates covered bodies f (w ++ v)
 
--- 2. What is computed is what the paper says, for well-formed formulas of any number of nodes: what opening a node gives;
+-- ---- well-formed rules, of any number of nodes
+
+abbrev pub WellFormedFormula : Rule → Type 0
+WellFormedFormula r = WellFormed (length (r .patterns)) [] (r .formula)
+
+-- 2. The set that is computed for a node has the nodes to which it opens.
 abbrev pub OpensAsDefined : Type 0
 OpensAsDefined =
     (patterns : ℕ) (root : Formula) → WellFormed patterns [] root → (k : ℕ) (ms : List EnclosingMax) (f : Formula) → Node root k ms f
     → (m : ℕ) → Has (opening k (opensAround ms) f) m ↔ Opens root k m
 
--- the first equation, and the answer of any equation to any code. The empty set passes everything.
-pub record AnswersAsDefined (r : Rule) : Type 0 where
+-- So are the first equation and every answer as defined. From the empty set there is no way out, and nothing is dropped there.
+pub record Answered (r : Rule) : Type 0 where
   pub first : IsFirst r (firstOf r)
   pub answers : (e c : ℕ) → Answers r e c (answerOf r e c)
   pub empty : (c : ℕ) → answerOf r none c ≡ next none
 
--- 3. A list c ∷ w violates an equation exactly when the answer to c is dropped, or w violates the next equation. The empty list violates
--- none. A list violates the rule exactly when opening node 0 gives ff, or it violates the first equation.
+abbrev pub AnswersAsDefined : Type 0
+AnswersAsDefined = (r : Rule) → WellFormedFormula r → Answered r
+
+-- 3. Answers follow violation: what is left of a list after its first code violates the next equation, or the code is dropped, exactly
+-- when the list violates the equation. A list violates the rule where node 0 opens to ff, or else by the first equation.
 abbrev pub ViolatesNext : Rule → Answer ℕ → List ℕ → Type 0
 ViolatesNext r dropped w = Unit
 ViolatesNext r (next e) w = ViolatesEquation r e w
 
-pub record FollowsViolation (r : Rule) : Type 0 where
+pub record Follows (r : Rule) : Type 0 where
   pub step : (e c : ℕ) (w : List ℕ) → ViolatesEquation r e (c ∷ w) ↔ ViolatesNext r (answerOf r e c) w
   pub end : (e : ℕ) → ViolatesEquation r e [] → ⊥
   pub start : (w : List ℕ) → ViolatesRule r w ↔ (OpensToFalsity (r .formula) 0 ⊎ ViolatesEquation r (firstOf r) w)
 
--- 4. The table that building leaves monitors the rule, whatever the table held before. The limit on equations is any below the mark
--- for dropped; building's own is 128.
+abbrev pub FollowsViolation : Type 0
+FollowsViolation = (r : Rule) → WellFormedFormula r → Follows r
+
+-- ---- what is said of a file
+
+-- An answer with a count is about the file's rule, and the count is that of its equations.
+pub record Counts (limit : ℕ) (s : List ℕ) (n : ℕ) : Type 0 where
+  pub rule : Rule
+  pub is : ruleOf s ≡ accepted rule
+  pub count : n ≡ length (equationsOf limit rule)
+  pub some : 0 < n
+  pub few : n ≤ limit
+
+abbrev pub AnswersCount : Type 0
+AnswersCount = (limit : ℕ) (s : List ℕ) (n : ℕ) → countedOf (synthesisOf limit s) ≡ Equations n → Counts limit s n
+
+-- Building looks at the table first; with one that is long enough it answers as counting does.
+pub record ChecksTable (limit : ℕ) (s : List ℕ) (size : ℕ) : Type 0 where
+  pub short : size < 256 * limit → buildingOf limit s size ≡ refused 10 0
+  pub enough : 256 * limit ≤ size → buildingOf limit s size ≡ synthesisOf limit s
+
+-- 4. The table that building leaves monitors the rule, whatever it held before. The mark for dropped is any number that no equation
+-- has; with 128 and 255 these are the terms of building's contract.
 abbrev pub TableMonitors : Type 0
 TableMonitors =
-    (limit : ℕ) (s table : List ℕ) → limit ≤ 255 → Bytes s → (y : Synthesis) → buildingOf limit s (length table) ≡ accepted y
-    → Monitors (y .rule) (tabled (tableAfter (buildingOf limit s (length table)) table)) 0
+    (limit mark : ℕ) (s table : List ℕ) (r : Rule) (n : ℕ) → limit ≤ mark → Bytes s → ruleOf s ≡ accepted r
+    → countedOf (buildingOf limit s (length table)) ≡ Equations n
+    → Monitors r (entry 256 mark (tableAfter mark (buildingOf limit s (length table)) table)) 0
 
--- What every monitor of a rule does: a code is dropped exactly when the codes kept so far, followed by it, violate the rule.
+-- A monitor drops a code exactly where the codes kept until then, with this one after them, violate the rule.
 abbrev pub DropsViolations : {E : Type 0} → Rule → (answer : E → ℕ → Answer E) → (first : E) → Type 0
 DropsViolations r answer first =
     (w : List ℕ) (c : ℕ) → Bytes w → c < 256
     → (answer (ended answer first w) c ≡ dropped) ↔ ViolatesRule r (kept answer first w ++ (c ∷ []))
 
+abbrev pub MonitorsDrop : Type 1
+MonitorsDrop = (E : Type 0) (r : Rule) (answer : E → ℕ → Answer E) (first : E) → Monitors r answer first → DropsViolations r answer first
+
 -- So does the table.
 abbrev pub TableDrops : Type 0
 TableDrops =
-    (limit : ℕ) (s table : List ℕ) → limit ≤ 255 → Bytes s → (y : Synthesis) → buildingOf limit s (length table) ≡ accepted y
-    → DropsViolations (y .rule) (tabled (tableAfter (buildingOf limit s (length table)) table)) 0
+    (limit mark : ℕ) (s table : List ℕ) (r : Rule) (n : ℕ) → limit ≤ mark → Bytes s → ruleOf s ≡ accepted r
+    → countedOf (buildingOf limit s (length table)) ≡ Equations n
+    → DropsViolations r (entry 256 mark (tableAfter mark (buildingOf limit s (length table)) table)) 0
 
--- 5. Of a file that is a rule: 8 exactly when the empty list violates the rule;
+-- 5. A rule is refused with 8 exactly when the empty list violates it,
 abbrev pub RefusesHopeless : Type 0
 RefusesHopeless =
-    (limit : ℕ) (s : List ℕ) → Bytes s → (r : Rule) → ruleOf s ≡ accepted r → (synthesisOf limit s ≡ refused 8 0) ↔ ViolatesRule r []
+    (limit : ℕ) (s : List ℕ) → Bytes s → (r : Rule) → ruleOf s ≡ accepted r
+    → (countedOf (synthesisOf limit s) ≡ Refused 8 0) ↔ ViolatesRule r []
 
--- and else 9 exactly when more equations are reached than the limit: no list that is no longer has the first equation and with each
--- equation those that the codes lead to.
+-- and one that isn't, with 9 exactly when too many equations are reached: no list of at most `limit` sets has the first equation and,
+-- with each of its sets, what the codes make of it.
 pub record Closed (r : Rule) (es : List ℕ) : Type 0 where
   pub first : (i : ℕ) × (i < length es) × (getD es i 0 ≡ firstOf r)
   pub next : (i c e : ℕ) → i < length es → c < 256 → answerOf r (getD es i 0) c ≡ next e → (j : ℕ) × (j < length es) × (getD es j 0 ≡ e)
 
 abbrev pub RefusesTooMany : Type 0
 RefusesTooMany =
-    (limit : ℕ) (s : List ℕ) (r : Rule) → ruleOf s ≡ accepted r → (synthesisOf limit s ≡ refused 8 0 → ⊥)
-    → (synthesisOf limit s ≡ refused 9 0) ↔ ((es : List ℕ) → length es ≤ limit → Closed r es → ⊥)
+    (limit : ℕ) (s : List ℕ) (r : Rule) → ruleOf s ≡ accepted r → (countedOf (synthesisOf limit s) ≡ Refused 8 0 → ⊥)
+    → (countedOf (synthesisOf limit s) ≡ Refused 9 0) ↔ ((es : List ℕ) → length es ≤ limit → Closed r es → ⊥)
 
--- 6. The equations of an accepted rule are distinct, each is reached from the first by codes that are kept, and with each equation they
--- have those that the codes lead to; the table has a whole row for each, and every entry is 255 or under the count.
-pub record EquationsReached (y : Synthesis) : Type 0 where
-  pub distinct : (i j : ℕ) → i < length (y .equations) → j < length (y .equations) → getD (y .equations) i 0 ≡ getD (y .equations) j 0 → i ≡ j
-  pub reached : (i : ℕ) → i < length (y .equations)
-      → (w : List ℕ) × Bytes w × (kept (answerOf (y .rule)) (firstOf (y .rule)) w ≡ w)
-      × (ended (answerOf (y .rule)) (firstOf (y .rule)) w ≡ getD (y .equations) i 0)
-  pub closed : Closed (y .rule) (y .equations)
+-- 6. The equations that are counted: they are sets of necessities, no two are the same, kept codes lead from the first to each, and the
+-- codes lead to no other.
+pub record Reached (r : Rule) (es : List ℕ) : Type 0 where
+  pub members : (i n : ℕ) → i < length es → Has (getD es i 0) n
+      → (p : ℕ) × (ms : List EnclosingMax) × (f : Formula) × Node (r .formula) n ms (necessity p f)
+  pub distinct : (i j : ℕ) → i < length es → j < length es → getD es i 0 ≡ getD es j 0 → i ≡ j
+  pub reached : (i : ℕ) → i < length es
+      → (w : List ℕ) × Bytes w × (kept (answerOf r) (firstOf r) w ≡ w) × (ended (answerOf r) (firstOf r) w ≡ getD es i 0)
+  pub closed : Closed r es
 
 abbrev pub ReachesEquations : Type 0
-ReachesEquations = (limit : ℕ) (s : List ℕ) (y : Synthesis) → synthesisOf limit s ≡ accepted y → EquationsReached y
+ReachesEquations =
+    (limit : ℕ) (s : List ℕ) → Bytes s → (r : Rule) (n : ℕ) → ruleOf s ≡ accepted r → countedOf (synthesisOf limit s) ≡ Equations n
+    → Reached r (equationsOf limit r)
 
-pub record RowInRange (count : ℕ) (row : List ℕ) : Type 0 where
+-- Each has a whole row in the table, whose entries are the mark or under the count.
+pub record RowInRange (mark count : ℕ) (row : List ℕ) : Type 0 where
   pub whole : length row ≡ 256
-  pub range : (c : ℕ) → c < 256 → (getD row c 0 ≡ 255) ⊎ (getD row c 0 < count)
+  pub range : (c : ℕ) → c < 256 → (getD row c 0 ≡ mark) ⊎ (getD row c 0 < count)
 
 abbrev pub EntriesInRange : Type 0
 EntriesInRange =
-    (limit : ℕ) (s table : List ℕ) (y : Synthesis) → buildingOf limit s (length table) ≡ accepted y → (k : ℕ) → k < length (y .equations)
-    → RowInRange (length (y .equations)) (rowOf 256 (tableAfter (buildingOf limit s (length table)) table) k)
+    (limit mark : ℕ) (s table : List ℕ) (n : ℕ) → countedOf (buildingOf limit s (length table)) ≡ Equations n → (k : ℕ) → k < n
+    → RowInRange mark n (rowOf 256 (tableAfter mark (buildingOf limit s (length table)) table) k)
 
--- The table stays as long as it was, and the bytes after the last row as they were.
+-- Behind the last row nothing changes, and the table keeps its length.
 pub record SameAfterRows (count : ℕ) (before after : List ℕ) : Type 0 where
   pub long : length after ≡ length before
   pub rest : drop (256 * count) after ≡ drop (256 * count) before
 
 abbrev pub TableRest : Type 0
 TableRest =
-    (limit : ℕ) (s table : List ℕ) (y : Synthesis) → buildingOf limit s (length table) ≡ accepted y
-    → SameAfterRows (length (y .equations)) table (tableAfter (buildingOf limit s (length table)) table)
+    (limit mark : ℕ) (s table : List ℕ) (n : ℕ) → countedOf (buildingOf limit s (length table)) ≡ Equations n
+    → SameAfterRows n table (tableAfter mark (buildingOf limit s (length table)) table)

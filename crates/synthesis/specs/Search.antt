@@ -1,5 +1,5 @@
--- The search for equations: numbered as found, earlier equations first, codes ascending. The equations are numbers, and `answer` and
--- the number of codes are any.
+-- The search for equations. Each gets its turn in the order in which they were found, and asks the codes from 0 up; what is new goes to the
+-- end. The equations are numbers, and `answer` and the number of codes are any.
 use Prim.Native.Nat.{ℕ, zero, suc}
 use mathlib.Core.Bool.{cond}
 use mathlib.Core.List.{List, [], _∷_, _++_}

@@ -15,7 +15,7 @@ abbrev pub coveredBy : List Pattern → (pattern code : ℕ) → Bool
 coveredBy ps p c = covers (getD ps p noPattern) c
 
 -- A list of codes violates f, where `bodies` are the bodies of the maxes around f, innermost first. `covered p c`: pattern p covers the
--- code c. ff is violated by every list, also by one that goes on.
+-- code c. Every list violates ff.
 pub data Violates (covered : (pattern code : ℕ) → Bool) : (bodies : List Formula) → Formula → List ℕ → Type 0 where
   by-falsity : {bodies : List Formula} {w : List ℕ} → Violates covered bodies falsity w
   by-first : {bodies : List Formula} {f g : Formula} {w : List ℕ} → Violates covered bodies f w → Violates covered bodies (both f g) w

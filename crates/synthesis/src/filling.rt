@@ -1,4 +1,5 @@
 // Fills the rows of a table.
+use crate::DROPPED;
 use crate::search::find;
 use crate::search::reached;
 ghost use mathlib.Core.Path.{_≡_};
@@ -7,8 +8,6 @@ ghost use lib.ListN.{length, take};
 ghost use Rattle.synthesis.specs.Answering.{judged};
 ghost use Rattle.synthesis.specs.Table.{entryFor, entries, filled};
 ghost use Rattle.synthesis.specs.Arrays.{answerBy};
-
-const DROPPED: u8 = 255;
 
 // The entry for a set of reached nodes: dropped where it has an ff node, else its place among the n equations.
 fn entry(found: &[u64], n: usize, falsities: u64, reached: u64) -> u8

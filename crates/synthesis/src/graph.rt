@@ -1,22 +1,17 @@
 // What the answers of a rule's equations are worked out from: sets of its nodes, node n as bit n.
 use reading::NumberedRule;
 use reading::Pattern;
+use reading::kinds::BOTH;
+use reading::kinds::FALSITY;
+use reading::kinds::MAX;
+use reading::kinds::NECESSITY;
+use reading::kinds::VARIABLE;
 ghost use mathlib.Core.Path.{_≡_};
 ghost use Prim.Native.Nat.{ℕ, _+_, _≤_, _<_};
 ghost use lib.ListN.{length, replicate};
 ghost use Rattle.reading.specs.Formula.{size};
 ghost use Rattle.reading.specs.Rule.{Rule};
 ghost use Rattle.synthesis.specs.Arrays.{IsRule, SomeNode, IsOpening, Linked, AfterAll, withNode, HasKind, Marked, IsNumbered, SomeNumbered, Waiting, WaitingAll, IsGraph};
-
-const FALSITY: u8 = 3;
-
-const BOTH: u8 = 4;
-
-const NECESSITY: u8 = 5;
-
-const MAX: u8 = 6;
-
-const VARIABLE: u8 = 7;
 
 // The first equation and the ff nodes of a rule; for each node that is a necessity, what opening the formula after it gives; for each
 // code, the necessities whose patterns cover it.

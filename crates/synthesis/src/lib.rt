@@ -11,6 +11,9 @@ ghost use Rattle.synthesis.specs.Table.{rowOf};
 ghost use Rattle.synthesis.specs.Building.{synthesisOf, buildingOf, countedOf, tableAfter};
 ghost use Rattle.synthesis.specs.Plans.{refusalOf, IsPlan};
 
+// The entry of a code that is dropped.
+pub const DROPPED: u8 = 255;
+
 // What is said of a rule file: how many equations its rule has, or a refusal with a number and a place.
 pub enum Counted {
     Equations(usize),
@@ -74,17 +77,17 @@ fn plan_of(rule: &[u8]) -> Plan
     }
 }
 
-// How many equations the rule of a file has.
+// Answers how many equations the rule of a file has, or a refusal of 1 to 9.
 pub fn count(rule: &[u8]) -> Counted
     ensures { λ r. ⌜ r ≡ countedOf (synthesisOf 128 (now (rule .entry))) ⌝ }
 {
     plan_of(rule).answer
 }
 
-// Fills a table with a row for each equation of the rule of a file.
+// Fills a table with a row for each equation of the rule of a file, and answers how many there are. A refused call leaves the table as it was.
 pub fn build(rule: &[u8], table: &mut [u8]) -> Counted
     ensures { λ r. ⌜ r ≡ countedOf (buildingOf 128 (now (rule .entry)) (length (now (table .entry)))) ⌝ }
-    ensures { λ _. ⌜ now (table .exit) ≡ tableAfter (buildingOf 128 (now (rule .entry)) (length (now (table .entry)))) (now (table .entry)) ⌝ }
+    ensures { λ _. ⌜ now (table .exit) ≡ tableAfter 255 (buildingOf 128 (now (rule .entry)) (length (now (table .entry)))) (now (table .entry)) ⌝ }
 {
     if table.len() < 32768 {
         return Counted::Refused(10, 0);

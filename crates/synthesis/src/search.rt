@@ -1,8 +1,7 @@
 // The search for the equations of a rule. They are numbered by their places in an array.
 ghost use mathlib.Core.Path.{_≡_};
-ghost use Prim.Native.Nat.{_≤_, _<_};
+ghost use Prim.Native.Nat.{ℕ, _≤_, _<_};
 ghost use mathlib.Core.List.{List};
-ghost use Prim.Native.Nat.{ℕ};
 ghost use lib.ListN.{length, getD, take};
 ghost use Rattle.synthesis.specs.Monitor.{cases};
 ghost use Rattle.synthesis.specs.NodeSet.{common};

@@ -8,7 +8,7 @@ use lib.ListN.{length, getD}
 use Rattle.synthesis.specs.Table.{rowOf}
 use Rattle.listing.specs.Runs.{run, RunTo}
 use Rattle.listing.specs.Lines.{runLine}
-use Rattle.listing.specs.Building.{Prints, Gives}
+use Rattle.listing.specs.LineParts.{Prints, Gives}
 use Rattle.listing.specs.Positions.{rowLineAt}
 use Rattle.listing.specs.declared.Line.{Line}
 use Rattle.listing.proofs.RowLaws.{row-inside}

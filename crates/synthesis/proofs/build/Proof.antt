@@ -1,55 +1,42 @@
--- `synthesis::build` meets its contract.
+-- `build` meets its contract: each return is a row of what building answers and leaves.
 use native.Mathlib.Omega.{arith}
 use borrow.Author.Needs.{needs}
 use Rattle.synthesis.specs.Building.{synthesisOf}
 use Rattle.synthesis.proofs.BuildingWays.{too-short, not-counted, Counts, counts, is-filled}
 use Rattle.synthesis.proofs.build.Statement.{statement}
 use Rattle.synthesis.proofs.build.Tie as tie
-use Rattle.synthesis.proofs.build.Reads as reads
-use Rattle.synthesis.proofs.build.Lts as lts
-use Rattle.synthesis.proofs.filling.fill.Reads as fill-reads
-use Rattle.synthesis.proofs.plan_of.Reads as plan-of-reads
 
 -- the plan of a rule that has a count
 counted : (c : tie.After-answer) → let p = c .before .before in
     Counts (synthesisOf 128 (p .before .before .before .before .args .rule .now)) (p .plan-of .result) (c .answer .given .0 .0)
 counted c = counts _ _ (c .before .before .plan-of .ensures) (c .answer .given .1)
 
--- src/lib.rt:90:9
 returns : tie.Need-returns
 returns c = too-short _ _ (c .if1 .taken)
 
--- src/lib.rt:92:9
 plan-of-requires : tie.Need-plan-of-requires
 plan-of-requires c κs = search needs
 
--- src/lib.rt:94:28
 enum-known-answer : tie.Need-enum-known-answer
 enum-known-answer c = search needs
 
--- src/lib.rt:95:9
 enum-told : tie.Need-enum-told
 enum-told c = search needs
 
--- src/lib.rt:95:9
 returns-2 : tie.Need-returns-2
 returns-2 c =
     let p = c .before .before in
     not-counted _ _ _ (p .plan-of .ensures) (c .enum-told .given .1) (p .before .if1 .left)
 
--- src/lib.rt:101:19
 slice-aggregate-fill : tie.Need-slice-aggregate-fill
 slice-aggregate-fill c = search needs
 
--- src/lib.rt:101:27
 slice-aggregate-fill-2 : tie.Need-slice-aggregate-fill-2
 slice-aggregate-fill-2 c = search needs
 
--- src/lib.rt:101:54
 slice-aggregate-fill-3 : tie.Need-slice-aggregate-fill-3
 slice-aggregate-fill-3 c = search needs
 
--- src/lib.rt:101:5
 fill-requires : tie.Need-fill-requires
 fill-requires c κs =
     let a = c .before .before .before .before .before .before .before .before .before in
@@ -61,11 +48,9 @@ fill-requires c κs =
       omega (arith, f .count-is, f .fills .few, a .before .before .before .if1 .left),
     )
 
--- src/lib.rt:85:1
 same-length : tie.Need-same-length
 same-length c = search needs
 
--- src/lib.rt:85:1
 returns-3 : tie.Need-returns-3
 returns-3 c =
     let a = c .before .before .before .before .before .before .before .before .before .before .before .before in

@@ -1,91 +1,73 @@
--- `synthesis::plan_of` meets its contract.
-use borrow.Author.Needs.{needs}
+-- `plan_of` meets its contract: each return is the plan of what is made of the file.
 use Prim.Native.Nat.{_<_}
+use borrow.Author.Needs.{needs}
 use Rattle.reading.proofs.AllLaws.{all-of}
 use Rattle.synthesis.proofs.PlanLaws.{Read, unread-plan, read-is, read-some, hopeless-plan, many-plan, counted-plan}
 use Rattle.synthesis.proofs.plan_of.Statement.{statement}
 use Rattle.synthesis.proofs.plan_of.Tie as tie
-use Rattle.synthesis.proofs.plan_of.Reads as reads
-use Rattle.synthesis.proofs.plan_of.Lts as lts
-use Rattle.reading.proofs.read_rule.Reads as read-rule-reads
-use Rattle.synthesis.proofs.graph.of_rule.Reads as of-rule-reads
-use Rattle.synthesis.proofs.no_plan.Reads as no-plan-reads
-use Rattle.synthesis.proofs.refusal.Reads as refusal-reads
-use Rattle.synthesis.proofs.search.search.Reads as search-reads
 
 -- what was read of a file that is a rule
 read : (c : tie.After-enum-told) → Read (c .before .before .before .before .args .rule .now) (c .before .before .read-rule .result .rule)
 read c =
     let r = c .before .before in
-    read-is _ (all-of (λ b. b < 256) (c .before .before .before .before .args .rule .now) 0 (λ i h. r .before .shared-slice-known .given i .fits)) _ (r .read-rule .ensures) (c .enum-told .given .1)
+    let file = r .before .before .args .rule .now in
+    let bytes = all-of (λ b. b < 256) file 0 (λ i h. r .before .shared-slice-known .given i .fits) in
+    read-is file bytes _ (r .read-rule .ensures) (c .enum-told .given .1)
 
--- src/lib.rt:54:9
 read-rule-requires : tie.Need-read-rule-requires
 read-rule-requires c κs = search needs
 
 enum-told : tie.Need-enum-told
 enum-told c = search needs
 
--- src/lib.rt:57:24
 enum-told-2 : tie.Need-enum-told-2
 enum-told-2 c = search needs
 
--- src/lib.rt:57:24
 refusal-requires : tie.Need-refusal-requires
 refusal-requires c κs = search needs
 
--- src/lib.rt:57:9
 no-plan-requires : tie.Need-no-plan-requires
 no-plan-requires c κs = search needs
 
--- src/lib.rt:57:9
 returns : tie.Need-returns
 returns c =
-    unread-plan 128 _ _ (c .before .before .before .before .read-rule .ensures) (c .before .before .enum-told2 .given .1) _ (c .before .refusal .ensures) _ (c .no-plan .ensures)
+    let e = c .before .before in
+    unread-plan 128 _ _ (e .before .before .read-rule .ensures) (e .enum-told2 .given .1) _ (c .before .refusal .ensures) _ (c .no-plan .ensures)
 
--- src/lib.rt:59:9
 of-rule-requires : tie.Need-of-rule-requires
 of-rule-requires c κs = read-some (read c)
 
--- src/lib.rt:61:9
 no-plan-requires-2 : tie.Need-no-plan-requires-2
 no-plan-requires-2 c κs = search needs
 
--- src/lib.rt:61:9
 returns-2 : tie.Need-returns-2
 returns-2 c =
     let o = c .before .before .before in
     hopeless-plan (read (o .before)) _ (o .of-rule .ensures) (c .before .if1 .taken) (c .no-plan2 .ensures)
 
--- src/lib.rt:66:32
 slice-aggregate-search : tie.Need-slice-aggregate-search
 slice-aggregate-search c = search needs
 
--- src/lib.rt:66:40
 slice-aggregate-search-2 : tie.Need-slice-aggregate-search-2
 slice-aggregate-search-2 c = search needs
 
--- src/lib.rt:66:80
 slice-aggregate-search-3 : tie.Need-slice-aggregate-search-3
 slice-aggregate-search-3 c = search needs
 
--- src/lib.rt:66:9
 search-requires : tie.Need-search-requires
 search-requires c κs = search needs
 
--- src/lib.rt:68:9
 no-plan-requires-3 : tie.Need-no-plan-requires-3
 no-plan-requires-3 c κs = search needs
 
--- src/lib.rt:68:9
 returns-3 : tie.Need-returns-3
 returns-3 c =
     let f = c .before .before .before in
     let e = f .before .before .before .before .before .before in
     let o = e .before .before in
-    many-plan (read (o .before)) _ (o .of-rule .ensures) (e .if1 .left) _ _ (f .search .ensures) (c .before .if2 .taken) (c .no-plan3 .ensures)
+    many-plan (read (o .before)) _ (o .of-rule .ensures) (e .if1 .left) _ _ (f .search .ensures) (c .before .if2 .taken)
+    (c .no-plan3 .ensures)
 
--- src/lib.rt:51:1
 returns-4 : tie.Need-returns-4
 returns-4 c =
     let f = c .before .before in

@@ -1,11 +1,8 @@
 -- `row` meets its contract.
-use Prim.Native.Nat.{_+_, _*_}
-use lib.ListN.{length}
 use native.Mathlib.Nat.{add-sub-cancel-left}
 use native.Mathlib.Omega.{arith}
 use borrow.Author.Needs.{needs}
-use borrow.Author.Tests.{le-leb, lt-leb}
-use Rattle.synthesis.specs.Table.{rowOf}
+use Rattle.synthesis.proofs.Rows.{row-is, row-none}
 use Rattle.synthesis.proofs.row.Statement.{statement}
 use Rattle.synthesis.proofs.row.Tie as tie
 
@@ -25,10 +22,9 @@ part-result-end : tie.Need-part-result-end
 part-result-end c = search needs
 
 returns : tie.Need-returns
-unfolding rowOf
 returns c =
     let args = c .before .before .args in
-    simp (le-leb (256 * args .k + 256) (length (args .table .now)) (omega arith), add-sub-cancel-left (256 * args .k) 256)
+    rw (row-is 256 (args .table .now) (args .k) (omega arith), add-sub-cancel-left)
 
 sub-result-2 : tie.Need-sub-result-2
 sub-result-2 c = search needs
@@ -40,10 +36,9 @@ part-result-end-2 : tie.Need-part-result-end-2
 part-result-end-2 c = search needs
 
 returns-2 : tie.Need-returns-2
-unfolding rowOf
 returns-2 c =
     let args = c .before .before .args in
-    simp (lt-leb (256 * args .k + 256) (length (args .table .now)) (omega arith))
+    rw (row-none 256 (args .table .now) (args .k) (omega arith))
 
 pub row-spec : {M : Type 1} → statement M
 row-spec =

@@ -5,7 +5,7 @@ use native.Mathlib.Numerals.{add-one}
 use borrow.Author.Needs.{needs}
 use lib.ListN.{length, take}
 use lib.Seq.{take-suc, take-all, length-take-le}
-use Rattle.listing.specs.Building.{Adds}
+use Rattle.listing.specs.LineParts.{Adds}
 use Rattle.listing.proofs.Additions.{nothing-added, adds-more, room-after}
 use Rattle.listing.proofs.Line.word.Statement.{statement}
 use Rattle.listing.proofs.Line.word.Tie as tie

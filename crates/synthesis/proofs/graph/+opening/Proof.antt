@@ -4,8 +4,9 @@ use native.Mathlib.Omega.{arith}
 use borrow.Fn.Kinds.{In}
 use borrow.Fn.PlainCycle.{Measures, is, falls, and}
 use Rattle.synthesis.specs.Arrays.{SomeNode}
-use Rattle.synthesis.proofs.OpeningArrays.{node-in-64, kinds-are-64, args-are-64, some-both, some-max, some-variable}
-use Rattle.synthesis.proofs.OpeningArrays.{opening-both, opening-max, opening-variable, opening-falsity, opening-necessity, opening-truth}
+use Rattle.synthesis.proofs.OpeningArrays.{node-in-64, kinds-are-64, args-are-64, some-next, some-second, some-variable}
+use Rattle.synthesis.proofs.OpeningArrays.{opening-both, opening-max, opening-variable}
+use Rattle.synthesis.proofs.OpeningArrays.{opening-falsity, opening-necessity, opening-truth}
 use Rattle.synthesis.proofs.graph.opening.Reads as reads
 use Rattle.synthesis.proofs.graph.opening.Kinds as kinds
 use Rattle.synthesis.proofs.graph.+opening.Lts-opening as lts
@@ -45,20 +46,20 @@ module _ (t : ℕ) where
   first-requires c κs =
       let b = c .before .before .before .before .before .before in
       let s = some b in
-      (omega (arith, node-in-64 s, b .pre .0), (some-both s (c .if1 .taken) .0, b .pre .1 .1))
+      (omega (arith, node-in-64 s, b .pre .0), (some-next s (c .if1 .taken) (omega arith) (omega arith), b .pre .1 .1))
 
   second-requires : lts.Need-opening-requires-2 (claims t) (at t) reads.Post
   second-requires c κs =
       let b = c .before .before .before .before .before .before .before in
       let s = some b in
-      let p = some-both s (c .before .if1 .taken) in
-      (omega (arith, node-in-64 s, p .2, b .pre .0), (p .1, b .pre .1 .1))
+      let p = some-second s (c .before .if1 .taken) in
+      (omega (arith, node-in-64 s, p .1, b .pre .0), (p .0, b .pre .1 .1))
 
   returns-both : lts.Need-returns (claims t) (at t) reads.Post
   returns-both c =
       let s = some (c .before .before .before .before .before .before .before .before) in
       let q = c .before .before .if1 .taken in
-      opening-both (some-both s q .2) q (c .before .opening .ensures) (c .opening2 .ensures)
+      opening-both (some-second s q .1) q (c .before .opening .ensures) (c .opening2 .ensures)
 
   add-body : lts.Need-add-opening-2 (claims t) (at t) reads.Post
   add-body c = omega (arith, node-in-64 (some (c .before .before .before .before .before .before .before)))
@@ -67,7 +68,7 @@ module _ (t : ℕ) where
   body-requires c κs =
       let b = c .before .before .before .before .before .before .before in
       let s = some b in
-      (omega (arith, node-in-64 s, b .pre .0), (some-max s (c .if2 .taken), b .pre .1 .1))
+      (omega (arith, node-in-64 s, b .pre .0), (some-next s (c .if2 .taken) (omega arith) (omega arith), b .pre .1 .1))
 
   returns-max : lts.Need-returns-2 (claims t) (at t) reads.Post
   returns-max c = opening-max (c .before .if2 .taken) (c .opening3 .ensures)

@@ -1,7 +1,8 @@
 -- `search::note` meets its contract.
 use native.Mathlib.Omega.{arith}
 use borrow.Author.Needs.{needs}
-use Rattle.synthesis.proofs.HoldsLaws.{with-grows, held-still, held-old, held-full, held-new}
+use Rattle.synthesis.proofs.Finding.{with-grows}
+use Rattle.synthesis.proofs.HoldsLaws.{held-still, held-old, held-full, held-new}
 use Rattle.synthesis.proofs.search.note.Statement.{statement}
 use Rattle.synthesis.proofs.search.note.Tie as tie
 

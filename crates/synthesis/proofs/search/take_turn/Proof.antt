@@ -1,7 +1,8 @@
 -- `search::take_turn` meets its contract.
 use native.Mathlib.Omega.{arith}
 use borrow.Author.Needs.{needs}
-use Rattle.synthesis.proofs.HoldsLaws.{turn-grows, held-still, held-past, held-turn}
+use Rattle.synthesis.proofs.Finding.{turn-grows}
+use Rattle.synthesis.proofs.HoldsLaws.{held-still, held-past, held-turn}
 use Rattle.synthesis.proofs.search.take_turn.Statement.{statement}
 use Rattle.synthesis.proofs.search.take_turn.Tie as tie
 

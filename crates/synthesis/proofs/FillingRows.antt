@@ -1,14 +1,15 @@
--- Laws of a table that is filled from its front: its rows, and a row's entries.
-use Prim.Native.Nat.{ℕ, zero, suc, _+_, _-_, _*_, _≤_, _<_}
-use mathlib.Core.Path.{_≡_, refl, sym, ap, _∙_}
+-- A table that is filled from its front: the next entry of a row, and the next row.
+use Prim.Native.Nat.{ℕ, suc, _+_, _-_, _*_, _≤_, _<_}
+use mathlib.Core.Path.{_≡_, sym, ap, _∙_}
 use mathlib.Core.List.{List, [], _∷_, _++_, append-assoc, append-nil}
-use native.Mathlib.Nat.{mul-zero, mul-suc, add-sub-cancel-left}
+use native.Mathlib.Nat.{mul-suc, add-sub-cancel-left}
 use native.Mathlib.Numerals.{add-one}
-use lib.ListN.{length, getD, drop, set, length-append, drop-of-length-le}
+use lib.ListN.{length, getD, drop, set, drop-of-length-le}
 use lib.Seq.{length-front, length-take-le, drop-cons, drop-drop, set-at, take-at, drop-at}
 use borrow.Rule.Slice.PartMut.{putMid}
 use Rattle.synthesis.specs.Monitor.{Answer}
 use Rattle.synthesis.specs.Table.{entryFor, entries, rows, filled}
+use Rattle.synthesis.proofs.Rows.{entries-length, rows-length}
 
 -- ---- a list d whose first n elements are overwritten by p
 
@@ -30,37 +31,25 @@ module _ (p d : List ℕ) (n : ℕ) (size : length p ≡ n) where
 module _ (mark : ℕ) (answer : ℕ → ℕ → Answer ℕ) (found : List ℕ) where
   -- ---- a row with the entries of the equation e for the first c codes
 
-  entries-length : (e c : ℕ) → length (entries mark answer found e c) ≡ c
-  unfolding entries
-  entries-length e zero = refl
-  entries-length e (suc c) =
-      length-append (entries mark answer found e c) (entryFor mark found (answer e c) ∷ [])
-      ∙ ap (λ (n : ℕ). n + 1) (entries-length e c)
-      ∙ add-one c
-
   module _ (e : ℕ) (row₀ row : List ℕ) (c : ℕ) (begun : row ≡ entries mark answer found e c ++ drop c row₀) where
     pub entries-next : (v : ℕ) → c < length row₀ → v ≡ entryFor mark found (answer e c)
         → set row c v ≡ entries mark answer found e (c + 1) ++ drop (c + 1) row₀
     unfolding entries
     entries-next v h is =
         rw (begun, is, add-one c)
-        (store-next (entries mark answer found e c) row₀ c (entries-length e c) (entryFor mark found (answer e c)) h)
+        (store-next (entries mark answer found e c) row₀ c (entries-length mark answer found e c) (entryFor mark found (answer e c)) h)
 
     pub entries-all : length row₀ ≤ c → row ≡ entries mark answer found e c
     entries-all h = begun ∙ rw (drop-of-length-le row₀ {i = c} h, append-nil)
 
   -- ---- a table with the rows of the first k equations
 
-  rows-length : (codes k : ℕ) → length (rows mark answer found codes k) ≡ codes * k
-  unfolding rows
-  rows-length codes zero = sym (mul-zero codes)
-  rows-length codes (suc k) =
-      length-append (rows mark answer found codes k) (entries mark answer found (getD found k 0) codes)
-      ∙ rw (rows-length codes k, entries-length (getD found k 0) codes, mul-suc)
-
   module _ (codes : ℕ) (table₀ table : List ℕ) (k : ℕ) (begun : table ≡ rows mark answer found codes k ++ drop (codes * k) table₀) where
+    size : length (rows mark answer found codes k) ≡ codes * k
+    size = rows-length mark answer found codes k
+
     pub rows-keep : codes * k ≤ length table₀ → length table ≡ length table₀
-    rows-keep h = ap length begun ∙ front-length (rows mark answer found codes k) table₀ (codes * k) (rows-length codes k) h
+    rows-keep h = ap length begun ∙ front-length (rows mark answer found codes k) table₀ (codes * k) size h
 
     -- the next row is lent, and comes back filled
     pub rows-next : (e : ℕ) (q : List ℕ) → getD found k 0 ≡ e → q ≡ entries mark answer found e codes
@@ -68,7 +57,7 @@ module _ (mark : ℕ) (answer : ℕ → ℕ → Answer ℕ) (found : List ℕ) w
     unfolding rows
     rows-next e q at is =
         rw (begun, is, add-one k, at, mul-suc codes k, add-sub-cancel-left (codes * k) codes)
-        (put-next (rows mark answer found codes k) table₀ (codes * k) (rows-length codes k) codes (entries mark answer found e codes))
+        (put-next (rows mark answer found codes k) table₀ (codes * k) size codes (entries mark answer found e codes))
 
     pub rows-all : length found ≡ k → table ≡ filled mark answer found codes table₀
     unfolding filled
