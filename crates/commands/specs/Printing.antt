@@ -1,4 +1,5 @@
--- What `equations` prints. No contract can say which bytes are written; these definitions do.
+-- The text that is due to an answer, and the text of the lines for which the loop of `equations` asks. That they are written, no contract
+-- can say.
 use Prim.Native.Nat.{ℕ}
 use mathlib.Core.List.{List, map}
 use lib.ListN.{length}
@@ -16,7 +17,7 @@ abbrev pub textFor : Outcome Synthesis → (table : List ℕ) → List ℕ
 textFor (accepted y) table = listing (map extentOf (y .rule .patterns)) (length (y .equations)) table
 textFor (refused number place) table = refusalLine number place
 
--- the text of the lines that `print_answer` prints, where every line is written
+-- the text of the lines that `print_answer` asks for, one after the other
 abbrev pub printed : Counted → NumberedRule → (table : List ℕ) → List ℕ
 printed (Equations count) rule table = linesFrom rule table count 32802 0
 printed (Refused number place) rule table = refusalLine number place

@@ -9,7 +9,7 @@ use Rattle.reading.specs.Numbered.{readingOf}
 use Rattle.synthesis.specs.Building.{buildingOf, countedOf, tableAfter}
 use Rattle.commands.specs.Printing.{textFor, printed}
 
--- 1. From what building and reading leave, `equations` prints the text that is due: its lines are enough.
+-- 1. From what building and reading leave, the lines that `equations` asks for are the text that is due: none is missing.
 abbrev pub PrintsAnswer : Type 0
 PrintsAnswer =
     (s table : List ℕ) → Bytes s →
