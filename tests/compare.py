@@ -21,13 +21,23 @@ def expect(is_right, *where):
         raise Disagreement(*where)
 
 
+def ends_of_classes(equations):
+    """The lowest and the highest code of each class: of all codes that the same patterns cover."""
+    classes = {}
+    for code, patterns in enumerate(equations.covering):
+        classes.setdefault(patterns, []).append(code)
+    return [(codes[0], codes[-1]) for codes in classes.values()]
+
+
 def lists_of_codes(random, equations):
-    """Every short list over a few codes that the rule's patterns tell apart, and longer ones."""
-    telling = list(dict(zip(equations.covering, range(256))).values())
-    few = random.sample(telling, min(len(telling), 4))
+    """Every short list over a few codes, each of a class of its own, and longer lists over both ends of some
+    classes and any one code."""
+    classes = ends_of_classes(equations)
+    few = [random.choice(ends) for ends in random.sample(classes, min(len(classes), 4))]
     lists = [list(codes) for length in range(4) for codes in product(few, repeat=length)]
     for _ in range(12):
-        some = random.sample(telling, min(len(telling), 3)) + [random.randrange(256)]
+        some = [code for ends in random.sample(classes, min(len(classes), 3)) for code in ends]
+        some.append(random.randrange(256))
         lists.append([random.choice(some) for _ in range(random.randrange(4, 13))])
     return lists
 

@@ -129,9 +129,8 @@ def row_lines(number, entries):
         first = last + 1
 
 
-def listing(data):
-    """What the program `equations` prints of a rule file."""
-    built = rows(data)
+def text_of(data, built):
+    """What is printed of a rule file, given its rows or a refusal: the listing, or the line of the refusal alone."""
     if isinstance(built, Refusal):
         return said(built) + "\n"
     patterns = read_rule(data).patterns
@@ -141,3 +140,8 @@ def listing(data):
     for number, entries in enumerate(built):
         lines += row_lines(number, entries)
     return "".join(line + "\n" for line in lines)
+
+
+def listing(data):
+    """What the program `equations` prints of a rule file."""
+    return text_of(data, rows(data))

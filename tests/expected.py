@@ -25,4 +25,4 @@ def settle(crate, stdin, lines, checks):
         if not checks:
             path.write_bytes(content)
         elif not path.is_file() or path.read_bytes() != content:
-            sys.exit(f"crates/{crate}/{name} is not what tests/write_{crate}.py writes")
+            sys.exit(f"crates/{crate}/{name} is out of date")

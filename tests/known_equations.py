@@ -8,8 +8,23 @@ OVERLAPPING = "1 3 0 9 1 6 5 31 "
 # Document 000's example 10: "after 5, after 6, ff" and "after 5, after 7, ff", with one branch for 5.
 BRANCHES = ONE + SIX + SEVEN + "4 5 0 5 1 3 5 0 5 2 3"
 
+
+def counted_lines(m):
+    """The listing of counted(m), m over 0. Bit i of an equation's number says whether the code i before the last was 5:
+    so code 5 leads from equation k to 2 × k + 1 and any other to 2 × k, modulo 2^m."""
+    lines = ["patterns 2", "p 0 0 256", "p 1 5 1", f"equations {2**m}"]
+    for k in range(2**m):
+        other, five = 2 * k % 2**m, (2 * k + 1) % 2**m
+        lines += [f"{k} 0 4 {other}", f"{k} 5 5 {five}", f"{k} 6 255 {other}"]
+    return lines
+
+
+# A file that its second byte settles, longer than the 4,096 bytes that the program `equations` reads.
+LONG = "2 " + "0 " * 5000
+
 # What the program `equations` prints, line by line.
-LISTINGS = [
+LISTINGS = [(counted(m), counted_lines(m)) for m in (1, 2, 7)]
+LISTINGS += [
     (
         POOL,
         ["patterns 3", "p 0 37 1", "p 1 5 1", "p 2 128 32", "equations 3"]
@@ -87,6 +102,7 @@ LISTINGS = [
     ("", ["refused 1 at 0"]),
     ("0", ["refused 2 at 0"]),
     ("2 2", ["refused 3 at 1"]),
+    (LONG, ["refused 3 at 1"]),
     (ANY + "5 0 " * 64 + "2", ["refused 4 at 132"]),
     ("1 1 6 5 2", ["refused 5 at 0"]),
     ("5 0 2", ["refused 6 at 0"]),
@@ -104,6 +120,10 @@ LISTINGS = [
     # both 8 and 9 apply: 8 comes first
     (ANY + ONE + "4 3 6 4 5 0 7 0 5 1 " + "5 0 " * 8 + "2", ["refused 8 at 0"]),
 ]
+
+
+# The program `equations` and the others of the same call, with what each reads.
+PROGRAMS = [("equations", POOL), ("equations_long", counted(7)), ("equations_refused", LONG), ("equations_empty", "")]
 
 
 def late(n):
@@ -160,6 +180,12 @@ VIOLATIONS = [
 def listings():
     """Each file with the whole text of its listing."""
     return [(bytes_of(text), "".join(line + "\n" for line in lines)) for text, lines in LISTINGS]
+
+
+def programs():
+    """Each program with its input and what it must print, which is one of the listings."""
+    texts = dict(listings())
+    return [(program, bytes_of(text), texts[bytes_of(text)]) for program, text in PROGRAMS]
 
 
 def buildings():

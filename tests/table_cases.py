@@ -17,7 +17,8 @@ MOST_BYTES = 1024
 
 def typed_files():
     typed = known_equations.listings() + known_equations.buildings() + known.answers()
-    return [file for file, *answer in typed + known_equations.verdicts() + known_equations.violations()]
+    every = [file for file, *answer in typed + known_equations.verdicts() + known_equations.violations()]
+    return [file for file in every if len(file) <= MOST_BYTES]
 
 
 def rule_files(random):
@@ -37,6 +38,6 @@ def files():
 
 def with_sizes(every):
     """Each file with the least table, and some with tables of other sizes."""
-    listed = [file for file, text in known_equations.listings()]
+    listed = [file for file, text in known_equations.listings() if len(file) <= MOST_BYTES]
     resized = [(size, file) for file in listed + every[::90] for size in SIZES]
     return [(LEAST_TABLE, file) for file in every] + resized

@@ -1,12 +1,14 @@
-"""Writes what the test program `tables` reads and what it must answer, from the Python equations alone.
+"""Writes what the test program `tables` reads and what it must answer, from the Python equations alone; and the same
+of `equations` and the other programs of its call, from the listings that were typed.
 
-Each case on its standard input is a table's size and a file's length, each as three bytes, highest first, and then
-the rule file. Each case has one line on its standard output. With --check nothing is written, and the two files are
-compared with what would be.
+Each case on the standard input of `tables` is a table's size and a file's length, each as three bytes, highest first,
+and then the rule file. Each case has one line on its standard output. With --check nothing is written, and the files
+are compared with what would be.
 """
+import known_equations
 import table_cases
 from compare import check
-from equations import CODES, build, row, rows, said
+from equations import CODES, build, row, rows, said, text_of
 from expected import is_check, settle, three_bytes
 from rules import Refusal
 
@@ -27,16 +29,21 @@ def digest(content):
     return int.from_bytes(content, "big") % PRIME
 
 
+def summary(content):
+    """The length of the bytes, without which zeros before the others wouldn't be seen, and their digest."""
+    return f"{len(content)} {digest(content)}"
+
+
 def line_of(case, size, data):
     table = fresh_table(size, case)
     count, built = rows(data), build(data, table)
     equations = 0 if isinstance(built, Refusal) else len(built)
     handed = b"".join(row(table, number) for number in range(equations))
-    words = [said(count), said(built), f"table {digest(table)} rows {digest(handed)}"]
+    words = [said(count), said(built), f"table {digest(table)} rows {summary(handed)}"]
     words.append(f"behind {digest(table[CODES * equations :])}")
     for number in [equations] + ROWS:
-        part = row(table, number)
-        words.append(f"r {len(part)} {digest(part)}")
+        words.append(f"r {summary(row(table, number))}")
+    words.append(f"listing {summary(text_of(data, built).encode())}")
     return " ".join(words)
 
 
@@ -48,6 +55,8 @@ def main():
     lines = [line_of(case, size, data) for case, (size, data) in enumerate(cases)]
     stdin = b"".join(three_bytes(size) + three_bytes(len(data)) + data for size, data in cases)
     settle("tables", stdin, lines, checks)
+    for program, data, text in known_equations.programs():
+        settle(program, data, text.splitlines(), checks)
     print(f"{rules} rules compared on {lists} lists of codes, {len(cases)} cases")
 
 

@@ -1,4 +1,4 @@
-// The program `equations` on a rule that is refused.
+// The program `equations` on a long file that is refused.
 fn main() {
     commands::equations();
 }

@@ -1,14 +1,27 @@
-// Reads rule files from standard input, builds the table of each, and prints a line for each with what is said of it and left in it.
+// Reads rule files from standard input, builds the table of each, and prints a line for each with what is said of it, left in it and
+// listed of it.
 // A case is a table's size and a file's length, each as three bytes, highest first, and then the rule file. The input ends after the last.
 use libc::STDIN_FILENO;
 use libc::STDOUT_FILENO;
+use listing::Line;
+use reading::NumberedRule;
 use synthesis::Counted;
-ghost use Prim.Native.Nat.{_<_};
+ghost use Prim.Native.Nat.{_≤_, _<_};
+ghost use Rattle.listing.specs.Positions.{Within};
 
 const PRIME: u64 = 1000000007;
 
 // 2^56: 256 times this is 2^64.
 const WRAPPING: usize = 72057594037927936;
+
+// A listing of 128 equations has no more lines than this.
+const LINES: usize = 32802;
+
+// A text of several parts: how long they are together, and the digest of them all.
+struct Summary {
+    len: usize,
+    digest: u64,
+}
 
 // What the head of a case says: a number, or that there is no case left.
 enum Head {
@@ -76,15 +89,18 @@ fn written(answer: Counted) -> usize {
     }
 }
 
-// The digest of the first n rows, as they are handed back.
-fn rows_digest(table: &[u8], n: usize) -> u64 {
+// The first n rows, as they are handed back.
+fn rows_summary(table: &[u8], n: usize) -> Summary {
+    let mut len = 0;
     let mut sum = 0;
     let mut k = 0;
     while k < n {
-        sum = digest(sum, synthesis::row(table, k));
+        let row = synthesis::row(table, k);
+        len += row.len();
+        sum = digest(sum, row);
         k += 1;
     }
-    sum
+    Summary { len, digest: sum }
 }
 
 // The digest of what stands behind the first n rows.
@@ -94,6 +110,69 @@ fn behind_digest(table: &[u8], n: usize) -> u64 {
     }
     let from = n * 256;
     digest(0, &table[from..])
+}
+
+// How long the text of a line is: an array of 64 has no longer one.
+fn line_len(line: Line) -> usize
+    ensures { λ r. ⌜ r ≤ 64 ⌝ }
+{
+    if line.len < 64 { line.len } else { 64 }
+}
+
+// The digest that the digits of `high` and then the text of a line make.
+fn line_digest(high: u64, line: Line) -> u64
+    requires { ⌜ high < 1000000007 ⌝ }
+    requires { ⌜ Within line ⌝ }
+    ensures { λ r. ⌜ r < 1000000007 ⌝ }
+{
+    let bytes = line.bytes;
+    let n = line.len;
+    digest(high, &bytes[..n])
+}
+
+// The listing of a rule and its table.
+fn listing_summary(rule: NumberedRule, table: &[u8], count: usize) -> Summary {
+    let mut len = 0;
+    let mut sum = 0;
+    let mut at = 0;
+    let mut left = LINES;
+    while 0 < left {
+        let this = listing::listing_line(rule, table, count, at);
+        let line = this.line;
+        if line.len == 0 {
+            return Summary { len, digest: sum };
+        }
+        len += line_len(line);
+        sum = line_digest(sum, line);
+        at = this.next;
+        left -= 1;
+    }
+    Summary { len, digest: sum }
+}
+
+// The line of a refusal.
+fn refusal_summary(number: u8, place: usize) -> Summary {
+    let line = listing::refusal_line(number, place);
+    Summary {
+        len: line.len,
+        digest: line_digest(0, line),
+    }
+}
+
+// What the program `equations` prints of a file on which building gives this answer and leaves this table.
+fn text_summary(answer: Counted, file: &[u8], table: &[u8]) -> Summary {
+    match answer {
+        Counted::Equations(count) => {
+            let reading = reading::read_rule(file);
+            listing_summary(reading.rule, table, count)
+        }
+        Counted::Refused(number, place) => refusal_summary(number, place),
+    }
+}
+
+fn print_summary(summary: Summary) {
+    print_field(summary.len as u64);
+    print_field(summary.digest);
 }
 
 fn print_row(table: &[u8], k: usize) {
@@ -107,7 +186,7 @@ fn print_table(table: &[u8], n: usize) {
     io::write_all(STDOUT_FILENO, b" table");
     print_field(digest(0, table));
     io::write_all(STDOUT_FILENO, b" rows");
-    print_field(rows_digest(table, n));
+    print_summary(rows_summary(table, n));
     io::write_all(STDOUT_FILENO, b" behind");
     print_field(behind_digest(table, n));
     print_row(table, n);
@@ -125,6 +204,8 @@ fn answer_rule(rule: &[u8], table: &mut [u8]) {
     let built = synthesis::build(rule, table);
     print_counted(built);
     print_table(table, written(built));
+    io::write_all(STDOUT_FILENO, b" listing");
+    print_summary(text_summary(built, rule, table));
     io::write_all(STDOUT_FILENO, b"\n");
 }
 
