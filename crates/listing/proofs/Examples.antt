@@ -1,6 +1,6 @@
 -- The paper's listing of the number-pool rule and its refusal, and some numbers.
 use mathlib.Core.Path.{_≡_, refl}
-use mathlib.Core.List.{List, [], _∷_, _++_, map}
+use mathlib.Core.List.{List, _++_, map}
 use Prim.Native.Nat.{ℕ, _≤_}
 use lib.ListN.{length}
 use Rattle.reading.specs.Pattern.{bit, covers, least, howMany, extentOf}

@@ -11,7 +11,7 @@ use Rattle.reading.specs.File.{patternsAt, formulaAt, formulaOf, ruleOf}
 use Rattle.reading.specs.declared.Pattern.{Pattern}
 
 -- a pattern, shorter to write
-abbrev pattern : (mask first last : ℕ) → Pattern
+abbrev pub pattern : (mask first last : ℕ) → Pattern
 pattern mask first last = record { mask = mask; first = first; last = last }
 
 pub small-files :

@@ -3,14 +3,12 @@
 use Prim.Native.Nat.{ℕ, _*_, _≤_, _<_}
 use mathlib.Core.Path.{_≡_, _∙_, ap, subst}
 use mathlib.Core.Bool.{false}
-use mathlib.Core.List.{List, []}
+use mathlib.Core.List.{List}
 use native.Mathlib.Omega.{arith}
 use lib.ListN.{length, getD}
-use Rattle.reading.specs.Formula.{WellFormed}
 use Rattle.reading.specs.Rule.{Rule, Bytes}
 use Rattle.reading.specs.Outcome.{accepted}
 use Rattle.reading.specs.File.{ruleOf}
-use Rattle.reading.proofs.Accepted.{reading-accepts}
 use Rattle.synthesis.specs.Monitor.{kept, verdicts, ended, Monitors}
 use Rattle.synthesis.specs.Answering.{firstOf, answerOf, hopeless}
 use Rattle.synthesis.specs.Search.{place}

@@ -10,7 +10,7 @@ use Rattle.reading.specs.Formula.{truth, falsity, both, necessity, max, variabl
 use Rattle.reading.specs.Rule.{Rule}
 use Rattle.reading.specs.Outcome.{accepted}
 use Rattle.reading.specs.File.{patternsAt, formulaAt, formulaOf, ruleOf}
-use Rattle.reading.specs.declared.Pattern.{Pattern}
+use Rattle.reading.proofs.Examples.{pattern}
 use Rattle.synthesis.specs.Monitor.{dropped, next, verdicts}
 use Rattle.synthesis.specs.Answering.{firstOf, answerOf, hopeless}
 use Rattle.synthesis.specs.Search.{noted, found}
@@ -40,9 +40,6 @@ module _ (s : List ℕ) (r : Rule) (l : List ℕ) (read : ruleOf s ≡ accepted 
 
 abbrev always : Rule
 always = record { patterns = []; formula = truth }
-
-abbrev pub pattern : (mask first last : ℕ) → Pattern
-pattern mask first last = record { mask = mask; first = first; last = last }
 
 abbrev pub pool : Rule
 pool = record {

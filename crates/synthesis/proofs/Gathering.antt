@@ -30,8 +30,8 @@ gathered-has xs live m = (there xs live, λ g. back xs live (g .0) (g .1) (g .2)
     there [] live h = absurd (has-none m h)
     there (x ∷ xs) live h =
         union-cases (cond (has live 0) x none) (gathered xs (live / 2)) m
-        (λ a. let r = cond-has (has live 0) x m a in (0, has-true live 0 (r .0), r .1))
-        (λ a. let r = there xs (live / 2) a in (suc (r .0), half-has live (r .0) .0 (r .1), r .2)) h
+        (λ a. let (test, k) = cond-has (has live 0) x m a in (0, has-true live 0 test, k))
+        (λ a. let (n, l, k) = there xs (live / 2) a in (suc n, half-has live n .0 l, k)) h
 
     back : (xs : List ℕ) (live n : ℕ) → Has live n → Has (getD xs n 0) m → Has (gathered xs live) m
     back [] live n h k = k
@@ -56,14 +56,13 @@ gather-step xs all rest i h = has-ext _ _ (λ m. (there m, back m))
     kept n k (yes q) = rw (← q) h
     kept n k (no q) = toggled-other rest i n q .0 k
 
+    inside : (m n : ℕ) → Has rest n → Has (getD xs n 0) m → Has (union all (gathered xs rest)) m
+    inside m n r a = in-second all (gathered xs rest) m (gathered-has xs rest m .1 (n, r, a))
+
     there : (m : ℕ) → Has (union (union all one) others) m → Has (union all (gathered xs rest)) m
     there m =
-        union-cases (union all one) others m
-        (union-cases all one m (in-first all (gathered xs rest) m)
-        (λ a. in-second all (gathered xs rest) m (gathered-has xs rest m .1 (i, h, a))))
-        (λ a.
-        let g = gathered-has xs (toggled rest i) m .0 a in
-        in-second all (gathered xs rest) m (gathered-has xs rest m .1 (g .0, kept (g .0) (g .1) (ℕ-discrete i (g .0)), g .2)))
+        union-cases (union all one) others m (union-cases all one m (in-first all (gathered xs rest) m) (inside m i h))
+        (λ a. let (n, k, x) = gathered-has xs (toggled rest i) m .0 a in inside m n (kept n k (ℕ-discrete i n)) x)
 
     member : (m n : ℕ) → Has rest n → Has (getD xs n 0) m → Dec (i ≡ n) → Has (union (union all one) others) m
     member m n r a (yes q) = in-first (union all one) others m (in-second all one m (rw q a))
@@ -72,13 +71,13 @@ gather-step xs all rest i h = has-ext _ _ (λ m. (there m, back m))
     back : (m : ℕ) → Has (union all (gathered xs rest)) m → Has (union (union all one) others) m
     back m =
         union-cases all (gathered xs rest) m (λ a. in-first (union all one) others m (in-first all one m a))
-        (λ a. let g = gathered-has xs rest m .0 a in member m (g .0) (g .1) (g .2) (ℕ-discrete i (g .0)))
+        (λ a. let (n, r, x) = gathered-has xs rest m .0 a in member m n r x (ℕ-discrete i n))
 
 pub gather-none : (xs : List ℕ) (all : ℕ) → union all (gathered xs none) ≡ all
 gather-none xs all = rw nothing (or-zero-r all)
   where
     nothing : gathered xs none ≡ none
-    nothing = none-of (gathered xs none) (λ m a. let g = gathered-has xs none m .0 a in has-none (g .0) (g .1))
+    nothing = none-of (gathered xs none) (λ m a. let (n, h, x) = gathered-has xs none m .0 a in has-none n h)
 
 -- ---- the lowest member
 

@@ -48,12 +48,14 @@ module _ {r : Rule} {kinds args : List ℕ} (ir : IsRule r kinds args) where
           let y = falsities-has (r .formula) j .0 x in
           h .is j .1 (omega (arith, node-below (y .1), q), kind-at ir (y .1))
 
--- What the arrays of a graph answer is what the rule's equations answer.
+-- ---- the answer of the equation e to the code c
+
 module _ {r : Rule} (g : Graph) (is : IsGraph r g) (e c : ℕ) (code : c < 256) where
   -- the members that wait for the code
   abbrev live : ℕ
   live = common e (getD (g .waiting) c 0)
 
+  -- what the members lead to
   abbrev led : ℕ
   led = reached (coveredBy (r .patterns)) e c 0 [] (r .formula)
 
@@ -62,8 +64,8 @@ module _ {r : Rule} (g : Graph) (is : IsGraph r g) (e c : ℕ) (code : c < 256) 
     where
       there : Has (gathered (g .after) live) m → Has led m
       there h =
-          let (n, both, opened) = gathered-has (g .after) live m .0 h in
-          let (member, waits) = has-common e (getD (g .waiting) c 0) n .0 both in
+          let (n, shared, opened) = gathered-has (g .after) live m .0 h in
+          let (member, waits) = has-common e (getD (g .waiting) c 0) n .0 shared in
           let (p, ms, f, node, covers) = is .waiting-is .is c n code .0 waits in
           reached-has (coveredBy (r .patterns)) (r .formula) e c m .1
           (n, p, ms, f, node, member, covers, subst (λ s. Has s m) (is .after-is .is n p ms f node) opened)
@@ -77,6 +79,7 @@ module _ {r : Rule} (g : Graph) (is : IsGraph r g) (e c : ℕ) (code : c < 256) 
             subst (λ s. Has s m) (sym (is .after-is .is n p ms f node)) opened,
           )
 
+  -- What the arrays of a graph answer is what the rule's equations answer.
   pub graph-answers : answerBy (g .after) (g .waiting) (g .falsities) e c ≡ answerOf r e c
   unfolding answerBy answerOf
   graph-answers = rw (is .falsities-are) (ap (judged (falsities 0 (r .formula))) (has-ext _ _ gathers-led))

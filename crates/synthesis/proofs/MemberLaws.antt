@@ -1,7 +1,7 @@
 -- Members of sets, by cases.
 use Prim.Native.Nat.{ℕ}
 use mathlib.Core.Path.{_≡_, refl}
-use mathlib.Core.Logic.{_↔_, _⊎_, inl, inr}
+use mathlib.Core.Logic.{_↔_, _⊎_, inl, inr, ⊎-elim}
 use mathlib.Core.Bool.{Bool, true, false, cond}
 use native.Mathlib.Omega.{arith}
 use lib.Dec.{eqb}
@@ -25,18 +25,11 @@ module _ (a b n : ℕ) where
   in-second h = has-union a b n .1 (inr h)
 
   pub union-cases : {A : Type 0} → (Has a n → A) → (Has b n → A) → Has (union a b) n → A
-  union-cases {A} p q h = on (has-union a b n .0 h)
-    where
-      on : Has a n ⊎ Has b n → A
-      on (inl x) = p x
-      on (inr x) = q x
+  union-cases p q h = ⊎-elim p q (has-union a b n .0 h)
 
   pub union-iff : {A B : Type 0} → Has a n ↔ A → Has b n ↔ B → Has (union a b) n ↔ (A ⊎ B)
-  union-iff {A} {B} p q = (union-cases (λ x. inl (p .0 x)) (λ x. inr (q .0 x)), from)
-    where
-      from : A ⊎ B → Has (union a b) n
-      from (inl x) = in-first (p .1 x)
-      from (inr x) = in-second (q .1 x)
+  union-iff p q =
+      (union-cases (λ x. inl (p .0 x)) (λ x. inr (q .0 x)), ⊎-elim (λ x. in-first (p .1 x)) (λ x. in-second (q .1 x)))
 
 -- two sets with nothing in common, and two others
 pub none-common : (a b : ℕ) → eqb (common a b) none ≡ true → (n : ℕ) → Has a n → Has b n → ⊥

@@ -1,9 +1,11 @@
 -- Opening a node by the arrays of its rule: a row for each kind.
 use Prim.Native.Nat.{ℕ, _+_, _*_, _%_, _^_, _<_}
 use mathlib.Core.Path.{_≡_, refl, ap}
+use mathlib.Core.Bool.{Bool, true, _&&_, false≢true}
 use mathlib.Core.List.{List, _∷_}
 use native.Mathlib.Numerals.{add-one}
 use native.Mathlib.Omega.{arith}
+use lib.Dec.{ltb}
 use lib.Bits.{bitOr}
 use lib.ListN.{length, getD}
 use Rattle.reading.specs.Formula.{Formula, truth, falsity, both, necessity, max, variable}
@@ -18,6 +20,10 @@ use Rattle.synthesis.proofs.NodeSetLaws.{shl-one}
 use Rattle.synthesis.proofs.NodeArrays.{node-below, kinds-long, args-long, kind-at, argument-at, in-64, resolved}
 
 -- ---- where the parts of a node stand
+
+-- the kinds that have a part right after them: "both", necessity and max
+abbrev pub goesOn : ℕ → Bool
+goesOn kd = ltb 3 kd && ltb kd 7
 
 module _ {kinds args : List ℕ} {k : ℕ} (some : SomeNode kinds args k) where
   node : Numbers (some .rule .formula) k
@@ -35,18 +41,17 @@ module _ {kinds args : List ℕ} {k : ℕ} (some : SomeNode kinds args k) where
   part : {j : ℕ} {ms : List EnclosingMax} {f : Formula} → Node (some .rule .formula) j ms f → SomeNode kinds args j
   part n = record { rule = some .rule; is-rule = some .is-rule; below = node-below n }
 
-  -- a "both", a necessity and a max have a part right after them
-  pub some-next : {kd : ℕ} → getD kinds k 0 ≡ kd → 3 < kd → kd < 7 → SomeNode kinds args (k + 1)
-  some-next q l h = on (resolved (some .is-rule) (node .2) q) l h
+  pub some-next : {kd : ℕ} → getD kinds k 0 ≡ kd → goesOn kd ≡ true → SomeNode kinds args (k + 1)
+  some-next q t = on (resolved (some .is-rule) (node .2) q) t
     where
-      on : {ms : List EnclosingMax} {f : Formula} {kd x : ℕ} → Resolves (some .rule .formula) k ms kd x f → 3 < kd → kd < 7
+      on : {ms : List EnclosingMax} {f : Formula} {kd x : ℕ} → Resolves (some .rule .formula) k ms kd x f → goesOn kd ≡ true
           → SomeNode kinds args (k + 1)
-      on is-truth l h = absurd (omega arith)
-      on is-falsity l h = absurd (omega arith)
-      on (is-both a b) l h = rw (add-one k) (part a)
-      on (is-necessity a) l h = rw (add-one k) (part a)
-      on (is-max a) l h = rw (add-one k) (part a)
-      on (is-variable e a b) l h = absurd (omega arith)
+      on is-truth t = absurd (false≢true t)
+      on is-falsity t = absurd (false≢true t)
+      on (is-both a b) t = rw (add-one k) (part a)
+      on (is-necessity a) t = rw (add-one k) (part a)
+      on (is-max a) t = rw (add-one k) (part a)
+      on (is-variable e a b) t = absurd (false≢true t)
 
   pub some-second : getD kinds k 0 ≡ 4 → SomeNode kinds args (getD args k 0) × (k < getD args k 0)
   some-second q = on (node .2) (resolved (some .is-rule) (node .2) q)

@@ -25,13 +25,14 @@ place-is e (x ∷ l) h = on (eqb e x) refl h (place-is e l)
     on true q h ih = sym (eqb-true e x q)
     on false q h ih = ih (omega arith)
 
+-- here, or one further on
+step-le : (b : Bool) (m n : ℕ) → m ≤ n → cond b 0 (suc m) ≤ suc n
+step-le true m n h = omega arith
+step-le false m n h = omega arith
+
 pub place-le : (e : ℕ) (l : List ℕ) → place e l ≤ length l
 place-le e [] = omega arith
-place-le e (x ∷ l) = on (eqb e x) (place-le e l)
-  where
-    on : (b : Bool) → place e l ≤ length l → cond b 0 (suc (place e l)) ≤ suc (length l)
-    on true h = omega arith
-    on false h = omega arith
+place-le e (x ∷ l) = step-le (eqb e x) (place e l) (length l) (place-le e l)
 
 -- the place of what isn't there
 pub place-missing : (e : ℕ) (l : List ℕ) → (Member e l → ⊥) → place e l ≡ length l
@@ -41,11 +42,7 @@ place-missing e l h = omega (arith, h, place-le e l)
 pub place-first : (e : ℕ) (l : List ℕ) (i : ℕ) → i < length l → getD l i 0 ≡ e → place e l ≤ i
 place-first e [] i h p = absurd (omega arith)
 place-first e (x ∷ l) zero h p = rw (eq-eqb e x (sym p)) (omega arith)
-place-first e (x ∷ l) (suc i) h p = on (eqb e x) (place-first e l i (omega arith) p)
-  where
-    on : (b : Bool) → place e l ≤ i → cond b 0 (suc (place e l)) ≤ suc i
-    on true h = omega arith
-    on false h = omega arith
+place-first e (x ∷ l) (suc i) h p = step-le (eqb e x) (place e l) i (place-first e l i (omega arith) p)
 
 -- what stands in a list is a member
 pub member-at : (e : ℕ) (l : List ℕ) (i : ℕ) → i < length l → getD l i 0 ≡ e → Member e l

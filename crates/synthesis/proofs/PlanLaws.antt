@@ -88,7 +88,7 @@ module _ {s : List ℕ} {n : NumberedRule} (d : Read s n) (g : Graph) (is : (r :
   graph : IsGraph (d .rule) g
   graph = is (d .rule) (d .numbers)
 
-  -- ---- 8
+  -- ---- refusal 8
 
   tested : hopeless (d .rule) ≡ not (eqb (common (g .first) (g .falsities)) none)
   unfolding hopeless
@@ -102,7 +102,7 @@ module _ {s : List ℕ} {n : NumberedRule} (d : Read s n) (g : Graph) (is : (r :
   hopeful : bitAnd (g .first) (g .falsities) ≡ 0 → hopeless (d .rule) ≡ false
   hopeful h = rw (tested, eq-eqb (common (g .first) (g .falsities)) none h)
 
-  -- ---- 9
+  -- ---- refusal 9
 
   module _ (calm : bitAnd (g .first) (g .falsities) ≡ 0) (list : List ℕ) (count : ℕ)
       (holds : Holds 128 list count (found 256 (answerBy (g .after) (g .waiting) (g .falsities)) 128 (g .first))) where

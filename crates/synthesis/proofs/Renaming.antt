@@ -2,7 +2,7 @@
 use Prim.Native.Nat.{ℕ, _<_}
 use mathlib.Core.Path.{_≡_, refl, ap}
 use mathlib.Core.Logic.{_↔_}
-use mathlib.Core.List.{List, _∷_}
+use mathlib.Core.List.{List, [], _∷_}
 use Rattle.reading.specs.Rule.{Rule, All}
 use Rattle.synthesis.specs.Monitor.{Answer, dropped, next, kept, verdicts, ended, Loses, now, later, Monitors}
 use Rattle.synthesis.proofs.Runs.{run-induction}
@@ -17,15 +17,22 @@ pub record Renames {E F : Type 0} (codes : ℕ) (Ok : E → Type 0) (answer : E 
 
 module _ {E F : Type 0} (codes : ℕ) (Ok : E → Type 0) (answer : E → ℕ → Answer E) (answer′ : F → ℕ → Answer F) (f : E → F)
     (renames : Renames codes Ok answer answer′ f) where
+  -- What holds of every run of equations that are renamed, from the answers of both monitors to each code.
+  renamed-induction : (P : E → List ℕ → Type 0) → ((e : E) → P e [])
+      → ((e : E) (c : ℕ) (w : List ℕ) → answer e c ≡ dropped → answer′ (f e) c ≡ dropped → P e w → P e (c ∷ w))
+      → ((e e′ : E) (c : ℕ) (w : List ℕ) → answer e c ≡ next e′ → answer′ (f e) c ≡ next (f e′) → P e′ w → P e (c ∷ w))
+      → (e : E) (w : List ℕ) → Ok e → All (λ c. c < codes) w → P e w
+  renamed-induction P none dropping keeping =
+      run-induction answer (λ e w. Ok e → All (λ c. c < codes) w → P e w) (λ e ok all. none e)
+      (λ e c w q h ok all. dropping e c w q (renames .drops e c ok (all .0) q) (h ok (all .1)))
+      (λ e e′ c w q h ok all. keeping e e′ c w q (renames .follows e e′ c ok (all .0) q) (h (renames .stays e e′ c ok (all .0) q) (all .1)))
+
   pub renamed-loses : (e : E) (w : List ℕ) → Ok e → All (λ c. c < codes) w → Loses answer e w ↔ Loses answer′ (f e) w
   renamed-loses =
-      run-induction answer (λ e w. Ok e → All (λ c. c < codes) w → Loses answer e w ↔ Loses answer′ (f e) w)
-      (λ e ok all. (λ l. absurd (loses-nothing answer l), λ l. absurd (loses-nothing answer′ l)))
-      (λ e c w q h ok all. (λ l. now (renames .drops e c ok (all .0) q), λ l. now q))
-      (λ e e′ c w q h ok all.
-      let q′ = renames .follows e e′ c ok (all .0) q in
-      let rest = h (renames .stays e e′ c ok (all .0) q) (all .1) in
-      (λ l. later q′ (rest .0 (loses-rest answer q l)), λ l. later q (rest .1 (loses-rest answer′ q′ l))))
+      renamed-induction (λ e w. Loses answer e w ↔ Loses answer′ (f e) w)
+      (λ e. (λ l. absurd (loses-nothing answer l), λ l. absurd (loses-nothing answer′ l)))
+      (λ e c w q q′ h. (λ l. now q′, λ l. now q))
+      (λ e e′ c w q q′ h. (λ l. later q′ (h .0 (loses-rest answer q l)), λ l. later q (h .1 (loses-rest answer′ q′ l))))
 
   pub record Alike (e : E) (w : List ℕ) : Type 0 where
     pub keeps : kept answer′ (f e) w ≡ kept answer e w
@@ -34,23 +41,16 @@ module _ {E F : Type 0} (codes : ℕ) (Ok : E → Type 0) (answer : E → ℕ �
 
   pub renamed-runs : (e : E) (w : List ℕ) → Ok e → All (λ c. c < codes) w → Alike e w
   renamed-runs =
-      run-induction answer (λ e w. Ok e → All (λ c. c < codes) w → Alike e w)
-      (λ e ok all. record { keeps = refl; judges = refl; ends = refl })
-      (λ e c w q h ok all.
-      let q′ = renames .drops e c ok (all .0) q in
-      let rest = h ok (all .1) in
-      record {
-        keeps = rw (q, q′) (rest .keeps);
-        judges = rw (q, q′) (ap (λ (l : List ℕ). 1 ∷ l) (rest .judges));
-        ends = rw (q, q′) (rest .ends);
+      renamed-induction Alike (λ e. record { keeps = refl; judges = refl; ends = refl })
+      (λ e c w q q′ h. record {
+        keeps = rw (q, q′) (h .keeps);
+        judges = rw (q, q′) (ap (λ (l : List ℕ). 1 ∷ l) (h .judges));
+        ends = rw (q, q′) (h .ends);
       })
-      (λ e e′ c w q h ok all.
-      let q′ = renames .follows e e′ c ok (all .0) q in
-      let rest = h (renames .stays e e′ c ok (all .0) q) (all .1) in
-      record {
-        keeps = rw (q, q′) (ap (λ (l : List ℕ). c ∷ l) (rest .keeps));
-        judges = rw (q, q′) (ap (λ (l : List ℕ). 0 ∷ l) (rest .judges));
-        ends = rw (q, q′) (rest .ends);
+      (λ e e′ c w q q′ h. record {
+        keeps = rw (q, q′) (ap (λ (l : List ℕ). c ∷ l) (h .keeps));
+        judges = rw (q, q′) (ap (λ (l : List ℕ). 0 ∷ l) (h .judges));
+        ends = rw (q, q′) (h .ends);
       })
 
 -- a monitor of a rule is one under new names too

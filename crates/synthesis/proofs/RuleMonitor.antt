@@ -1,7 +1,7 @@
 -- The equations of a rule monitor it, unless opening node 0 gives ff: then the empty list violates the rule.
 use Prim.Native.Nat.{ℕ}
 use mathlib.Core.Path.{_≡_, refl, sym, _∙_}
-use mathlib.Core.Logic.{_↔_, _⊎_, inl, inr}
+use mathlib.Core.Logic.{_↔_, _⊎_, inl, inr, ⊎-elim}
 use mathlib.Core.Bool.{Bool, true, false, not, true≢false, false≢true}
 use mathlib.Core.List.{List, []}
 use lib.Dec.{eqb}
@@ -36,11 +36,10 @@ module _ (r : Rule) (wf : WellFormed (length (r .patterns)) [] (r .formula)) whe
   start = follows-violation r wf .start
 
   pub hopeless-iff : (hopeless r ≡ true) ↔ ViolatesRule r []
-  hopeless-iff = (λ h. start [] .1 (inl (hopeless-opens .0 h)), λ v. hopeless-opens .1 (on (start [] .0 v)))
-    where
-      on : OpensToFalsity (r .formula) 0 ⊎ ViolatesEquation r (firstOf r) [] → OpensToFalsity (r .formula) 0
-      on (inl o) = o
-      on (inr v) = absurd (follows-violation r wf .end (firstOf r) v)
+  hopeless-iff = (
+    λ h. start [] .1 (inl (hopeless-opens .0 h)),
+    λ v. ⊎-elim (hopeless-opens .1) (λ e. absurd (follows-violation r wf .end (firstOf r) e)) (start [] .0 v),
+  )
 
   -- ---- other rules
 
@@ -56,8 +55,7 @@ module _ (r : Rule) (wf : WellFormed (length (r .patterns)) [] (r .formula)) whe
   loses-violates (later {e} {c = c} {w} q l) = follows-violation r wf .step e c w .1 (rw q (loses-violates l))
 
   pub rule-monitors : hopeless r ≡ false → Monitors r (answerOf r) (firstOf r)
-  rule-monitors h w bytes = (λ v. on (start w .0 v), λ l. start w .1 (inr (loses-violates l)))
-    where
-      on : OpensToFalsity (r .formula) 0 ⊎ ViolatesEquation r (firstOf r) w → Loses (answerOf r) (firstOf r) w
-      on (inl o) = absurd (true≢false (sym (hopeless-opens .1 o) ∙ h))
-      on (inr v) = violates-loses (firstOf r) w v
+  rule-monitors h w bytes = (
+    λ v. ⊎-elim (λ o. absurd (true≢false (sym (hopeless-opens .1 o) ∙ h))) (violates-loses (firstOf r) w) (start w .0 v),
+    λ l. start w .1 (inr (loses-violates l)),
+  )

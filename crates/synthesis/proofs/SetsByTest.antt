@@ -1,7 +1,7 @@
 -- Sets that are made by a test of one node after the other.
 use Prim.Native.Nat.{ℕ, _+_, _*_, _%_, _^_, _<_}
 use mathlib.Core.Path.{_≡_, refl}
-use mathlib.Core.Logic.{_↔_, _⊎_, inl, inr}
+use mathlib.Core.Logic.{_↔_, _⊎_, inl, inr, ⊎-elim}
 use mathlib.Core.Bool.{Bool, true, false, false≢true}
 use mathlib.Core.List.{List}
 use native.Mathlib.Omega.{arith}
@@ -23,11 +23,7 @@ pub with-has : (e k : ℕ) (b : Bool) (j : ℕ) → Has (withNode e k b) j ↔ (
 with-has e k true j =
     let alone = single-iff k j in
     union-iff e (single k) j (λ h. h, λ h. h) (λ h. (alone .0 h, refl), λ h. alone .1 (h .0))
-with-has e k false j = (λ h. inl h, back)
-  where
-    back : Has e j ⊎ ((k ≡ j) × (false ≡ true)) → Has e j
-    back (inl a) = a
-    back (inr a) = absurd (false≢true (a .1))
+with-has e k false j = (λ h. inl h, ⊎-elim (λ h. h) (λ h. absurd (false≢true (h .1))))
 
 -- One more number is tested: what holds of the members below k holds of those below k + 1.
 pub with-next : (P : ℕ → Type 0) (e k : ℕ) (b : Bool) → ((b ≡ true) ↔ P k) → ((j : ℕ) → Has e j ↔ ((j < k) × P j))

@@ -11,7 +11,8 @@ ghost use Prim.Native.Nat.{ℕ, _+_, _≤_, _<_};
 ghost use lib.ListN.{length, replicate};
 ghost use Rattle.reading.specs.Formula.{size};
 ghost use Rattle.reading.specs.Rule.{Rule};
-ghost use Rattle.synthesis.specs.Arrays.{IsRule, SomeNode, IsOpening, Linked, AfterAll, withNode, HasKind, Marked, IsNumbered, SomeNumbered, Waiting, WaitingAll, IsGraph};
+ghost use Rattle.synthesis.specs.Arrays.{IsRule, SomeNode, IsOpening, Linked, AfterAll, withNode, HasKind, Marked};
+ghost use Rattle.synthesis.specs.Arrays.{IsNumbered, SomeNumbered, Waiting, WaitingAll, IsGraph};
 
 // The first equation and the ff nodes of a rule; for each node that is a necessity, what opening the formula after it gives; for each
 // code, the necessities whose patterns cover it.
@@ -127,7 +128,7 @@ fn mark(p: Pattern, k: usize, waiting: &mut [u64])
     }
 }
 
-// The same where node k is a necessity, for its pattern.
+// Puts node k, where it is a necessity, into the set of each code that its pattern covers.
 fn wait(rule: NumberedRule, k: usize, waiting: &mut [u64])
     requires { ⌜ SomeNumbered rule k × (length (now waiting) ≡ 256) ⌝ }
     ensures { λ _. ⌜ ((r : Rule) → IsNumbered r rule → Waiting r k (now (waiting .entry)) → Waiting r (k + 1) (now (waiting .exit))) ⌝ }

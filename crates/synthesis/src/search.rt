@@ -101,7 +101,7 @@ fn note_row(
     m
 }
 
-// The same for equation k, if there is one.
+// Notes what equation k answers to each code, if there is an equation k.
 fn take_turn(
     after: &[u64],
     waiting: &[u64],

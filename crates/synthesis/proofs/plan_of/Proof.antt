@@ -32,7 +32,8 @@ no-plan-requires c κs = search needs
 returns : tie.Need-returns
 returns c =
     let e = c .before .before in
-    unread-plan 128 _ _ (e .before .before .read-rule .ensures) (e .enum-told2 .given .1) _ (c .before .refusal .ensures) _ (c .no-plan .ensures)
+    let r = e .before .before in
+    unread-plan 128 _ _ (r .read-rule .ensures) (e .enum-told2 .given .1) _ (c .before .refusal .ensures) _ (c .no-plan .ensures)
 
 of-rule-requires : tie.Need-of-rule-requires
 of-rule-requires c κs = read-some (read c)

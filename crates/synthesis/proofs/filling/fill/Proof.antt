@@ -76,24 +76,6 @@ returns c =
     let args = c .before .before .before .before .before .before .args in
     rows-all 255 _ _ 256 _ _ _ (c .before .loop .inv .1) (omega (arith, length-take-le (args .n) (args .found .now) (omega arith)))
 
-zz0-add-k : tie.Need-add-k Inv-loop μ-loop
-zz0-add-k c = search needs
-
-zz1-add-k : tie.Need-add-k Inv-loop μ-loop
-zz1-add-k c = search needs
-
-zz2-add-k : tie.Need-add-k Inv-loop μ-loop
-zz2-add-k c = search needs
-
-zz3-add-k : tie.Need-add-k Inv-loop μ-loop
-zz3-add-k c = search needs
-
-zz4-add-k : tie.Need-add-k Inv-loop μ-loop
-zz4-add-k c = search needs
-
-zz5-add-k : tie.Need-add-k Inv-loop μ-loop
-zz5-add-k c = search needs
-
 pub fill-spec : {M : Type 1} → statement M
 fill-spec =
     tie.close

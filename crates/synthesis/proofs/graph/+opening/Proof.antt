@@ -1,5 +1,6 @@
 -- The proof of the cycle of calls {opening}. The measure is how many of the 64 nodes come from here on.
 use Prim.Native.Nat.{ℕ, _-_, _<_}
+use mathlib.Core.Path.{refl}
 use native.Mathlib.Omega.{arith}
 use borrow.Fn.Kinds.{In}
 use borrow.Fn.PlainCycle.{Measures, is, falls, and}
@@ -46,7 +47,7 @@ module _ (t : ℕ) where
   first-requires c κs =
       let b = c .before .before .before .before .before .before in
       let s = some b in
-      (omega (arith, node-in-64 s, b .pre .0), (some-next s (c .if1 .taken) (omega arith) (omega arith), b .pre .1 .1))
+      (omega (arith, node-in-64 s, b .pre .0), (some-next s (c .if1 .taken) refl, b .pre .1 .1))
 
   second-requires : lts.Need-opening-requires-2 (claims t) (at t) reads.Post
   second-requires c κs =
@@ -68,7 +69,7 @@ module _ (t : ℕ) where
   body-requires c κs =
       let b = c .before .before .before .before .before .before .before in
       let s = some b in
-      (omega (arith, node-in-64 s, b .pre .0), (some-next s (c .if2 .taken) (omega arith) (omega arith), b .pre .1 .1))
+      (omega (arith, node-in-64 s, b .pre .0), (some-next s (c .if2 .taken) refl, b .pre .1 .1))
 
   returns-max : lts.Need-returns-2 (claims t) (at t) reads.Post
   returns-max c = opening-max (c .before .if2 .taken) (c .opening3 .ensures)

@@ -1,4 +1,5 @@
 -- `graph::link` meets its contract: a row for a max, one for a necessity and one for any other node.
+use mathlib.Core.Path.{refl}
 use native.Mathlib.Omega.{arith}
 use borrow.Author.Needs.{needs}
 use Rattle.synthesis.proofs.OpeningArrays.{node-in-64, kinds-are-64, some-next}
@@ -17,7 +18,7 @@ add-opening c = search needs
 opening-requires : tie.Need-opening-requires
 opening-requires c κs =
     let p = c .before .before .before .before .before .before .before .pre in
-    (some-next (p .0) (c .before .if1 .taken) (omega arith) (omega arith), p .1)
+    (some-next (p .0) (c .before .if1 .taken) refl, p .1)
 
 mul-opened : tie.Need-mul-opened
 mul-opened c = search needs
@@ -39,7 +40,7 @@ add-opening-2 c = search needs
 opening-requires-2 : tie.Need-opening-requires-2
 opening-requires-2 c κs =
     let p = c .before .before .before .before .before .before .before .before .pre in
-    (some-next (p .0) (c .before .if2 .taken) (omega arith) (omega arith), p .1)
+    (some-next (p .0) (c .before .if2 .taken) refl, p .1)
 
 mul-after : tie.Need-mul-after
 mul-after c = search needs
