@@ -48,13 +48,13 @@ class Equations:
         return DROPPED if self.has_falsity(opened) else opened
 
     def answers(self, equation):
-        """The answers to all codes, ascending. Codes that the same patterns cover have the same."""
+        """The answers to the codes from 0 up. One is worked out for all codes with the same covering patterns."""
         known = {patterns: self.answer(equation, patterns) for patterns in set(self.covering)}
         return [known[patterns] for patterns in self.covering]
 
     def numbers(self, most):
-        """The equations with their numbers, as found: earlier equations first, codes ascending. The search ends
-        once there are over `most`."""
+        """The equations with their numbers. Each equation in turn is asked all codes from 0 up, and a new one gets the
+        next number. The search ends once there are over `most`."""
         numbers = {self.first: 0}
         found = [self.first]
         for equation in found:

@@ -7,7 +7,7 @@ ANY_LINE = "accepted p 255 0 31 0 256 32640"
 
 
 def counted(m):
-    """Max of both: "after any code, the variable" and "after code 5, then m times after any code, then tt"."""
+    """The paper's second family: a rule that remembers for m scans whether code 5 came."""
     return ANY + ONE + "6 4 5 0 7 0 5 1 " + "5 0 " * m + "2"
 
 

@@ -73,7 +73,7 @@ LISTINGS += [
         + ["0 0 4 1", "0 5 5 2", "0 6 6 3", "0 7 255 1"]
         + ["1 0 255 1", "2 0 255 1", "3 0 255 1"],
     ),
-    # earlier equations first: what 2 finds comes before what 3 finds
+    # the turn of 2 comes before that of 3, so what it finds has the lower number
     (
         ONE + SIX + SEVEN + "4 5 0 5 2 5 0 2 5 1 5 2 5 1 2",
         ["patterns 3", "p 0 5 1", "p 1 6 1", "p 2 7 1", "equations 6"]

@@ -1,4 +1,4 @@
--- What a file says depends on its first 257 bytes alone, and on no fewer.
+-- Two files that agree in 257 bytes say the same, and 256 aren't enough.
 use mathlib.Core.Path.{_≡_, refl, ap}
 use mathlib.Core.Bool.{Bool, true, false, cond}
 use mathlib.Core.List.{List, [], _∷_, _++_}

@@ -1,4 +1,4 @@
--- A scan is one byte, its code: 32 × kind + slot.
+-- The code of a scan, made of its kind, 0 to 7, and its slot, 0 to 31.
 use Prim.Native.Nat.{ℕ, _+_, _*_, _/_, _%_}
 
 abbrev pub codeOf : ℕ → ℕ → ℕ

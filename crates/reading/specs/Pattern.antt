@@ -1,5 +1,5 @@
--- A pattern is a set of codes: every kind whose bit is set in a mask, with every slot from first to last. `Pattern` and `Extent` are
--- the structs of src/lib.rt.
+-- Patterns, and which codes they cover: the mask says for each kind whether it belongs, first and last bound the slots. `Pattern` and
+-- `Extent` are the structs of src/lib.rt.
 use Prim.Native.Nat.{ℕ, zero, suc, _+_, _/_, _%_, _^_, _≤_, _<_}
 use mathlib.Core.Bool.{Bool, cond, _&&_}
 use lib.Dec.{leb, eqb}
