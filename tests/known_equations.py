@@ -5,7 +5,7 @@ SIX = "1 1 6 6 "
 SEVEN = "1 1 7 7 "
 OVERLAPPING = "1 3 0 9 1 6 5 31 "
 
-# Document 000's example 10: "after 5, after 6, ff" and "after 5, after 7, ff", with one branch for 5.
+# Example 10 of the article on suppressions: "after 5, after 6, ff" and "after 5, after 7, ff", with one branch for 5.
 BRANCHES = ONE + SIX + SEVEN + "4 5 0 5 1 3 5 0 5 2 3"
 
 

@@ -91,7 +91,7 @@ module _ (limit : ℕ) (r : Rule) where
       let l = equationsOf limit r in
       record {
         first = (place (firstOf r) l, first-member, place-is (firstOf r) l first-member);
-        next = λ i c e h b q. let m = equations-closed few i c e h b q in (place e l, m, place-is e l m);
+        follows = λ i c e h b q. let m = equations-closed few i c e h b q in (place e l, m, place-is e l m);
       }
 
   -- no closed list is shorter
@@ -109,7 +109,7 @@ module _ (limit : ℕ) (r : Rule) where
       first = member (firstOf r) (closed .first)
 
       under : ClosedUnder 256 (answerOf r) es
-      under i c e h b q = member e (closed .next i c e h b q)
+      under i c e h b q = member e (closed .follows i c e h b q)
 
   -- ---- their members are necessities
 

@@ -43,7 +43,7 @@ linked-next : {r : Rule} {k : ℕ} {opened afters opened′ afters′ : List ℕ
 linked-next {r} {k} {opened′ = opened′} {afters′} l same-opened same-after at-max at-necessity = record {
   opened-is = λ j ms f h. below-more (OpenedAt r opened′) k
       (λ j h ms f n. same-opened j (λ q. omega (arith, q)) ∙ l .opened-is j ms f h n) at-max j h ms f;
-  opened-yet = λ j h. same-opened j (λ q. omega (arith, q)) ∙ l .opened-yet j (omega arith);
+  unopened = λ j h. same-opened j (λ q. omega (arith, q)) ∙ l .unopened j (omega arith);
   after-is = λ j p ms f h. below-more (AfterAt r afters′) k
       (λ j h p ms f n. same-after j (λ q. omega (arith, q)) ∙ l .after-is j p ms f h n) at-necessity j h p ms f;
 }
@@ -56,8 +56,8 @@ module _ {kinds args opened afters : List ℕ} {k e : ℕ} (r : Rule) (ir : IsRu
     where
       is-open : OpenedAt r (set opened k e) k
       is-open ms f n =
-          let x = o .is r ir (λ j h. l .opened-yet j (omega arith)) (record { number = k; body = f } ∷ ms) f (rw (add-one k) (body n)) in
-          getD-set-same opened k e 0 h ∙ rw (add-one k, l .opened-yet k (omega arith), around-listed l n (omega arith)) at x
+          let x = o .is r ir (λ j h. l .unopened j (omega arith)) (record { number = k; body = f } ∷ ms) f (rw (add-one k) (body n)) in
+          getD-set-same opened k e 0 h ∙ rw (add-one k, l .unopened k (omega arith), around-listed l n (omega arith)) at x
 
   pub linked-necessity : k < length afters → getD kinds k 0 ≡ 5 → IsOpening kinds args opened (k + 1) e
       → Linked r (k + 1) opened (set afters k e)
@@ -67,7 +67,7 @@ module _ {kinds args opened afters : List ℕ} {k e : ℕ} (r : Rule) (ir : IsRu
     where
       is-after : AfterAt r (set afters k e) k
       is-after p ms f n =
-          let x = o .is r ir (λ j h. l .opened-yet j (omega arith)) ms f (rw (add-one k) (after n)) in
+          let x = o .is r ir (λ j h. l .unopened j (omega arith)) ms f (rw (add-one k) (after n)) in
           getD-set-same afters k e 0 h ∙ rw (add-one k, around-listed l n (omega arith)) at x
 
 pub linked-other : {kinds args opened afters : List ℕ} {k : ℕ} (r : Rule) → IsRule r kinds args → Linked r k opened afters
@@ -80,7 +80,7 @@ linked-other r ir l p q =
 pub linked-none : (r : Rule) (n : ℕ) (afters : List ℕ) → Linked r 0 (replicate n 0) afters
 linked-none r n afters = record {
   opened-is = λ j ms f h x. absurd (omega arith);
-  opened-yet = λ j h. repeated-at 0 n j;
+  unopened = λ j h. repeated-at 0 n j;
   after-is = λ j p ms f h x. absurd (omega arith);
 }
 

@@ -51,8 +51,8 @@ unfoldable pub firstOf : Rule → ℕ
 firstOf r = opening 0 [] (r .formula)
 
 -- A set of reached nodes as an answer: dropped where an ff node is among them, else it is the next equation.
-abbrev pub judged : (falsities reached : ℕ) → Answer ℕ
-judged ffs e = cond (eqb (common e ffs) none) (next e) dropped
+abbrev pub judged : (ffs set : ℕ) → Answer ℕ
+judged ffs set = cond (eqb (common set ffs) none) (next set) dropped
 
 -- the answer of the equation e to the code c
 unfoldable pub answerOf : Rule → (e c : ℕ) → Answer ℕ

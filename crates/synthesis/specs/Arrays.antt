@@ -50,11 +50,11 @@ pub record IsOpening (kinds args opened : List ℕ) (k e : ℕ) : Type 0 where
 pub record Linked (r : Rule) (k : ℕ) (opened after : List ℕ) : Type 0 where
   pub opened-is : (j : ℕ) (ms : List EnclosingMax) (f : Formula) → j < k → Node (r .formula) j ms (max f)
       → getD opened j 0 ≡ opening j (opensAround ms) (max f)
-  pub opened-yet : ZeroFrom k opened
+  pub unopened : ZeroFrom k opened
   pub after-is : (j p : ℕ) (ms : List EnclosingMax) (f : Formula) → j < k → Node (r .formula) j ms (necessity p f)
       → getD after j 0 ≡ opening (suc j) (opensAround ms) f
 
--- the second alone, for every node
+-- For each necessity, the array has what opening the formula after it gives.
 pub record AfterAll (r : Rule) (after : List ℕ) : Type 0 where
   pub is : (j p : ℕ) (ms : List EnclosingMax) (f : Formula) → Node (r .formula) j ms (necessity p f)
       → getD after j 0 ≡ opening (suc j) (opensAround ms) f

@@ -28,6 +28,7 @@ pub data Opens (root : Formula) : (k m : ℕ) → Type 0 where
 abbrev pub IsFalsity : (root : Formula) → ℕ → Type 0
 IsFalsity root m = (ms : List EnclosingMax) × Node root m ms falsity
 
+-- node k opens to an ff node
 abbrev pub OpensToFalsity : (root : Formula) → ℕ → Type 0
 OpensToFalsity root k = (m : ℕ) × Opens root k m × IsFalsity root m
 

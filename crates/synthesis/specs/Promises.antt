@@ -110,7 +110,7 @@ RefusesHopeless =
 -- with each of its sets, what the codes make of it.
 pub record Closed (r : Rule) (es : List ℕ) : Type 0 where
   pub first : (i : ℕ) × (i < length es) × (getD es i 0 ≡ firstOf r)
-  pub next : (i c e : ℕ) → i < length es → c < 256 → answerOf r (getD es i 0) c ≡ next e → (j : ℕ) × (j < length es) × (getD es j 0 ≡ e)
+  pub follows : (i c e : ℕ) → i < length es → c < 256 → answerOf r (getD es i 0) c ≡ next e → (j : ℕ) × (j < length es) × (getD es j 0 ≡ e)
 
 abbrev pub RefusesTooMany : Type 0
 RefusesTooMany =
