@@ -9,7 +9,7 @@ use lib.ListN.{length, getD}
 use Rattle.reading.specs.Rule.{Rule, Bytes}
 use Rattle.reading.specs.Outcome.{accepted}
 use Rattle.reading.specs.File.{ruleOf}
-use Rattle.synthesis.specs.Monitor.{kept, verdicts, ended, Monitors}
+use Rattle.synthesis.specs.Monitor.{kept, verdicts, ended, Monitors, Renames}
 use Rattle.synthesis.specs.Answering.{firstOf, answerOf, hopeless}
 use Rattle.synthesis.specs.Search.{place}
 use Rattle.synthesis.specs.Table.{rowOf, entry, filled}
@@ -21,7 +21,7 @@ use Rattle.synthesis.proofs.RuleMonitor.{rule-monitors, hopeless-iff}
 use Rattle.synthesis.proofs.Places.{Member}
 use Rattle.synthesis.proofs.Rows.{entries-length, filled-length, filled-row, filled-rest}
 use Rattle.synthesis.proofs.MonitorLaws.{drops-violations}
-use Rattle.synthesis.proofs.Renaming.{Renames, renamed-runs, renamed-monitors}
+use Rattle.synthesis.proofs.Renaming.{renamed-runs, renamed-monitors}
 use Rattle.synthesis.proofs.Tables.{table-renames, table-range}
 use Rattle.synthesis.proofs.Synthesized.{made, synthesis-accepts, building-accepts, refused-eight, refuses-eight}
 use Rattle.synthesis.proofs.Synthesized.{counted-accepts, counted-refuses, accepts-as}

@@ -4,16 +4,9 @@ use mathlib.Core.Path.{_≡_, refl, ap}
 use mathlib.Core.Logic.{_↔_}
 use mathlib.Core.List.{List, [], _∷_}
 use Rattle.reading.specs.Rule.{Rule, All}
-use Rattle.synthesis.specs.Monitor.{Answer, dropped, next, kept, verdicts, ended, Loses, now, later, Monitors}
+use Rattle.synthesis.specs.Monitor.{Answer, dropped, next, kept, verdicts, ended, Loses, now, later, Monitors, Renames}
 use Rattle.synthesis.proofs.Runs.{run-induction}
 use Rattle.synthesis.proofs.MonitorLaws.{loses-nothing, loses-rest}
-
--- The equations e with `Ok e` are renamed by f, and answer each code alike. Several may get one name.
-pub record Renames {E F : Type 0} (codes : ℕ) (Ok : E → Type 0) (answer : E → ℕ → Answer E) (answer′ : F → ℕ → Answer F) (f : E → F)
-    : Type 0 where
-  pub stays : (e e′ : E) (c : ℕ) → Ok e → c < codes → answer e c ≡ next e′ → Ok e′
-  pub drops : (e : E) (c : ℕ) → Ok e → c < codes → answer e c ≡ dropped → answer′ (f e) c ≡ dropped
-  pub follows : (e e′ : E) (c : ℕ) → Ok e → c < codes → answer e c ≡ next e′ → answer′ (f e) c ≡ next (f e′)
 
 module _ {E F : Type 0} (codes : ℕ) (Ok : E → Type 0) (answer : E → ℕ → Answer E) (answer′ : F → ℕ → Answer F) (f : E → F)
     (renames : Renames codes Ok answer answer′ f) where

@@ -6,13 +6,12 @@ use mathlib.Core.List.{List}
 use native.Mathlib.Omega.{arith}
 use lib.ListN.{length, getD}
 use borrow.Author.Tests.{eq-eqb, ne-eqb}
-use Rattle.synthesis.specs.Monitor.{Answer, dropped, next}
+use Rattle.synthesis.specs.Monitor.{Answer, dropped, next, Renames}
 use Rattle.synthesis.specs.Search.{place}
 use Rattle.synthesis.specs.Table.{rowOf, meaning, entry, entryFor, filled}
 use Rattle.synthesis.proofs.Places.{Member, place-is}
 use Rattle.synthesis.proofs.Finding.{ClosedUnder}
 use Rattle.synthesis.proofs.Rows.{filled-entry}
-use Rattle.synthesis.proofs.Renaming.{Renames}
 
 module _ (codes mark : ℕ) (answer : ℕ → ℕ → Answer ℕ) (l : List ℕ) (closed : ClosedUnder codes answer l) (table : List ℕ)
     (room : codes * length l ≤ length table) where

@@ -1,5 +1,5 @@
 -- Monitors with equations of any type, their runs over lists of codes, and what it is to monitor a rule.
-use Prim.Native.Nat.{ℕ}
+use Prim.Native.Nat.{ℕ, _<_}
 use mathlib.Core.Path.{_≡_}
 use mathlib.Core.Logic.{_↔_}
 use mathlib.Core.List.{List, [], _∷_}
@@ -39,3 +39,11 @@ module _ {E : Type 0} (answer : E → ℕ → Answer E) where
 -- The run from the first equation drops something of a list of codes exactly when the list violates the rule.
 abbrev pub Monitors : {E : Type 0} → Rule → (answer : E → ℕ → Answer E) → (first : E) → Type 0
 Monitors r answer first = (w : List ℕ) → Bytes w → ViolatesRule r w ↔ Loses answer first w
+
+-- One monitor's equations as another's: those with `Ok e` are renamed by f, and answer each code alike. Several may
+-- get one name.
+pub record Renames {E F : Type 0} (codes : ℕ) (Ok : E → Type 0) (answer : E → ℕ → Answer E) (answer′ : F → ℕ → Answer F) (f : E → F)
+    : Type 0 where
+  pub stays : (e e′ : E) (c : ℕ) → Ok e → c < codes → answer e c ≡ next e′ → Ok e′
+  pub drops : (e : E) (c : ℕ) → Ok e → c < codes → answer e c ≡ dropped → answer′ (f e) c ≡ dropped
+  pub follows : (e e′ : E) (c : ℕ) → Ok e → c < codes → answer e c ≡ next e′ → answer′ (f e) c ≡ next (f e′)
