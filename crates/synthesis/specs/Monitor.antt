@@ -40,8 +40,7 @@ module _ {E : Type 0} (answer : E → ℕ → Answer E) where
 abbrev pub Monitors : {E : Type 0} → Rule → (answer : E → ℕ → Answer E) → (first : E) → Type 0
 Monitors r answer first = (w : List ℕ) → Bytes w → ViolatesRule r w ↔ Loses answer first w
 
--- One monitor's equations as another's: those with `Ok e` are renamed by f, and answer each code alike. Several may
--- get one name.
+-- Of one monitor, the equations e with `Ok e` are renamed by f to those of another, and answer each code alike. Several may get one name.
 pub record Renames {E F : Type 0} (codes : ℕ) (Ok : E → Type 0) (answer : E → ℕ → Answer E) (answer′ : F → ℕ → Answer F) (f : E → F)
     : Type 0 where
   pub stays : (e e′ : E) (c : ℕ) → Ok e → c < codes → answer e c ≡ next e′ → Ok e′

@@ -19,7 +19,7 @@ use Rattle.synthesis.specs.Table.{rowOf, entry}
 use Rattle.synthesis.specs.Building.{equationsOf, synthesisOf, buildingOf, countedOf, tableAfter}
 use Rattle.synthesis.specs.declared.Counted.the-variants.{Equations, Refused}
 
--- 1. Whoever violates a formula goes on violating it.
+-- 1. A list that violates a formula violates it however it goes on.
 abbrev pub ClosedUnderExtension : Type 0
 ClosedUnderExtension =
     (covered : ℕ → ℕ → Bool) (bodies : List Formula) (f : Formula) (w v : List ℕ) → Violates covered bodies f w → Violates covered bodies f (w ++ v)
@@ -35,7 +35,7 @@ OpensAsDefined =
     (patterns : ℕ) (root : Formula) → WellFormed patterns [] root → (k : ℕ) (ms : List EnclosingMax) (f : Formula) → Node root k ms f
     → (m : ℕ) → Has (opening k (opensAround ms) f) m ↔ Opens root k m
 
--- So are the first equation and every answer as defined. From the empty set there is no way out, and nothing is dropped there.
+-- So the first equation and every answer are as defined. The empty set drops nothing, and no code leads out of it.
 pub record Answered (r : Rule) : Type 0 where
   pub first : IsFirst r (firstOf r)
   pub answers : (e c : ℕ) → Answers r e c (answerOf r e c)
