@@ -1,4 +1,4 @@
-"""The equations of a rule, their table and their listing, from the paper's words under "Equations" alone."""
+"""The equations of a rule, their table and their listing, by the paper's "Equations"."""
 from functools import cache
 from itertools import groupby
 

@@ -1,4 +1,4 @@
-"""Which lists of codes violate a rule, from the paper's words under "Meaning" alone. No equations are used."""
+"""Which lists of codes violate a rule, by the paper's "Meaning". No equations are used."""
 from functools import cache
 
 
