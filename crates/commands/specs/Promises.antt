@@ -3,11 +3,16 @@ use mathlib.Core.Path.{_≡_}
 use mathlib.Core.List.{List}
 use Prim.Native.Nat.{ℕ}
 use lib.ListN.{length, take}
-use Rattle.reading.specs.Rule.{Bytes}
+use Rattle.reading.specs.Rule.{Rule, Bytes}
+use Rattle.reading.specs.Outcome.{accepted}
 use Rattle.reading.specs.File.{ruleOf}
 use Rattle.reading.specs.Numbered.{readingOf}
 use Rattle.synthesis.specs.Building.{buildingOf, countedOf, tableAfter}
+use Rattle.synthesis.specs.declared.Counted.the-variants.{Equations}
+use Rattle.running.specs.Calls.{History, Calls}
+use Rattle.running.specs.Promises.{Sifted}
 use Rattle.commands.specs.Printing.{textFor, printed}
+use Rattle.commands.specs.Sifting.{UnderRule}
 
 -- 1. From what building and reading leave, the lines that `equations` asks for are the text that is due: none is missing.
 abbrev pub PrintsAnswer : Type 0
@@ -19,3 +24,9 @@ PrintsAnswer =
 -- 2. The 4,096 bytes that it reads settle the answer to the whole input.
 abbrev pub SettledByBuffer : Type 0
 SettledByBuffer = (s : List ℕ) (size : ℕ) → buildingOf 128 (take 4096 s) size ≡ buildingOf 128 s size
+
+-- 3. Under an accepted rule, the scans that `sift` was given are sifted by it, however they came in blocks.
+abbrev pub SiftsByRule : Type 0
+SiftsByRule =
+    (s table : List ℕ) (r : Rule) (n : ℕ) → Bytes s → ruleOf s ≡ accepted r → countedOf (buildingOf 128 s (length table)) ≡ Equations n
+    → (h : History) → Calls 128 255 (UnderRule (buildingOf 128 s (length table)) table) h → Sifted r h

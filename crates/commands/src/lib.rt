@@ -1,8 +1,13 @@
 // What the programs do: each reads its input, prints the answer, and hands it back.
+mod files;
+mod sifting;
+
 use libc::STDIN_FILENO;
 use libc::STDOUT_FILENO;
 use listing::Line;
 use reading::NumberedRule;
+use running::State;
+pub use sifting::sift;
 use synthesis::Counted;
 ghost use mathlib.Core.Path.{_≡_};
 ghost use mathlib.Core.List.{List};
@@ -11,6 +16,12 @@ ghost use lib.ListN.{length};
 ghost use Rattle.reading.specs.Rule.{Bytes};
 ghost use Rattle.synthesis.specs.Building.{buildingOf, countedOf};
 ghost use Rattle.listing.specs.Positions.{Within};
+
+// What `sift` hands back: what building answers to the rule file, and the state in which the scans leave the run.
+pub struct SiftResult {
+    pub answer: Counted,
+    pub state: State,
+}
 
 // A listing of 128 equations has no more lines than this.
 const LINES: usize = 32802;

@@ -5,4 +5,3 @@ pub mod RowLaws
 pub mod LineLaws
 pub mod AllRuns
 pub mod AllLines
-pub mod Examples

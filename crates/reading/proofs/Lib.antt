@@ -19,7 +19,6 @@ pub mod Prefix
 pub mod NodeLaws
 pub mod Listings
 pub mod NumberedLaws
-pub mod Examples
 pub mod Stores
 pub mod Parts
 pub mod Heads

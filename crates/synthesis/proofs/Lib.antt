@@ -18,7 +18,6 @@ pub mod Tables
 pub mod Synthesized
 pub mod Equations
 pub mod Built
-pub mod Examples
 -- What the proofs of the functions use.
 pub mod HoldsLaws
 pub mod FillingRows

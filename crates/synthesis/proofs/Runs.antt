@@ -1,7 +1,7 @@
 -- Laws of the runs of a monitor: over one list and then another, and over what was kept.
 use Prim.Native.Nat.{ℕ, suc}
 use mathlib.Core.Path.{_≡_, refl, _∙_, ap}
-use mathlib.Core.List.{List, [], _∷_, _++_}
+use mathlib.Core.List.{List, [], _∷_, _++_, append-nil}
 use lib.ListN.{length}
 use Rattle.reading.specs.Rule.{All}
 use Rattle.synthesis.specs.Monitor.{Answer, dropped, next, kept, verdicts, ended}
@@ -56,6 +56,21 @@ module _ {E : Type 0} (answer : E → ℕ → Answer E) where
 
   pub ended-last : (e : E) (w : List ℕ) (c : ℕ) {e′ : E} → answer (ended answer e w) c ≡ next e′ → ended answer e (w ++ (c ∷ [])) ≡ e′
   ended-last e w c q = ended-append e w (c ∷ []) ∙ rw q
+
+  pub verdicts-last : (e : E) (w : List ℕ) (c : ℕ) {e′ : E} → answer (ended answer e w) c ≡ next e′
+      → verdicts answer e (w ++ (c ∷ [])) ≡ verdicts answer e w ++ (0 ∷ [])
+  verdicts-last e w c q = verdicts-append e w (c ∷ []) ∙ rw q
+
+  -- one that is dropped leaves a verdict alone
+  pub kept-drop : (e : E) (w : List ℕ) (c : ℕ) → answer (ended answer e w) c ≡ dropped → kept answer e (w ++ (c ∷ [])) ≡ kept answer e w
+  kept-drop e w c q = kept-append e w (c ∷ []) ∙ rw q (append-nil (kept answer e w))
+
+  pub ended-drop : (e : E) (w : List ℕ) (c : ℕ) → answer (ended answer e w) c ≡ dropped → ended answer e (w ++ (c ∷ [])) ≡ ended answer e w
+  ended-drop e w c q = ended-append e w (c ∷ []) ∙ rw q
+
+  pub verdicts-drop : (e : E) (w : List ℕ) (c : ℕ) → answer (ended answer e w) c ≡ dropped
+      → verdicts answer e (w ++ (c ∷ [])) ≡ verdicts answer e w ++ (1 ∷ [])
+  verdicts-drop e w c q = verdicts-append e w (c ∷ []) ∙ rw q
 
   pub verdicts-length : (e : E) (w : List ℕ) → length (verdicts answer e w) ≡ length w
   verdicts-length =

@@ -1,0 +1,112 @@
+// The program `sift`.
+use crate::SiftResult;
+use crate::files::read_file;
+use crate::print_line;
+use libc::STDIN_FILENO;
+use libc::STDOUT_FILENO;
+use running::State;
+use synthesis::Counted;
+ghost use mathlib.Core.Path.{_≡_};
+ghost use mathlib.Core.List.{List};
+ghost use Prim.Native.Nat.{ℕ};
+ghost use lib.ListN.{length};
+ghost use Rattle.reading.specs.Rule.{Bytes};
+ghost use Rattle.running.specs.Running.{runOf, ranOf};
+ghost use Rattle.commands.specs.Sifting.{EndsCallsOn, Sifts};
+
+// The state after a block of scans, and whether there may be more.
+struct Turn {
+    state: State,
+    goes_on: bool,
+}
+
+// Runs over a block of scans, and writes those that are kept. (A slice of u8 consists of bytes.)
+fn sift_block(
+    table: &[u8],
+    count: usize,
+    state: State,
+    scans: &[u8],
+    output: &mut [u8],
+    verdicts: &mut [u8],
+) -> Turn
+    ensures { λ _. ⌜ Bytes (now (scans .entry)) ⌝ }
+    ensures { λ r. ⌜ r .state ≡ ranOf state (runOf 128 255 (now (table .entry)) count state (now (scans .entry))
+        (length (now (output .entry))) (length (now (verdicts .entry)))) .state ⌝ }
+{
+    let ran = running::run(table, count, state, scans, output, verdicts);
+    let kept = ran.kept;
+    let goes_on = io::write_all(STDOUT_FILENO, &output[..kept]);
+    let state = ran.state;
+    Turn { state, goes_on }
+}
+
+// Reads once, and sifts what came.
+fn sift_some(
+    table: &[u8],
+    count: usize,
+    state: State,
+    scans: &mut [u8],
+    output: &mut [u8],
+    verdicts: &mut [u8],
+) -> Turn
+    ensures { λ r. ⌜ (EndsCallsOn (now (table .entry)) count state → EndsCallsOn (now (table .entry)) count (r .state)) ⌝ }
+{
+    let got = libc::read(STDIN_FILENO, scans);
+    let n = io::count(got, scans);
+    if n == 0 {
+        return Turn {
+            state,
+            goes_on: false,
+        };
+    }
+    sift_block(table, count, state, &scans[..n], output, verdicts)
+}
+
+// Sifts all of standard input. The loop counts down from a number of turns that no input uses up, so that it ends.
+fn sift_all(table: &[u8], count: usize) -> State
+    ensures { λ r. ⌜ EndsCallsOn (now (table .entry)) count r ⌝ }
+{
+    let mut scans = io::large_buffer();
+    let mut output = io::large_buffer();
+    let mut verdicts = io::large_buffer();
+    let mut state = running::start();
+    let mut left = u64::MAX;
+    while 0 < left {
+        let turn = sift_some(table, count, state, &mut scans, &mut output, &mut verdicts);
+        state = turn.state;
+        if !turn.goes_on {
+            return state;
+        }
+        left -= 1;
+    }
+    state
+}
+
+// Builds the table of a rule file, and sifts standard input under it.
+fn sift_under(file: &[u8], table: &mut [u8]) -> SiftResult
+    ensures { λ _. ⌜ Bytes (now (file .entry)) ⌝ }
+    ensures { λ r. ⌜ Sifts (now (file .entry)) (now (table .entry)) r ⌝ }
+{
+    let answer = synthesis::build(file, table);
+    match answer {
+        Counted::Equations(count) => {
+            let state = sift_all(table, count);
+            SiftResult { answer, state }
+        }
+        Counted::Refused(number, place) => {
+            print_line(listing::refusal_line(number, place));
+            let state = running::start();
+            SiftResult { answer, state }
+        }
+    }
+}
+
+// Reads a rule from the file rule.bin, and writes the scans of standard input that it keeps, or else why it is refused.
+pub fn sift() -> SiftResult
+    ensures { λ r. ⌜ ((s : List ℕ) × (table : List ℕ) × Bytes s × (length table ≡ 32768) × Sifts s table r) ⌝ }
+{
+    let mut file = io::buffer();
+    let n = read_file(b"rule.bin", &mut file);
+    let mut table = [0u8; 32768];
+    sift_under(&file[..n], &mut table)
+}

@@ -1,0 +1,44 @@
+-- What is said of a file, from what reading says of it; and the row of a rule whose equations are known.
+use Prim.Native.Nat.{ℕ, _≤_, _<_}
+use mathlib.Core.Path.{_≡_}
+use mathlib.Core.Bool.{true, false}
+use mathlib.Core.List.{List}
+use native.Mathlib.Omega.{arith}
+use lib.ListN.{length, getD}
+use Rattle.reading.specs.Rule.{Rule}
+use Rattle.reading.specs.Outcome.{accepted, refused}
+use Rattle.reading.specs.File.{ruleOf}
+use Rattle.synthesis.specs.Answering.{answerOf, hopeless}
+use Rattle.synthesis.specs.Table.{rowOf, entries}
+use Rattle.synthesis.specs.Building.{equationsOf, synthesisOf, countedOf}
+use Rattle.synthesis.specs.declared.Counted.{Counted}
+use Rattle.synthesis.specs.declared.Counted.the-variants.{Equations, Refused}
+use Rattle.synthesis.proofs.Rows.{filled-row}
+use Rattle.synthesis.proofs.Synthesized.{made, accepts-made, refuses-eight, building-enough}
+use Rattle.examples.specs.Examples.{tableLeft, Answers, Refuses, Reads}
+
+module _ (s : List ℕ) where
+  -- with room for the rows, building answers as counting does
+  answers : (answer : Counted) → countedOf (synthesisOf 128 s) ≡ answer → Answers s answer
+  answers answer e = record { counting = e; building = λ table room. rw (building-enough 128 s (length table) room) e }
+
+  pub refuses : (number place : ℕ) → ruleOf s ≡ refused number place → Refuses s number place
+  unfolding synthesisOf
+  refuses number place read = record { reading = read; answers = answers (Refused number place) (rw read) }
+
+  module _ (r : Rule) (read : ruleOf s ≡ accepted r) where
+    pub reads-hopeless : hopeless r ≡ true → Reads s r (Refused 8 0)
+    reads-hopeless h = record { reading = read; answers = answers (Refused 8 0) (rw (refuses-eight 128 s r read h)) }
+
+    module _ (hopeful : hopeless r ≡ false) (l : List ℕ) (equations : equationsOf 128 r ≡ l) (few : length l ≤ 128) where
+      synthesis : synthesisOf 128 s ≡ accepted (made 128 r)
+      synthesis = accepts-made 128 s r read hopeful (rw equations few)
+
+      pub reads : Reads s r (Equations (length l))
+      reads = record { reading = read; answers = answers (Equations (length l)) (rw (synthesis, equations)) }
+
+      pub row-left : (table : List ℕ) → 32768 ≤ length table → (k : ℕ) → k < length l
+          → rowOf 256 (tableLeft s table) k ≡ entries 255 (answerOf r) l (getD l k 0) 256
+      row-left table room k h =
+          rw (building-enough 128 s (length table) room, synthesis, equations)
+          (filled-row 255 (answerOf r) l 256 table (omega arith) k h)

@@ -1,0 +1,4 @@
+pub mod FileAnswers
+pub mod SmallFiles
+pub mod NumberPool
+pub mod PaperExamples

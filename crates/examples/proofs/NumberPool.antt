@@ -1,0 +1,91 @@
+-- The number-pool rule: its equations, the table that building leaves of it, the listing, and the run of the paper's scans.
+use Prim.Native.Nat.{ℕ, _≤_, _<_}
+use mathlib.Core.Path.{_≡_, refl, _∙_, ap}
+use mathlib.Core.Bool.{false}
+use mathlib.Core.List.{List, [], _∷_, map}
+use native.Mathlib.Omega.{arith}
+use lib.ListN.{length, getD}
+use Rattle.reading.specs.Pattern.{bit, covers, least, howMany, extentOf}
+use Rattle.reading.specs.Outcome.{Outcome, accepted}
+use Rattle.reading.specs.File.{patternsAt, formulaAt, formulaOf, ruleOf}
+use Rattle.synthesis.specs.Answering.{firstOf, answerOf, hopeless}
+use Rattle.synthesis.specs.Search.{noted, found}
+use Rattle.synthesis.specs.Table.{rowOf, entries}
+use Rattle.synthesis.specs.Building.{equationsOf}
+use Rattle.running.specs.Running.{start, Run, followed, runOf, occurrences}
+use Rattle.running.specs.Promises.{WellFormedTable, RunsOn}
+use Rattle.running.proofs.Refusals.{runs-on-tables}
+use Rattle.running.proofs.BuiltTables.{built-well-formed}
+use Rattle.listing.specs.Text.{decimalIn, decimal}
+use Rattle.listing.specs.Lines.{rowLines, listing}
+use Rattle.examples.specs.Examples.{tableLeft, poolFile, poolRule, NumberPool, poolListing, PoolRows, PoolTable}
+use Rattle.examples.specs.Examples.{poolScans, poolRun, RunsPool, PoolScans}
+use Rattle.examples.proofs.FileAnswers.{reads, row-left}
+
+-- ---- its equations
+
+-- {1}, the empty set and {3, 5}
+abbrev poolEquations : List ℕ
+poolEquations = 2 ∷ 0 ∷ 40 ∷ []
+
+pool-read : ruleOf poolFile ≡ accepted poolRule
+unfolding ruleOf patternsAt formulaOf formulaAt
+pool-read = refl
+
+pool-hopeful : hopeless poolRule ≡ false
+unfolding hopeless firstOf
+pool-hopeful = refl
+
+pool-equations : equationsOf 128 poolRule ≡ poolEquations
+unfolding equationsOf found noted firstOf answerOf bit covers
+pool-equations = refl
+
+pub number-pool : NumberPool
+unfolding bit covers least howMany
+number-pool = record {
+  file = reads poolFile poolRule pool-read pool-hopeful poolEquations pool-equations (omega arith);
+  extents = refl;
+}
+
+-- ---- its table
+
+pool-rows : (table : List ℕ) → 32768 ≤ length table → PoolRows (tableLeft poolFile table)
+unfolding entries answerOf bit covers
+pool-rows table room = record { row-0 = row 0 (omega arith); row-1 = row 1 (omega arith); row-2 = row 2 (omega arith) }
+  where
+    row : (k : ℕ) → k < 3
+        → rowOf 256 (tableLeft poolFile table) k ≡ entries 255 (answerOf poolRule) poolEquations (getD poolEquations k 0) 256
+    row = row-left poolFile poolRule pool-read pool-hopeful poolEquations pool-equations (omega arith) table room
+
+pool-listed : (table : List ℕ) → PoolRows table → listing (map extentOf (poolRule .patterns)) 3 table ≡ poolListing
+unfolding decimal decimalIn listing rowLines bit covers least howMany
+pool-listed table rows = rw (rows .row-0, rows .row-1, rows .row-2)
+
+pub pool-table : (table : List ℕ) → 32768 ≤ length table → PoolTable (tableLeft poolFile table)
+pool-table table room = let rows = pool-rows table room in record { rows = rows; listed = pool-listed (tableLeft poolFile table) rows }
+
+-- ---- the paper's scans
+
+-- a row for each scan that is kept, in order
+pool-followed : (table : List ℕ) → PoolRows table → followed 255 table start poolScans ≡ poolRun
+pool-followed table rows = rw (rows .row-0, rows .row-2, rows .row-0, rows .row-1, rows .row-1)
+
+runs-pool : (outcome : Outcome Run) → outcome ≡ accepted poolRun → RunsPool outcome
+unfolding occurrences
+runs-pool outcome e = record { accepts = e; ran = rw e; output = λ bytes. rw e; verdicts = λ bytes. rw e }
+
+pub pool-scans : (table : List ℕ) → 32768 ≤ length table → PoolScans (tableLeft poolFile table)
+pool-scans table room = record {
+  enough = λ output verdicts h k. runs-pool (runOf 128 255 left 3 start poolScans output verdicts)
+      (runs output verdicts .follows h k well-formed (omega arith) ∙ ap accepted (pool-followed left (pool-rows table room)));
+  short = λ output verdicts. runs output verdicts .short .1;
+}
+  where
+    left : List ℕ
+    left = tableLeft poolFile table
+
+    well-formed : WellFormedTable 128 255 3 (tableLeft poolFile table)
+    well-formed = built-well-formed 128 255 poolFile table 3 (number-pool .file .answers .building table room)
+
+    runs : (output verdicts : ℕ) → RunsOn 128 255 (tableLeft poolFile table) 3 start poolScans output verdicts
+    runs = runs-on-tables 128 255 (tableLeft poolFile table) 3 start poolScans

@@ -1,0 +1,20 @@
+-- All of the paper's examples.
+use mathlib.Core.Path.{refl}
+use lib.ListN.{length}
+use Rattle.synthesis.proofs.Synthesized.{building-short}
+use Rattle.listing.specs.Text.{decimalIn, decimal}
+use Rattle.examples.specs.Examples.{PaperExamples}
+use Rattle.examples.proofs.SmallFiles.{small-files}
+use Rattle.examples.proofs.NumberPool.{number-pool, pool-table, pool-scans}
+
+pub paper-examples : PaperExamples
+unfolding decimal decimalIn
+paper-examples = record {
+  codes = record { issue-5 = refl; cancel-5 = refl; sync-0 = refl };
+  short-table = λ s table h. rw (building-short 128 s (length table) h);
+  number-pool = number-pool;
+  pool-table = pool-table;
+  texts = record { refusal = refl; one-digit = refl; two-digits = refl; four-digits = refl };
+  small-files = small-files;
+  pool-scans = pool-scans;
+}

@@ -1,0 +1,31 @@
+-- The small files: what reading says is computed, and with it what is said of the file.
+use mathlib.Core.Path.{refl}
+use mathlib.Core.List.{[], _∷_}
+use native.Mathlib.Omega.{arith}
+use Rattle.reading.specs.Pattern.{bit, covers, least}
+use Rattle.reading.specs.Formula.{truth, falsity}
+use Rattle.reading.specs.File.{patternsAt, formulaAt, formulaOf, ruleOf}
+use Rattle.synthesis.specs.Answering.{firstOf, answerOf, hopeless}
+use Rattle.synthesis.specs.Search.{noted, found}
+use Rattle.synthesis.specs.Table.{entries}
+use Rattle.synthesis.specs.Building.{equationsOf}
+use Rattle.examples.specs.Examples.{pattern, rule, SmallFiles}
+use Rattle.examples.proofs.FileAnswers.{refuses, reads-hopeless, reads, row-left}
+
+pub small-files : SmallFiles
+unfolding ruleOf patternsAt formulaOf formulaAt hopeless equationsOf found noted entries firstOf answerOf bit covers least
+small-files = record {
+  empty = refuses [] 1 0 refl;
+  truth-alone = reads (2 ∷ []) (rule [] truth) refl refl (0 ∷ []) refl (omega arith);
+  truth-entries = λ table room. row-left (2 ∷ []) (rule [] truth) refl refl (0 ∷ []) refl (omega arith) table room 0 (omega arith);
+  falsity-alone = reads-hopeless (3 ∷ []) (rule [] falsity) refl refl;
+  byte-after = refuses (2 ∷ 2 ∷ []) 3 1 refl;
+  no-kind = refuses (0 ∷ []) 2 0 refl;
+  no-max = refuses (7 ∷ 0 ∷ []) 6 0 refl;
+  not-guarded = refuses (6 ∷ 7 ∷ 0 ∷ []) 7 1 refl;
+  no-pattern = refuses (5 ∷ 0 ∷ 2 ∷ []) 6 0 refl;
+  no-formula = refuses (1 ∷ 1 ∷ 5 ∷ 5 ∷ []) 1 4 refl;
+  first-over-last = refuses (1 ∷ 1 ∷ 6 ∷ 5 ∷ 2 ∷ []) 5 0 refl;
+  last-slot = reads (1 ∷ 1 ∷ 31 ∷ 31 ∷ 2 ∷ []) (rule (pattern 1 31 31 ∷ []) truth) refl refl (0 ∷ []) refl (omega arith);
+  last-slot-lowest = refl;
+}

@@ -1,0 +1,17 @@
+-- How many scans a run keeps and drops.
+use Prim.Native.Nat.{ℕ, _+_}
+use mathlib.Core.Path.{_≡_, refl}
+use mathlib.Core.List.{List}
+use native.Mathlib.Omega.{arith}
+use lib.ListN.{length}
+use Rattle.synthesis.specs.Monitor.{Answer, kept, verdicts}
+use Rattle.synthesis.proofs.Runs.{run-induction}
+use Rattle.running.specs.Running.{occurrences}
+
+-- a scan is kept, or its verdict is 1
+pub kept-dropped : {E : Type 0} (answer : E → ℕ → Answer E) (e : E) (w : List ℕ)
+    → length (kept answer e w) + occurrences 1 (verdicts answer e w) ≡ length w
+unfolding occurrences
+kept-dropped answer =
+    run-induction answer (λ e w. length (kept answer e w) + occurrences 1 (verdicts answer e w) ≡ length w) (λ e. refl)
+    (λ e c w q h. rw q (omega arith)) (λ e e′ c w q h. rw q (omega arith))

@@ -1,0 +1,94 @@
+-- What a caller has after any number of calls: induction over them, and that calls on one table are one run over all their scans.
+use Prim.Native.Nat.{ℕ, _<_}
+use mathlib.Core.Path.{_≡_, refl, sym, _∙_, ap, subst}
+use mathlib.Core.Logic.{_⊎_, inl, inr}
+use mathlib.Core.List.{List, _++_, append-nil}
+use lib.ListN.{length, drop, take}
+use lib.Seq.{take-append-seam, take-at}
+use Rattle.reading.specs.Rule.{Bytes}
+use Rattle.reading.specs.Outcome.{Outcome, accepted, refused}
+use Rattle.reading.proofs.AllLaws.{all-append}
+use Rattle.synthesis.specs.Monitor.{kept, verdicts, ended}
+use Rattle.synthesis.proofs.Runs.{kept-append, verdicts-append, ended-append, verdicts-length}
+use Rattle.running.specs.Running.{start, following, Run, followed}
+use Rattle.running.specs.Calls.{Call, History, noCalls, withOutcome, withCall, Calls, none, call, OnTable}
+use Rattle.running.specs.Promises.{WellFormedTable}
+use Rattle.running.specs.declared.State.{State}
+use Rattle.running.proofs.RunCases.{run-cases}
+use Rattle.running.proofs.Refusals.{not-refused}
+use Rattle.running.proofs.Tables.{ends-inside}
+
+-- ---- one more call
+
+-- what the caller has after a run over the call's scans
+abbrev pub withRun : (mark : ℕ) → History → Call → History
+withRun mark h c = record {
+  state = ended (following mark (c .table)) (h .state) (c .scans);
+  scans = h .scans ++ c .scans;
+  kept = h .kept ++ kept (following mark (c .table)) (h .state) (c .scans);
+  verdicts = h .verdicts ++ verdicts (following mark (c .table)) (h .state) (c .scans);
+}
+
+with-refused : (h : History) (c : Call) (number place : ℕ) → withOutcome h c (refused number place) ≡ h
+with-refused h c number place = rw (append-nil (h .scans), append-nil (h .kept), append-nil (h .verdicts))
+
+with-fit : (mark : ℕ) (h : History) (c : Call) → withOutcome h c (accepted (followed mark (c .table) (h .state) (c .scans))) ≡ withRun mark h c
+with-fit mark h c =
+    let F = following mark (c .table) in
+    let k = kept F (h .state) (c .scans) in
+    let v = verdicts F (h .state) (c .scans) in
+    rw (
+      take-append-seam k (drop (length k) (c .output)),
+      take-at v (drop (length v) (c .verdicts)) (length (c .scans)) (verdicts-length F (h .state) (c .scans)),
+    )
+
+-- What holds before the first call, and after each run of the kind, holds after any number of calls.
+pub calls-induction : (limit mark : ℕ) (Kind : Call → Type 0) (P : History → Type 0) → P noCalls
+    → ((h : History) (c : Call) → P h → Bytes (c .scans) → Kind c → P (withRun mark h c))
+    → (h : History) → Calls limit mark Kind h → P h
+calls-induction limit mark Kind P first more h none = first
+calls-induction limit mark Kind P first more h (call before c calls bytes kind) =
+    step (calls-induction limit mark Kind P first more before calls)
+  where
+    of-kind : {y : Run} → Kind c ⊎ ((number place : ℕ) × (accepted y ≡ refused number place)) → Kind c
+    of-kind (inl k) = k
+    of-kind (inr e) = absurd (not-refused (e .2))
+
+    step : P before → P (withCall limit mark before c)
+    step p =
+        run-cases limit mark (c .table) (c .count) (before .state) (c .scans) (length (c .output)) (length (c .verdicts))
+        (λ o. Kind c ⊎ ((number place : ℕ) × (o ≡ refused number place)) → P (withOutcome before c o))
+        (λ r k. subst P (sym (with-refused before c 15 0)) p)
+        (λ r f k. subst P (sym (with-refused before c 16 0)) p)
+        (λ r f k. subst P (sym (with-fit mark before c)) (more before c p bytes (of-kind k)))
+        kind
+
+-- ---- calls on one table
+
+-- They are one run from the start over all their scans, and end in an equation of the table.
+pub record OneRun (mark : ℕ) (table : List ℕ) (count : ℕ) (h : History) : Type 0 where
+  pub bytes : Bytes (h .scans)
+  pub state : h .state ≡ ended (following mark table) start (h .scans)
+  pub kept : h .kept ≡ kept (following mark table) start (h .scans)
+  pub verdicts : h .verdicts ≡ verdicts (following mark table) start (h .scans)
+  pub inside : h .state .equation < count
+
+module _ (limit mark count : ℕ) (table : List ℕ) (wf : WellFormedTable limit mark count table) where
+  one-more : (h : History) (c : Call) → OneRun mark table count h → Bytes (c .scans) → OnTable table count c
+      → OneRun mark table count (withRun mark h c)
+  one-more h c before bytes on =
+      let F = following mark table in
+      let w = c .scans in
+      rw (on .same-table)
+      (record {
+        bytes = all-append (λ b. b < 256) (h .scans) w (before .bytes) bytes;
+        state = ap (λ (s : State). ended F s w) (before .state) ∙ sym (ended-append F start (h .scans) w);
+        kept = rw (kept-append F start (h .scans) w, ← before .state, ← before .kept);
+        verdicts = rw (verdicts-append F start (h .scans) w, ← before .state, ← before .verdicts);
+        inside = ends-inside limit mark count table wf (h .state) w (before .inside);
+      })
+
+  pub one-run : (h : History) → Calls limit mark (OnTable table count) h → OneRun mark table count h
+  one-run =
+      calls-induction limit mark (OnTable table count) (OneRun mark table count)
+      (record { bytes = tt; state = refl; kept = refl; verdicts = refl; inside = wf .some }) one-more

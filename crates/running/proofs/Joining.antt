@@ -1,0 +1,58 @@
+-- Two calls do what one call on both lists of scans does.
+use Prim.Native.Nat.{ℕ}
+use mathlib.Core.Path.{_≡_, refl}
+use mathlib.Core.Bool.{Bool, true, false}
+use mathlib.Core.List.{List, _++_}
+use lib.ListN.{length-append}
+use Rattle.reading.specs.Outcome.{accepted}
+use Rattle.synthesis.specs.Monitor.{kept, verdicts, ended}
+use Rattle.synthesis.proofs.Runs.{kept-append, verdicts-append, ended-append}
+use Rattle.running.specs.Running.{following, fits, followed, runOf, ranOf}
+use Rattle.running.specs.Promises.{Together, TwoCalls}
+use Rattle.running.specs.declared.State.{State}
+use Rattle.running.proofs.WithVerdicts.{occurrences-append}
+use Rattle.running.proofs.RunCases.{run-unfit, run-fit}
+use Rattle.running.proofs.Tables.{fits-well, well-fits, ends-inside}
+
+-- two runs, the second from where the first ended
+followed-together : (mark : ℕ) (table : List ℕ) (s : State) (v w : List ℕ)
+    → Together s (accepted (followed mark table s v)) (accepted (followed mark table (ended (following mark table) s v) w))
+    (accepted (followed mark table s (v ++ w)))
+followed-together mark table s v w =
+    let F = following mark table in
+    let e = ended F s v in
+    record {
+      ran = rw (
+        ended-append F s v w,
+        kept-append F s v w,
+        verdicts-append F s v w,
+        length-append (kept F s v) (kept F e w),
+        occurrences-append 1 (verdicts F s v) (verdicts F e w),
+      );
+      kept = kept-append F s v w;
+      verdicts = verdicts-append F s v w;
+    }
+
+pub two-calls : TwoCalls
+two-calls limit mark table count s v w o₁ v₁ o₂ v₂ o₃ v₃ r₁ r₂ r₃ = on (fits limit mark table count s) refl
+  where
+    on : (b : Bool) → fits limit mark table count s ≡ b
+        → let one = runOf limit mark table count s v o₁ v₁ in
+        Together s one (runOf limit mark table count (ranOf s one .state) w o₂ v₂) (runOf limit mark table count s (v ++ w) o₃ v₃)
+    on true f =
+        let well = fits-well limit mark table count s f in
+        let e = ended (following mark table) s v in
+        let f′ = well-fits limit mark table count e (well .0) (ends-inside limit mark count table (well .0) s v (well .1)) in
+        rw (
+          run-fit limit mark table count s v o₁ v₁ r₁ f,
+          run-fit limit mark table count e w o₂ v₂ r₂ f′,
+          run-fit limit mark table count s (v ++ w) o₃ v₃ r₃ f,
+        )
+        (followed-together mark table s v w)
+    on false f =
+        rw (
+          run-unfit limit mark table count s v o₁ v₁ r₁ f,
+          run-unfit limit mark table count s w o₂ v₂ r₂ f,
+          run-unfit limit mark table count s (v ++ w) o₃ v₃ r₃ f,
+        )
+        (record { ran = refl; kept = refl; verdicts = refl })

@@ -1,0 +1,149 @@
+-- The loop over the scans: what it has at the start, after one more scan, and at the end.
+use Prim.Native.Nat.{ℕ, _+_, _*_, _/_, _≤_, _<_}
+use mathlib.Core.Path.{_≡_, refl, sym, _∙_, ap}
+use mathlib.Core.Bool.{Bool, true, false, cond}
+use mathlib.Core.List.{List, [], _∷_, _++_}
+use native.Mathlib.Omega.{arith}
+use native.Mathlib.Nat.{add-zero, mul-div-right}
+use native.Mathlib.Numerals.{add-one}
+use lib.Dec.{eqb}
+use lib.ListN.{length, getD, take, set, length-append, length-set}
+use lib.Seq.{take-all, take-suc, length-take-le, set-getD}
+use Rattle.synthesis.specs.Monitor.{dropped, next, kept, verdicts, ended}
+use Rattle.synthesis.specs.Table.{rowOf}
+use Rattle.synthesis.proofs.Runs.{kept-last, ended-last, verdicts-last, kept-drop, ended-drop, verdicts-drop, verdicts-length}
+use Rattle.running.specs.Running.{following, followed, overlay}
+use Rattle.running.specs.declared.State.{State}
+use Rattle.running.proofs.Overlays.{overlay-set}
+
+-- ---- one more scan
+
+-- what the table answers, from the entry
+answers : (mark : ℕ) (table : List ℕ) (s : State) (c entry : ℕ) → entry ≡ getD (rowOf 256 table (s .equation)) c mark → (b : Bool)
+    → eqb entry mark ≡ b → following mark table s c ≡ cond b dropped (next (record { equation = entry }))
+answers mark table s c entry h true q = rw (← h, q)
+answers mark table s c entry h false q = rw (← h, q)
+
+module _ (mark : ℕ) (table : List ℕ) (s : State) (output₀ judged₀ : List ℕ) where
+  -- what the loop has when it has gone over the scans w: where the row of the equation begins, how many were kept, and the buffers
+  pub record Has (w output judged : List ℕ) (from keeps : ℕ) : Type 0 where
+    pub from-is : from ≡ 256 * ended (following mark table) s w .equation
+    pub keeps-is : keeps ≡ length (kept (following mark table) s w)
+    pub output-is : output ≡ overlay (kept (following mark table) s w) output₀
+    pub judged-is : judged ≡ overlay (verdicts (following mark table) s w) judged₀
+
+  module _ (w output judged : List ℕ) (from keeps c : ℕ) (h : Has w output judged from keeps) where
+    -- its buffers, with one more kept scan and one more verdict
+    output-last : keeps < length output₀ → set output keeps c ≡ overlay (kept (following mark table) s w ++ (c ∷ [])) output₀
+    output-last r = rw (h .output-is, h .keeps-is) (overlay-set (kept (following mark table) s w) output₀ c (rw (h .keeps-is) at r))
+
+    judged-last : (n v : ℕ) → length w ≡ n → n < length judged₀
+        → set judged n v ≡ overlay (verdicts (following mark table) s w ++ (v ∷ [])) judged₀
+    judged-last n v l r =
+        let e : length (verdicts (following mark table) s w) ≡ n = verdicts-length (following mark table) s w ∙ l in
+        rw (h .judged-is, ← e) (overlay-set (verdicts (following mark table) s w) judged₀ v (omega arith))
+
+    module _ (entry : ℕ) (is : entry ≡ getD (rowOf 256 table (from / 256)) c mark) where
+      -- the table's answer where the run stands
+      answer-is : (b : Bool) → eqb entry mark ≡ b
+          → following mark table (ended (following mark table) s w) c ≡ cond b dropped (next (record { equation = entry }))
+      answer-is =
+          let k = ended (following mark table) s w .equation in
+          let e : from / 256 ≡ k = rw (h .from-is) (mul-div-right k (omega arith)) in
+          answers mark table (ended (following mark table) s w) c entry (rw e at is)
+
+      -- with the entry for c, the loop has what it should after w and c
+      has-more : (n : ℕ) → length w ≡ n → keeps < length output₀ → n < length judged₀ → (b : Bool) → eqb entry mark ≡ b
+          → Has (w ++ (c ∷ [])) (set output keeps (cond b (getD output keeps 0) c)) (set judged n (cond b 1 0))
+          (cond b from (256 * entry)) (keeps + cond b 0 1)
+      has-more n l ro rj true q =
+          let F = following mark table in
+          let d = answer-is true q in
+          record {
+            from-is = h .from-is ∙ ap (λ (x : State). 256 * x .equation) (sym (ended-drop F s w c d));
+            keeps-is = rw (kept-drop F s w c d, add-zero) (h .keeps-is);
+            output-is = rw (kept-drop F s w c d) (set-getD output keeps 0 ∙ h .output-is);
+            judged-is = rw (verdicts-drop F s w c d) (judged-last n 1 l rj);
+          }
+      has-more n l ro rj false q =
+          let F = following mark table in
+          let d = answer-is false q in
+          record {
+            from-is = ap (λ (x : State). 256 * x .equation) (sym (ended-last F s w c d));
+            keeps-is = rw (kept-last F s w c d) (ap (λ (n : ℕ). n + 1) (h .keeps-is) ∙ sym (length-append (kept F s w) (c ∷ [])));
+            output-is = rw (kept-last F s w c d) (output-last ro);
+            judged-is = rw (verdicts-last F s w c d) (judged-last n 0 l rj);
+          }
+
+  module _ (scans : List ℕ) where
+    -- what holds after i of the scans, with the bounds that the code needs
+    pub record After (output judged : List ℕ) (from keeps i : ℕ) : Type 0 where
+      pub inside : i ≤ length scans
+      pub few : keeps ≤ i
+      pub small : from < 65536
+      pub output-length : length output ≡ length output₀
+      pub judged-length : length judged ≡ length judged₀
+      pub has : Has (take i scans) output judged from keeps
+
+    module _ (output judged : List ℕ) (from keeps i : ℕ) (h : After output judged from keeps i) (more : i < length scans) where
+      -- what the turn writes and goes on with is told by equations, as its calls tell it
+      pub one-more : length scans ≤ length output₀ → length scans ≤ length judged₀ → (entry : ℕ) → entry < 256
+          → entry ≡ getD (rowOf 256 table (from / 256)) (getD scans i 0) mark
+          → {x v from′ k : ℕ} → x ≡ cond (eqb entry mark) (getD output keeps 0) (getD scans i 0) → v ≡ cond (eqb entry mark) 1 0
+          → from′ ≡ cond (eqb entry mark) from (256 * entry) → k ≡ cond (eqb entry mark) 0 1
+          → After (set output keeps x) (set judged i v) from′ (keeps + k) (i + 1)
+      one-more ro rj entry below is ex ev ef ek =
+          let l = length-take-le i scans (omega arith) in
+          let grown : take (i + 1) scans ≡ take i scans ++ (getD scans i 0 ∷ []) = rw (add-one, take-suc scans i 0) in
+          record {
+            inside = omega arith;
+            few = rw ek (few-more (eqb entry mark));
+            small = rw ef (small-more (eqb entry mark));
+            output-length = simp length-set (h .output-length);
+            judged-length = simp length-set (h .judged-length);
+            has = rw (grown, ex, ev, ef, ek)
+                (has-more (take i scans) output judged from keeps (getD scans i 0) (h .has) entry is i l (omega arith) (omega arith)
+                (eqb entry mark) refl);
+          }
+        where
+          few-more : (b : Bool) → keeps + cond b 0 1 ≤ i + 1
+          few-more true = omega arith
+          few-more false = omega arith
+
+          small-more : (b : Bool) → cond b from (256 * entry) < 65536
+          small-more true = omega arith
+          small-more false = omega arith
+
+-- ---- where the loop begins and ends
+
+-- what the function hands back after all scans
+abbrev Ends : (mark : ℕ) → (table : List ℕ) → State → (output₀ judged₀ scans output judged : List ℕ) → (from keeps : ℕ) → Type 0
+Ends mark table s output₀ judged₀ scans output judged from keeps =
+    let run = followed mark table s scans in
+    (_≡_ {A = State} (record { equation = from / 256 }) (run .state))
+    × ((keeps ≡ length (run .kept)) × ((output ≡ overlay (run .kept) output₀) × (judged ≡ overlay (run .verdicts) judged₀)))
+
+module _ (mark : ℕ) (table : List ℕ) (s : State) (output₀ judged₀ scans : List ℕ) where
+  -- from the beginning of a row back to its equation
+  row-begin : 256 * s .equation / 256 ≡ s .equation
+  row-begin = mul-div-right (s .equation) (omega arith)
+
+  pub begins : s .equation < 256
+      → After mark table (record { equation = 256 * s .equation / 256 }) output₀ judged₀ scans output₀ judged₀ (256 * s .equation) 0 0
+  begins r = record {
+    inside = omega arith;
+    few = omega arith;
+    small = omega arith;
+    output-length = refl;
+    judged-length = refl;
+    has = record { from-is = rw row-begin; keeps-is = refl; output-is = refl; judged-is = refl };
+  }
+
+  pub ends : (output judged : List ℕ) (from keeps i : ℕ)
+      → After mark table (record { equation = 256 * s .equation / 256 }) output₀ judged₀ scans output judged from keeps i → length scans ≤ i
+      → Ends mark table s output₀ judged₀ scans output judged from keeps
+  ends output judged from keeps i h r =
+      let all = take-all i scans r in
+      let e = rw (row-begin, all) at (h .has) in
+      let row : from / 256 ≡ ended (following mark table) s scans .equation = rw (e .from-is) (mul-div-right _ (omega arith)) in
+      (ap (λ (n : ℕ). record { equation = n }) row, (e .keeps-is, (e .output-is, e .judged-is)))

@@ -1,0 +1,160 @@
+-- Well-formed tables: the test for them, their entries, and where a run on one ends.
+use Prim.Native.Nat.{ℕ, zero, suc, _+_, _*_, _/_, _%_, _≤_, _<_}
+use mathlib.Core.Path.{_≡_, refl, _∙_, ap}
+use mathlib.Core.Logic.{_↔_, _⊎_, inl, inr}
+use mathlib.Core.Bool.{Bool, true, false, _&&_, and-eq-true-iff}
+use mathlib.Core.List.{List, [], _∷_}
+use native.Mathlib.Decide.{decLt}
+use native.Mathlib.Nat.{div-add-mod, mod-lt}
+use native.Mathlib.Omega.{arith}
+use lib.Dec.{eqb, ltb, leb}
+use lib.ListN.{length, getD, take, drop, length-take, List·getD-eq-default}
+use lib.Seq.{length-take-le, getD-take, getD-drop}
+use borrow.Author.Tests.{eqb-true, eqb-false, ltb-true, lt-ltb, leb-true, le-leb}
+use Rattle.synthesis.specs.Monitor.{dropped, next, cases, ended}
+use Rattle.synthesis.specs.Table.{rowOf, meaning}
+use Rattle.synthesis.proofs.Rows.{row-is}
+use Rattle.synthesis.proofs.Runs.{run-induction}
+use Rattle.running.specs.Running.{following, inRange, entriesInRange, fits}
+use Rattle.running.specs.Promises.{WellFormedTable}
+use Rattle.running.specs.declared.State.{State}
+
+-- ---- the test of a table
+
+module _ (mark count : ℕ) where
+  -- an entry that is the mark or a number under the count
+  abbrev InRange : ℕ → Type 0
+  InRange x = (x ≡ mark) ⊎ (x < count)
+
+  in-range : (x : ℕ) → (inRange mark count x ≡ true) ↔ InRange x
+  in-range x = on (eqb x mark) refl
+    where
+      on : (b : Bool) → eqb x mark ≡ b → (inRange mark count x ≡ true) ↔ InRange x
+      on true q = (λ e. inl (eqb-true x mark q), λ h. rw q)
+      on false q = (λ e. inr (ltb-true x count (rw q at e)), λ h. rw q (under h))
+        where
+          under : InRange x → ltb x count ≡ true
+          under (inl z) = absurd (eqb-false x mark q z)
+          under (inr h) = lt-ltb x count h
+
+  -- a list is in range where each of its elements is
+  all-in-range : (l : List ℕ) → (entriesInRange mark count l ≡ true) ↔ ((i : ℕ) → i < length l → InRange (getD l i 0))
+  unfolding entriesInRange
+  all-in-range [] = (λ e i h. absurd (omega arith), λ h. refl)
+  all-in-range (x ∷ l) = (
+    λ e. each (both .0 e) (all-in-range l .0),
+    λ h. both .1 (in-range x .1 (h 0 (omega arith)), all-in-range l .1 (λ i b. h (suc i) (omega arith))),
+  )
+    where
+      both : ((inRange mark count x && entriesInRange mark count l) ≡ true) ↔ ((inRange mark count x ≡ true) × (entriesInRange mark count l ≡ true))
+      both = and-eq-true-iff (inRange mark count x) (entriesInRange mark count l)
+
+      each : (inRange mark count x ≡ true) × (entriesInRange mark count l ≡ true)
+          → (entriesInRange mark count l ≡ true → (i : ℕ) → i < length l → InRange (getD l i 0))
+          → (i : ℕ) → i < length (x ∷ l) → InRange (getD (x ∷ l) i 0)
+      each e rest zero h = in-range x .0 (e .0)
+      each e rest (suc i) h = rest (e .1) i (omega arith)
+
+module _ (limit mark : ℕ) (table : List ℕ) (count : ℕ) where
+  -- the entries by their place, and not by row and code
+  by-place : WellFormedTable limit mark count table → (i : ℕ) → i < 256 * count → InRange mark count (getD table i 0)
+  by-place wf i h =
+      let is : 256 * (i / 256) + i % 256 ≡ i = div-add-mod i 256 in
+      let code : i % 256 < 256 = mod-lt i (omega arith) in
+      rw is at (wf .range (i / 256) (i % 256) (omega arith) code)
+
+  module _ (s : State) where
+    -- what is left of the test after each of its parts
+    abbrev entries-fit : Bool
+    entries-fit = entriesInRange mark count (take (256 * count) table)
+
+    abbrev rows-fit : Bool
+    rows-fit = leb (256 * count) (length table) && entries-fit
+
+    abbrev state-fits : Bool
+    state-fits = ltb (s .equation) count && rows-fit
+
+    pub fits-well : fits limit mark table count s ≡ true → WellFormedTable limit mark count table × (s .equation < count)
+    unfolding fits
+    fits-well e =
+        let one = and-eq-true-iff (leb 1 count) (leb count limit && state-fits) .0 e in
+        let two = and-eq-true-iff (leb count limit) state-fits .0 (one .1) in
+        let three = and-eq-true-iff (ltb (s .equation) count) rows-fit .0 (two .1) in
+        let four = and-eq-true-iff (leb (256 * count) (length table)) entries-fit .0 (three .1) in
+        let room : 256 * count ≤ length table = leb-true (256 * count) (length table) (four .0) in
+        let long : length (take (256 * count) table) ≡ 256 * count = length-take-le (256 * count) table room in
+        let each = all-in-range mark count (take (256 * count) table) .0 (four .1) in (
+          record {
+            some = leb-true 1 count (one .0);
+            few = leb-true count limit (two .0);
+            room = room;
+            range = λ k c h b. rw (getD-take (256 * count) table (256 * k + c) 0 (omega arith)) at (each (256 * k + c) (omega arith));
+          },
+          ltb-true (s .equation) count (three .0),
+        )
+
+    pub well-fits : WellFormedTable limit mark count table → s .equation < count → fits limit mark table count s ≡ true
+    unfolding fits
+    well-fits wf inside =
+        let long : length (take (256 * count) table) ≡ 256 * count = length-take-le (256 * count) table (wf .room) in
+        rw (
+          le-leb 1 count (wf .some),
+          le-leb count limit (wf .few),
+          lt-ltb (s .equation) count inside,
+          le-leb (256 * count) (length table) (wf .room),
+        )
+        (all-in-range mark count (take (256 * count) table) .1
+        (λ i h. rw (getD-take (256 * count) table i 0 (omega arith)) (by-place wf i (omega arith))))
+
+-- ---- the entries of a well-formed table
+
+-- an element, whatever stands for a missing one
+getD-inside : (l : List ℕ) (i d d′ : ℕ) → i < length l → getD l i d ≡ getD l i d′
+getD-inside [] i d d′ h = absurd (omega arith)
+getD-inside (x ∷ l) zero d d′ h = refl
+getD-inside (x ∷ l) (suc i) d d′ h = getD-inside l i d d′ (omega arith)
+
+-- a row's entry by its place in the table
+pub row-at : (table : List ℕ) (k c d : ℕ) → 256 * k + 256 ≤ length table → c < 256 → getD (rowOf 256 table k) c d ≡ getD table (256 * k + c) 0
+row-at table k c d room b =
+    ap (λ (l : List ℕ). getD l c d) (row-is 256 table k room)
+    ∙ (getD-take 256 (drop (256 * k) table) c d b
+    ∙ (getD-drop (256 * k) table c d
+    ∙ getD-inside table (256 * k + c) d 0 (omega arith)))
+
+module _ (limit mark count : ℕ) (table : List ℕ) (wf : WellFormedTable limit mark count table) where
+  row-inside : (k : ℕ) → k < count → 256 * k + 256 ≤ length table
+  row-inside k h = omega (arith, wf .room)
+
+  pub following-is : (s : State) (c : ℕ) → s .equation < count → c < 256
+      → following mark table s c ≡ cases (meaning mark (getD table (256 * (s .equation) + c) 0)) dropped (λ e. next (record { equation = e }))
+  following-is s c h b = rw (row-at table (s .equation) c mark (row-inside (s .equation) h) b)
+
+  -- every scan has an entry in range, also one that isn't a byte
+  entry-range : (k c : ℕ) → k < count → InRange mark count (getD (rowOf 256 table k) c mark)
+  entry-range k c h = on (decLt c 256)
+    where
+      on : Dec (c < 256) → InRange mark count (getD (rowOf 256 table k) c mark)
+      on (yes b) = rw (row-at table k c mark (row-inside k h) b) (wf .range k c h b)
+      on (no b) =
+          inl (List·getD-eq-default (rowOf 256 table k) mark
+          (rw (row-is 256 table k (row-inside k h), length-take 256 (drop (256 * k) table)) (omega arith)))
+
+  next-inside : (s s′ : State) (c : ℕ) → s .equation < count → following mark table s c ≡ next s′ → s′ .equation < count
+  next-inside s s′ c h e = on (eqb x mark) refl (entry-range (s .equation) c h)
+    where
+      x : ℕ
+      x = getD (rowOf 256 table (s .equation)) c mark
+
+      on : (b : Bool) → eqb x mark ≡ b → InRange mark count x → s′ .equation < count
+      on true q r = let z : dropped ≡ next s′ = rw q at e in let y : _≡_ {A = ℕ} 0 1 = cc in absurd (omega arith)
+      on false q (inl z) = absurd (eqb-false x mark q z)
+      on false q (inr l) =
+          let z : next (record { equation = x }) ≡ next s′ = rw q at e in
+          let is : _≡_ {A = State} (record { equation = x }) s′ = cc in
+          omega (arith, ap (λ (s : State). s .equation) is)
+
+  pub ends-inside : (s : State) (scans : List ℕ) → s .equation < count → ended (following mark table) s scans .equation < count
+  ends-inside =
+      run-induction (following mark table) (λ s w. s .equation < count → ended (following mark table) s w .equation < count) (λ s h. h)
+      (λ s c w q ih h. rw q (ih h)) (λ s s′ c w q ih h. rw q (ih (next-inside s s′ c h q)))

@@ -1,0 +1,73 @@
+-- `run` meets its contract.
+use native.Mathlib.Omega.{arith}
+use borrow.Author.Needs.{needs}
+use lib.ListN.{length}
+use Rattle.running.specs.Running.{following, runOf}
+use Rattle.running.proofs.Counting.{kept-dropped}
+use Rattle.running.proofs.Outcomes.{Passed, passed, refused-leaves, accepted-leaves}
+use Rattle.running.proofs.run.Statement.{statement}
+use Rattle.running.proofs.run.Tie as tie
+
+-- what a run that isn't refused has passed
+fit : (c : tie.After-enum-told) → let x = c .before .before .before .before .before .before .before .args in
+    Passed 128 255 (x .table .now) (x .count) (x .state) (x .scans .now) (length (x .output .now)) (length (x .verdicts .now))
+fit c =
+    let x = c .before .before .before .before .before .before .before .args in
+    passed 128 255 (x .table .now) (x .count) (x .state) (x .scans .now) (length (x .output .now)) (length (x .verdicts .now))
+    (c .before .before .check .ensures) (c .enum-told .given .1)
+
+check-requires : tie.Need-check-requires
+check-requires c κs = search needs
+
+enum-told : tie.Need-enum-told
+enum-told c = search needs
+
+enum-told-2 : tie.Need-enum-told-2
+enum-told-2 c = search needs
+
+returns : tie.Need-returns
+returns c =
+    let x = c .before .before .before .before .before .before .before .args in
+    refused-leaves (x .state)
+    (runOf 128 255 (x .table .now) (x .count) (x .state) (x .scans .now) (length (x .output .now)) (length (x .verdicts .now)))
+    (c .before .before .check .ensures) (c .enum-told2 .given .1) (x .output .now) (x .verdicts .now)
+
+follow-requires : tie.Need-follow-requires
+follow-requires c κs =
+    let f = fit (c .before .before) in
+    (f .below, f .output-room, f .verdicts-room)
+
+sub-t11 : tie.Need-sub-t11
+sub-t11 c =
+    let f = c .before .before .before .before .before .before in
+    let x = f .before .before .before .before .before .before .before .before .before .before .args in
+    omega (arith, f .follow .ensures .1 .0, kept-dropped (following 255 (x .table .now)) (x .state) (x .scans .now))
+
+same-length : tie.Need-same-length
+same-length c = search needs
+
+same-length-2 : tie.Need-same-length-2
+same-length-2 c = search needs
+
+returns-2 : tie.Need-returns-2
+returns-2 c =
+    let f = c .before .before .before .before .before .before in
+    let t = f .before .before .before in
+    let x = t .before .before .before .before .before .before .before .args in
+    let e = f .follow .ensures in
+    accepted-leaves 255 (x .table .now) (x .state) (x .scans .now) (fit t .is) (t .enum-told .given .1) (e .0) (e .1 .0)
+    (x .output .now) (x .verdicts .now) (e .1 .1 .0) (e .1 .1 .1)
+
+pub run-spec : {M : Type 1} → statement M
+run-spec =
+    tie.close
+    (tie.spec
+    check-requires
+    enum-told
+    enum-told-2
+    returns
+    follow-requires
+    sub-t11
+    same-length
+    same-length-2
+    returns-2)

@@ -1,0 +1,74 @@
+-- Calls of a run one after the other, each with the state that the last one handed back, and what their caller then has.
+use Prim.Native.Nat.{ℕ}
+use mathlib.Core.Path.{_≡_}
+use mathlib.Core.Logic.{_⊎_}
+use mathlib.Core.Bool.{cond}
+use mathlib.Core.List.{List, [], _∷_, _++_}
+use lib.Dec.{eqb}
+use lib.ListN.{length, take}
+use Rattle.reading.specs.Rule.{Bytes}
+use Rattle.reading.specs.Outcome.{Outcome, refused}
+use Rattle.running.specs.Running.{start, Run, runOf, ranOf, outputAfter, verdictsAfter}
+use Rattle.running.specs.declared.State.{State}
+use Rattle.running.specs.declared.Checked.{Checked}
+use Rattle.running.specs.declared.Checked.the-variants.{Fit, Refused}
+
+-- what a call is handed beside the state; the buffers as they were before it
+pub record Call : Type 0 where
+  pub table : List ℕ
+  pub count : ℕ
+  pub scans : List ℕ
+  pub output : List ℕ
+  pub verdicts : List ℕ
+
+-- what a caller has: the state, the scans of the calls that weren't refused, and the kept scans and the verdicts, read from the buffers
+pub record History : Type 0 where
+  pub state : State
+  pub scans : List ℕ
+  pub kept : List ℕ
+  pub verdicts : List ℕ
+
+-- before the first call
+abbrev pub noCalls : History
+noCalls = record { state = start; scans = []; kept = []; verdicts = [] }
+
+-- the scans that a call with this answer has taken
+abbrev pub taken : Checked → (scans : List ℕ) → List ℕ
+taken Fit scans = scans
+taken (Refused number place) scans = []
+
+-- the outcome of a call after others
+abbrev pub outcomeOf : (limit mark : ℕ) → History → Call → Outcome Run
+outcomeOf limit mark h c = runOf limit mark (c .table) (c .count) (h .state) (c .scans) (length (c .output)) (length (c .verdicts))
+
+-- what the caller has after one more call: as many bytes from the front of each buffer as were written to it
+abbrev pub withOutcome : History → Call → Outcome Run → History
+withOutcome h c outcome =
+    let ran = ranOf (h .state) outcome in
+    let scans = taken (ran .checked) (c .scans) in
+    record {
+      state = ran .state;
+      scans = h .scans ++ scans;
+      kept = h .kept ++ take (ran .kept) (outputAfter outcome (c .output));
+      verdicts = h .verdicts ++ take (length scans) (verdictsAfter outcome (c .verdicts));
+    }
+
+abbrev pub withCall : (limit mark : ℕ) → History → Call → History
+withCall limit mark h c = withOutcome h c (outcomeOf limit mark h c)
+
+-- What a caller has after any number of calls, each of them of a kind or else refused. Their scans are bytes.
+pub data Calls (limit mark : ℕ) (Kind : Call → Type 0) : History → Type 0 where
+  none : Calls limit mark Kind noCalls
+  call : (h : History) (c : Call) → Calls limit mark Kind h → Bytes (c .scans)
+      → Kind c ⊎ ((number place : ℕ) × (outcomeOf limit mark h c ≡ refused number place)) → Calls limit mark Kind (withCall limit mark h c)
+
+-- calls on one table, with its count of equations
+pub record OnTable (table : List ℕ) (count : ℕ) (c : Call) : Type 0 where
+  pub same-table : c .table ≡ table
+  pub same-count : c .count ≡ count
+
+-- the scans that have this verdict
+unfoldable pub withVerdict : (verdict : ℕ) → (verdicts scans : List ℕ) → List ℕ
+withVerdict x [] scans = []
+withVerdict x (v ∷ vs) [] = []
+withVerdict x (v ∷ vs) (c ∷ cs) = cond (eqb v x) (c ∷ withVerdict x vs cs) (withVerdict x vs cs)

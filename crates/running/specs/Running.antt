@@ -1,0 +1,105 @@
+-- A run over scans, on any table: when it is refused, and else what it keeps, judges and leaves. The limit on equations and the mark for
+-- dropped are any; the paper's are 128 and 255.
+use Prim.Native.Nat.{ℕ, suc, _*_}
+use mathlib.Core.Bool.{Bool, true, not, cond, _&&_, _||_}
+use mathlib.Core.List.{List, [], _∷_, _++_}
+use lib.Dec.{eqb, ltb, leb}
+use lib.ListN.{length, take, drop}
+use Rattle.reading.specs.Outcome.{Outcome, accepted, refused, refuse}
+use Rattle.synthesis.specs.Monitor.{Answer, dropped, next, cases, kept, verdicts, ended}
+use Rattle.synthesis.specs.Table.{entry}
+use Rattle.running.specs.declared.State.{State}
+use Rattle.running.specs.declared.Checked.{Checked}
+use Rattle.running.specs.declared.Checked.the-variants.{Fit, Refused}
+use Rattle.running.specs.declared.Ran.{Ran}
+
+-- ---- one scan
+
+-- the state in which every run begins
+abbrev pub start : State
+start = record { equation = 0 }
+
+-- What a table answers to a scan in a state: the entry of the state's equation for its code.
+abbrev pub following : (mark : ℕ) → (table : List ℕ) → State → ℕ → Answer State
+following mark table s c = cases (entry 256 mark table (s .equation) c) dropped (λ e. next (record { equation = e }))
+
+-- ---- refusals
+
+-- an entry is the mark for dropped, or the number of an equation
+abbrev pub inRange : (mark count : ℕ) → ℕ → Bool
+inRange mark count x = eqb x mark || ltb x count
+
+unfoldable pub entriesInRange : (mark count : ℕ) → List ℕ → Bool
+entriesInRange mark count [] = true
+entriesInRange mark count (x ∷ xs) = inRange mark count x && entriesInRange mark count xs
+
+-- There are 1 to `limit` equations, the state's is one of them, and their rows are inside the table, with each entry in range.
+unfoldable pub fits : (limit mark : ℕ) → (table : List ℕ) → (count : ℕ) → State → Bool
+fits limit mark table count s =
+    leb 1 count
+    && (leb count limit
+    && (ltb (s .equation) count
+    && (leb (256 * count) (length table)
+    && entriesInRange mark count (take (256 * count) table))))
+
+-- an output and verdicts of these sizes have room for every scan
+abbrev pub roomy : (scans : List ℕ) → (output verdicts : ℕ) → Bool
+roomy scans output verdicts = leb (length scans) output && leb (length scans) verdicts
+
+-- ---- the run
+
+-- the state in which a run ends, the scans that it keeps, and its verdict on each scan
+pub record Run : Type 0 where
+  pub state : State
+  pub kept : List ℕ
+  pub verdicts : List ℕ
+
+abbrev pub followed : (mark : ℕ) → (table : List ℕ) → State → (scans : List ℕ) → Run
+followed mark table s scans = record {
+  state = ended (following mark table) s scans;
+  kept = kept (following mark table) s scans;
+  verdicts = verdicts (following mark table) s scans;
+}
+
+-- with an output and verdicts of these sizes: 15 comes before 16
+unfoldable pub runOf : (limit mark : ℕ) → (table : List ℕ) → (count : ℕ) → State → (scans : List ℕ) → (output verdicts : ℕ) → Outcome Run
+runOf limit mark table count s scans output verdicts =
+    refuse (not (roomy scans output verdicts)) 15 0
+    (refuse (not (fits limit mark table count s)) 16 0
+    (accepted (followed mark table s scans)))
+
+-- ---- what is handed back, and what is left in the buffers
+
+-- The answer of each outcome: fit, or the refusal with the paper's number and place.
+abbrev pub checkedOf : Outcome Run → Checked
+checkedOf (accepted y) = Fit
+checkedOf (refused number place) = Refused number place
+
+-- how often a number stands in a list
+unfoldable pub occurrences : ℕ → List ℕ → ℕ
+occurrences x [] = 0
+occurrences x (y ∷ ys) = cond (eqb y x) (suc (occurrences x ys)) (occurrences x ys)
+
+-- what a run from the state s hands back; a refused one, that state and counts of 0
+abbrev pub ranOf : State → Outcome Run → Ran
+ranOf s (accepted y) = record { checked = Fit; state = y .state; kept = length (y .kept); dropped = occurrences 1 (y .verdicts) }
+ranOf s (refused number place) = record { checked = Refused number place; state = s; kept = 0; dropped = 0 }
+
+-- the scans that a run keeps and the verdicts that it gives; a refused one, none
+abbrev pub keptOf : Outcome Run → List ℕ
+keptOf (accepted y) = y .kept
+keptOf (refused number place) = []
+
+abbrev pub verdictsOf : Outcome Run → List ℕ
+verdictsOf (accepted y) = y .verdicts
+verdictsOf (refused number place) = []
+
+-- a buffer with a list over its front, and all other bytes as they were
+abbrev pub overlay : (front buffer : List ℕ) → List ℕ
+overlay front buffer = front ++ drop (length front) buffer
+
+abbrev pub outputAfter : Outcome Run → List ℕ → List ℕ
+outputAfter outcome output = overlay (keptOf outcome) output
+
+abbrev pub verdictsAfter : Outcome Run → List ℕ → List ℕ
+verdictsAfter outcome verdicts = overlay (verdictsOf outcome) verdicts

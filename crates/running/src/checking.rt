@@ -1,0 +1,80 @@
+// Refusals 15 and 16.
+use crate::Checked;
+use crate::State;
+use synthesis::DROPPED;
+ghost use mathlib.Core.Path.{_≡_};
+ghost use Rattle.running.specs.Running.{inRange, entriesInRange, fits, roomy, runOf, checkedOf};
+
+// Whether an entry is the mark for dropped or the number of an equation.
+fn in_range(entry: u8, count: u8) -> bool
+    ensures { λ r. ⌜ r ≡ inRange 255 count entry ⌝ }
+{
+    if entry == DROPPED {
+        return true;
+    }
+    entry < count
+}
+
+// Whether all entries are in range. There is no way out before the last, so that many can be looked at in one step.
+fn entries_in_range(entries: &[u8], count: u8) -> bool
+    ensures { λ r. ⌜ r ≡ entriesInRange 255 count (now (entries .entry)) ⌝ }
+{
+    let mut all = true;
+    let mut i = 0;
+    while i < entries.len() {
+        let is_in = in_range(entries[i], count);
+        all = all & is_in;
+        i += 1;
+    }
+    all
+}
+
+// Whether the table has well-formed rows for `count` equations, and the state is one of these.
+fn fits(table: &[u8], count: usize, state: State) -> bool
+    ensures { λ r. ⌜ r ≡ fits 128 255 (now (table .entry)) count state ⌝ }
+{
+    if count == 0 {
+        return false;
+    }
+    if 128 < count {
+        return false;
+    }
+    if count <= state.equation {
+        return false;
+    }
+    let end = 256 * count;
+    if table.len() < end {
+        return false;
+    }
+    entries_in_range(&table[..end], count as u8)
+}
+
+// Whether an output and verdicts of these lengths have room for every scan.
+fn is_roomy(scans: &[u8], output: usize, verdicts: usize) -> bool
+    ensures { λ r. ⌜ r ≡ roomy (now (scans .entry)) output verdicts ⌝ }
+{
+    if output < scans.len() {
+        return false;
+    }
+    scans.len() <= verdicts
+}
+
+// Whether a run is refused: 15 comes before 16.
+pub(crate) fn check(
+    table: &[u8],
+    count: usize,
+    state: State,
+    scans: &[u8],
+    output: usize,
+    verdicts: usize,
+) -> Checked
+    ensures { λ r. ⌜ r ≡ checkedOf (runOf 128 255 (now (table .entry)) count state (now (scans .entry)) output verdicts) ⌝ }
+{
+    if !is_roomy(scans, output, verdicts) {
+        return Checked::Refused(15, 0);
+    }
+    if !fits(table, count, state) {
+        return Checked::Refused(16, 0);
+    }
+    Checked::Fit
+}

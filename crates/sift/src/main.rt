@@ -1,0 +1,4 @@
+// Writes the scans of standard input that the rule in rule.bin keeps.
+fn main() {
+    commands::sift();
+}
