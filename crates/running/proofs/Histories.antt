@@ -1,7 +1,7 @@
 -- What a caller has after any number of calls: induction over them, and that calls on one table are one run over all their scans.
 use Prim.Native.Nat.{ℕ, _<_}
 use mathlib.Core.Path.{_≡_, refl, sym, _∙_, ap, subst}
-use mathlib.Core.Logic.{_⊎_, inl, inr}
+use mathlib.Core.Logic.{_⊎_, inl, inr, ⊎-map}
 use mathlib.Core.List.{List, _++_, append-nil}
 use lib.ListN.{length, drop, take}
 use lib.Seq.{take-append-seam, take-at}
@@ -62,6 +62,15 @@ calls-induction limit mark Kind P first more h (call before c calls bytes kind) 
         (λ r f k. subst P (sym (with-refused before c 16 0)) p)
         (λ r f k. subst P (sym (with-fit mark before c)) (more before c p bytes (of-kind k)))
         kind
+
+-- ---- kinds of calls
+
+-- calls of a kind are of any kind that holds wherever it does
+pub calls-of-kind : (limit mark : ℕ) {Kind Kind′ : Call → Type 0} → ((c : Call) → Kind c → Kind′ c)
+    → (h : History) → Calls limit mark Kind h → Calls limit mark Kind′ h
+calls-of-kind limit mark wider h none = none
+calls-of-kind limit mark wider h (call before c calls bytes kind) =
+    call before c (calls-of-kind limit mark wider before calls) bytes (⊎-map (wider c) (λ e. e) kind)
 
 -- ---- calls on one table
 

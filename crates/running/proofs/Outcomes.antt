@@ -1,6 +1,6 @@
 -- What a run that isn't refused has passed, and what each outcome leaves.
 use Prim.Native.Nat.{ℕ, _-_, _≤_, _<_}
-use mathlib.Core.Path.{_≡_, refl, sym, _∙_}
+use mathlib.Core.Path.{_≡_, refl, sym, _∙_, ap}
 use mathlib.Core.Bool.{true}
 use mathlib.Core.List.{List}
 use native.Mathlib.Omega.{arith}
@@ -48,6 +48,13 @@ module _ (limit mark : ℕ) (table : List ℕ) (count : ℕ) (s : State) (scans 
         below = omega (arith, well .0 .few, well .1);
         is = run-fit limit mark table count s scans output verdicts (test .0) (test .1);
       }
+
+  -- refused or not, the output has room for what is kept
+  pub kept-room : {ran : Ran} → ran ≡ ranOf s (runOf limit mark table count s scans output verdicts) → ran .kept ≤ output
+  kept-room e =
+      rw (ap (λ (r : Ran). r .kept) e)
+      (run-cases limit mark table count s scans output verdicts (λ o. ranOf s o .kept ≤ output) (λ r. omega arith) (λ r f. omega arith)
+      (λ r f. omega (arith, roomy-room scans output verdicts r .0, kept-dropped (following mark table) s scans)))
 
 -- ---- what a run hands back, and what it leaves in the buffers
 

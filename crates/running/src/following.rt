@@ -65,11 +65,12 @@ pub(crate) fn follow(
         let code = scans[i];
         let entry = entry(table, from / 256, code);
         let is_dropped = entry == DROPPED as usize;
+        from = either(is_dropped, from, 256 * entry);
+        verdicts[i] = either_byte(is_dropped, 1, 0);
         let before = output[kept];
         output[kept] = either_byte(is_dropped, before, code);
-        verdicts[i] = either_byte(is_dropped, 1, 0);
-        from = either(is_dropped, from, 256 * entry);
-        kept += either(is_dropped, 0, 1);
+        let is_kept = entry < DROPPED as usize;
+        kept += either(is_kept, 1, 0);
         i += 1;
     }
     let state = State {

@@ -1,9 +1,10 @@
 -- `following::follow` meets its contract. What the loop has is right for the scans so far; the measure is how many are left.
 use Prim.Native.Nat.{_-_, _/_}
+use mathlib.Core.Path.{_∙_}
 use native.Mathlib.Omega.{arith}
 use borrow.Author.Needs.{needs}
 use lib.ListN.{length}
-use Rattle.running.proofs.Stepping.{After, one-more, begins, ends}
+use Rattle.running.proofs.Stepping.{After, one-more, begins, ends, below-mark}
 use Rattle.running.proofs.following.follow.Statement.{statement}
 use Rattle.running.proofs.following.follow.Tie as tie
 
@@ -31,26 +32,29 @@ entry-requires c κs = search needs
 cast-is-dropped : tie.Need-cast-is-dropped Inv-loop μ-loop
 cast-is-dropped c = search needs
 
-slice-read-before : tie.Need-slice-read-before Inv-loop μ-loop
-slice-read-before c = search needs
-
-either-byte-requires : tie.Need-either-byte-requires Inv-loop μ-loop
-either-byte-requires c κs = search needs
-
-slice-write-output : tie.Need-slice-write-output Inv-loop μ-loop
-slice-write-output c = search needs
-
-either-byte-requires-2 : tie.Need-either-byte-requires-2 Inv-loop μ-loop
-either-byte-requires-2 c κs = search needs
-
-slice-write-verdicts : tie.Need-slice-write-verdicts Inv-loop μ-loop
-slice-write-verdicts c = search needs
-
 mul-either : tie.Need-mul-either Inv-loop μ-loop
 mul-either c = search needs
 
 either-requires : tie.Need-either-requires Inv-loop μ-loop
 either-requires c κs = search needs
+
+either-byte-requires : tie.Need-either-byte-requires Inv-loop μ-loop
+either-byte-requires c κs = search needs
+
+slice-write-verdicts : tie.Need-slice-write-verdicts Inv-loop μ-loop
+slice-write-verdicts c = search needs
+
+slice-read-before : tie.Need-slice-read-before Inv-loop μ-loop
+slice-read-before c = search needs
+
+either-byte-requires-2 : tie.Need-either-byte-requires-2 Inv-loop μ-loop
+either-byte-requires-2 c κs = search needs
+
+slice-write-output : tie.Need-slice-write-output Inv-loop μ-loop
+slice-write-output c = search needs
+
+cast-is-kept : tie.Need-cast-is-kept Inv-loop μ-loop
+cast-is-kept c = search needs
 
 either-requires-2 : tie.Need-either-requires-2 Inv-loop μ-loop
 either-requires-2 c κs = search needs
@@ -63,13 +67,14 @@ loop-less c = search needs
 
 loop-again : tie.Need-loop-again Inv-loop μ-loop
 loop-again c =
-    let byte = c .before .before .before in
-    let e = byte .before .before in
+    let verdict = c .before .before .before in
+    let e = verdict .before .before in
     let l = e .before .before .before in
     let start = l .before .before .before .before .before .before in
     one-more 255 _ _ _ _ _ _ _ _ _ _ (l .loop .inv) (e .before .before .loop-test .taken) (start .pre .1) (start .pre .2)
     _ (e .entry .ensures .1) (e .entry .ensures .0)
-    (byte .either-byte .ensures) (c .before .before .either-byte2 .ensures) (c .before .either .ensures) (c .either2 .ensures)
+    (c .before .either-byte2 .ensures) (verdict .either-byte .ensures) (verdict .before .either .ensures)
+    (c .either2 .ensures ∙ below-mark 255 (e .entry .result) (omega (arith, e .entry .ensures .1)))
 
 add-kept : tie.Need-add-kept Inv-loop μ-loop
 add-kept c = omega (arith, loop-again c .few)
@@ -97,13 +102,14 @@ follow-spec =
     shared-slice-read-code
     entry-requires
     cast-is-dropped
-    slice-read-before
-    either-byte-requires
-    slice-write-output
-    either-byte-requires-2
-    slice-write-verdicts
     mul-either
     either-requires
+    either-byte-requires
+    slice-write-verdicts
+    slice-read-before
+    either-byte-requires-2
+    slice-write-output
+    cast-is-kept
     either-requires-2
     add-kept
     add-i

@@ -1,0 +1,55 @@
+-- `sift_block` meets its contract: what the run keeps has room in the output.
+use Prim.Native.Nat.{_≤_, _<_}
+use native.Mathlib.Omega.{arith}
+use lib.ListN.{length}
+use borrow.Author.Needs.{needs}
+use Rattle.io.proofs.Counting.{front}
+use Rattle.reading.proofs.AllLaws.{all-of}
+use Rattle.running.proofs.Outcomes.{kept-room}
+use Rattle.commands.proofs.sifting.sift_block.Statement.{statement}
+use Rattle.commands.proofs.sifting.sift_block.Tie as tie
+
+room : (c : tie.After-run) →
+    c .run .result .kept ≤ length (c .before .before .before .before .before .before .before .args .output .now)
+room c =
+    let x = c .before .before .before .before .before .before .before .args in
+    kept-room 128 255 (x .table .now) (x .count) (x .state) (x .scans .now) (length (x .output .now)) (length (x .verdicts .now))
+    (c .run .ensures .0)
+
+run-requires : tie.Need-run-requires
+run-requires c κs = search needs
+
+slice-reshare-prefix-write-all : tie.Need-slice-reshare-prefix-write-all
+slice-reshare-prefix-write-all c = omega (arith, room (c .before .before .before .before))
+
+slice-aggregate-write-all : tie.Need-slice-aggregate-write-all
+slice-aggregate-write-all c = front _ _ (slice-reshare-prefix-write-all (c .before))
+
+write-all-requires : tie.Need-write-all-requires
+write-all-requires c κs = search needs
+
+same-length : tie.Need-same-length
+same-length c = search needs
+
+same-length-2 : tie.Need-same-length-2
+same-length-2 c = search needs
+
+returns : tie.Need-returns
+returns c =
+    let run = c .before .before .before .before .before .before .before in
+    let known = run .before .before .before .before .before in (
+      all-of (λ b. b < 256) (known .before .before .args .scans .now) 0 (λ i h. omega (arith, known .shared-slice-known2 .given i)),
+      cc (run .run .ensures .0),
+    )
+
+pub sift-block-spec : {M : Type 1} → statement M
+sift-block-spec =
+    tie.close
+    (tie.spec
+    run-requires
+    slice-reshare-prefix-write-all
+    slice-aggregate-write-all
+    write-all-requires
+    same-length
+    same-length-2
+    returns)

@@ -1,0 +1,86 @@
+-- `sift_under` meets its contract: its calls are on the table that building leaves, and after a refusal there are none.
+use Prim.Native.Nat.{_<_}
+use mathlib.Core.Path.{sym, _∙_}
+use native.Mathlib.Omega.{arith}
+use lib.ListN.{length}
+use borrow.Author.Needs.{needs}
+use Rattle.reading.specs.Rule.{Bytes}
+use Rattle.reading.proofs.AllLaws.{all-of}
+use Rattle.synthesis.specs.Building.{buildingOf}
+use Rattle.running.specs.Calls.{noCalls, none}
+use Rattle.commands.proofs.SiftingLaws.{under-rule}
+use Rattle.commands.proofs.sifting.sift_under.Statement.{statement}
+use Rattle.commands.proofs.sifting.sift_under.Tie as tie
+
+bytes : (c : tie.After-build) → Bytes (c .before .before .before .before .args .file .now)
+bytes c =
+    let known = c .before .before .before in
+    all-of (λ b. b < 256) (known .before .args .file .now) 0 (λ i h. omega (arith, known .shared-slice-known .given i))
+
+build-requires : tie.Need-build-requires
+build-requires c κs = search needs
+
+enum-known-answer : tie.Need-enum-known-answer
+enum-known-answer c = search needs
+
+sift-all-requires : tie.Need-sift-all-requires
+sift-all-requires c κs = search needs
+
+enum-known-answer-2 : tie.Need-enum-known-answer-2
+enum-known-answer-2 c = search needs
+
+refusal-line-requires : tie.Need-refusal-line-requires
+refusal-line-requires c κs = search needs
+
+print-line-requires : tie.Need-print-line-requires
+print-line-requires c κs = search needs
+
+start-requires : tie.Need-start-requires
+start-requires c κs = search needs
+
+same-length : tie.Need-same-length
+same-length c = search needs
+
+returns : tie.Need-returns
+returns c =
+    let told = c .before .before .before in
+    let built = told .before .before .before .before in
+    let x = built .before .before .before .before .args in
+    let answer = sym (told .answer .given .1) ∙ built .build .ensures .0 in (
+      bytes built,
+      record {
+        answer = answer;
+        state = under-rule (buildingOf 128 (x .file .now) (length (x .table .now))) (x .table .now) (told .answer .given .0 .0)
+            (built .build .ensures .1) (sym answer) (c .sift-all .ensures);
+      },
+    )
+
+same-length-2 : tie.Need-same-length-2
+same-length-2 c = search needs
+
+returns-2 : tie.Need-returns-2
+returns-2 c =
+    let told = c .before .before .before .before in
+    let built = told .before .before .before .before in (
+      bytes built,
+      record {
+        answer = sym (told .answer2 .given .1) ∙ built .build .ensures .0;
+        state = (noCalls, none, c .start .ensures);
+      },
+    )
+
+pub sift-under-spec : {M : Type 1} → statement M
+sift-under-spec =
+    tie.close
+    (tie.spec
+    build-requires
+    enum-known-answer
+    sift-all-requires
+    enum-known-answer-2
+    refusal-line-requires
+    print-line-requires
+    start-requires
+    same-length
+    returns
+    same-length-2
+    returns-2)
