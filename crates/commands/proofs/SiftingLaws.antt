@@ -1,5 +1,5 @@
 -- The calls that `sift` makes: one more on the same table, and that under an accepted rule they sift by it.
-use Prim.Native.Nat.{ℕ}
+use Prim.Native.Nat.{ℕ, _≤_}
 use mathlib.Core.Path.{_≡_, refl, ap, _∙_}
 use mathlib.Core.Logic.{inl}
 use mathlib.Core.List.{List}
@@ -10,31 +10,46 @@ use Rattle.reading.specs.Outcome.{Outcome}
 use Rattle.synthesis.specs.Building.{Synthesis, countedOf, tableAfter}
 use Rattle.synthesis.specs.declared.Counted.the-variants.{Equations}
 use Rattle.running.specs.Running.{runOf, ranOf}
-use Rattle.running.specs.Calls.{Call, withCall, call}
+use Rattle.running.specs.Calls.{Call, History, withCall, Calls, call, OnTableOrRefused}
+use Rattle.running.specs.Promises.{WellFormedTable}
 use Rattle.running.specs.declared.State.{State}
-use Rattle.running.proofs.Histories.{calls-of-kind}
+use Rattle.running.proofs.Refusals.{runs-on-tables}
+use Rattle.running.proofs.Histories.{calls-weaken, one-run}
 use Rattle.running.proofs.DemandTwo.{drops-exactly}
-use Rattle.commands.specs.Sifting.{EndsCalls, EndsCallsOn, UnderRule}
+use Rattle.commands.specs.Sifting.{EndsCalls, FitOn, EndsCallsOn, UnderRule}
 use Rattle.commands.specs.Promises.{SiftsByRule}
 
--- one more call on the table
-pub ends-call : (table : List ℕ) (count : ℕ) (s : State) (scans output verdicts : List ℕ) {s′ : State} → Bytes scans
+-- fit calls on a table are calls on it
+fit-on : (table : List ℕ) (count : ℕ) (h : History) → Calls 128 255 (FitOn table count) h
+    → Calls 128 255 (OnTableOrRefused 128 255 table count) h
+fit-on table count = calls-weaken 128 255 (λ h c may. inl (may .on))
+
+-- One more call on a well-formed table, with room for its scans: it isn't refused.
+pub ends-call : (table : List ℕ) (count : ℕ) (s : State) (scans output verdicts : List ℕ) {s′ : State} → WellFormedTable 128 255 count table
+    → length scans ≤ length output → length scans ≤ length verdicts → Bytes scans
     → s′ ≡ ranOf s (runOf 128 255 table count s scans (length output) (length verdicts)) .state
     → EndsCallsOn table count s → EndsCallsOn table count s′
-ends-call table count s scans output verdicts bytes e (h, calls, same) =
-    let c : Call = record { table = table; count = count; scans = scans; output = output; verdicts = verdicts } in (
+ends-call table count s scans output verdicts wf ro rv bytes e (h, calls, same) =
+    let c : Call = record { table = table; count = count; scans = scans; output = output; verdicts = verdicts } in
+    let inside = one-run 128 255 count table wf h (fit-on table count h calls) .inside in
+    let fits = runs-on-tables 128 255 table count (h .state) scans (length output) (length verdicts) .follows ro rv wf inside in (
       withCall 128 255 h c,
-      call h c calls bytes (inl (record { same-table = refl; same-count = refl })),
+      call h c calls bytes (record { on = record { same-table = refl; same-count = refl }; fit = rw fits }),
       e ∙ ap (λ (s : State). ranOf s (runOf 128 255 table count s scans (length output) (length verdicts)) .state) same,
     )
 
 -- calls on the table that building leaves, with its count, are those that `sift` makes under the rule
 pub under-rule : (outcome : Outcome Synthesis) (table : List ℕ) (n : ℕ) {t : List ℕ} {s : State} → t ≡ tableAfter 255 outcome table
     → countedOf outcome ≡ Equations n → EndsCallsOn t n s → EndsCalls (UnderRule outcome table) s
-under-rule outcome table n same e (h, calls, ends) =
-    (h, calls-of-kind 128 255 (λ c on. record { same-table = on .same-table ∙ same; same-count = rw (on .same-count) e }) h calls, ends)
+under-rule outcome table n same e (h, calls, ends) = (
+  h,
+  calls-weaken 128 255
+      (λ h c may. record { same-table = may .on .same-table ∙ same; same-count = rw (may .on .same-count) e; fit = may .fit }) h calls,
+  ends,
+)
 
 pub sifts-by-rule : SiftsByRule
 sifts-by-rule s table r n bytes read e h calls =
     drops-exactly 128 255 s table r n (omega arith) bytes read e h
-    (calls-of-kind 128 255 (λ c under. record { same-table = under .same-table; same-count = let k = under .same-count in cc }) h calls)
+    (calls-weaken 128 255
+    (λ h c under. inl (record { same-table = under .same-table; same-count = let k = under .same-count in cc })) h calls)

@@ -6,23 +6,31 @@ use lib.ListN.{length}
 use Rattle.reading.specs.Outcome.{Outcome}
 use Rattle.synthesis.specs.Building.{Synthesis, buildingOf, countedOf, tableAfter}
 use Rattle.synthesis.specs.declared.Counted.the-variants.{Equations}
-use Rattle.running.specs.Calls.{Call, History, Calls, OnTable}
+use Rattle.running.specs.Running.{checkedOf}
+use Rattle.running.specs.Calls.{Call, History, outcomeOf, Calls, OnTable}
+use Rattle.running.specs.declared.Checked.the-variants.{Fit}
 use Rattle.running.specs.declared.State.{State}
 use Rattle.commands.specs.declared.SiftResult.{SiftResult}
 
--- a state in which some calls of this kind end
-abbrev pub EndsCalls : (Kind : Call → Type 0) → State → Type 0
-EndsCalls Kind s = (h : History) × Calls 128 255 Kind h × (s ≡ h .state)
+-- a state in which some such calls end
+abbrev pub EndsCalls : (May : History → Call → Type 0) → State → Type 0
+EndsCalls May s = (h : History) × Calls 128 255 May h × (s ≡ h .state)
+
+-- calls on one table, with its count of equations, that aren't refused
+pub record FitOn (table : List ℕ) (count : ℕ) (h : History) (c : Call) : Type 0 where
+  pub on : OnTable table count c
+  pub fit : checkedOf (outcomeOf 128 255 h c) ≡ Fit
 
 abbrev pub EndsCallsOn : (table : List ℕ) → (count : ℕ) → State → Type 0
-EndsCallsOn table count = EndsCalls (OnTable table count)
+EndsCallsOn table count = EndsCalls (FitOn table count)
 
--- calls on the table that building leaves, with the count that it answers; after a refusal there are none
-pub record UnderRule (outcome : Outcome Synthesis) (table : List ℕ) (c : Call) : Type 0 where
+-- calls on the table that building leaves, with the count that it answers, that aren't refused; where building refuses, there are none
+pub record UnderRule (outcome : Outcome Synthesis) (table : List ℕ) (h : History) (c : Call) : Type 0 where
   pub same-table : c .table ≡ tableAfter 255 outcome table
   pub same-count : countedOf outcome ≡ Equations (c .count)
+  pub fit : checkedOf (outcomeOf 128 255 h c) ≡ Fit
 
--- what `sift` hands back for a rule file and a table that it was built in
+-- what `sift` hands back for a rule file and the table in which its rows are built
 pub record Sifts (s table : List ℕ) (r : SiftResult) : Type 0 where
   pub answer : r .answer ≡ countedOf (buildingOf 128 s (length table))
   pub state : EndsCalls (UnderRule (buildingOf 128 s (length table)) table) (r .state)

@@ -8,10 +8,11 @@ use running::State;
 use synthesis::Counted;
 ghost use mathlib.Core.Path.{_≡_};
 ghost use mathlib.Core.List.{List};
-ghost use Prim.Native.Nat.{ℕ};
+ghost use Prim.Native.Nat.{ℕ, _≤_};
 ghost use lib.ListN.{length};
 ghost use Rattle.reading.specs.Rule.{Bytes};
 ghost use Rattle.running.specs.Running.{runOf, ranOf};
+ghost use Rattle.running.specs.Promises.{WellFormedTable};
 ghost use Rattle.commands.specs.Sifting.{EndsCallsOn, Sifts};
 
 // The state after a block of scans, and whether there may be more.
@@ -49,6 +50,8 @@ fn sift_some(
     output: &mut [u8],
     verdicts: &mut [u8],
 ) -> Turn
+    requires { ⌜ WellFormedTable 128 255 count (now table) ⌝ }
+    requires { ⌜ (length (now scans) ≤ length (now output)) × (length (now scans) ≤ length (now verdicts)) ⌝ }
     ensures { λ r. ⌜ (EndsCallsOn (now (table .entry)) count state → EndsCallsOn (now (table .entry)) count (r .state)) ⌝ }
 {
     let got = libc::read(STDIN_FILENO, scans);
@@ -64,6 +67,7 @@ fn sift_some(
 
 // Sifts all of standard input. The loop counts down from a number of turns that no input uses up, so that it ends.
 fn sift_all(table: &[u8], count: usize) -> State
+    requires { ⌜ WellFormedTable 128 255 count (now table) ⌝ }
     ensures { λ r. ⌜ EndsCallsOn (now (table .entry)) count r ⌝ }
 {
     let mut scans = io::large_buffer();

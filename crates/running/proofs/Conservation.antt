@@ -83,5 +83,5 @@ more-conserving mark h c before =
 
 pub calls-conserve : CallsConserve
 calls-conserve limit mark h calls =
-    calls-induction limit mark (λ c. Unit) Conserving (unfold occurrences withVerdict in record { one-each = refl; splits = λ x. refl })
-    (λ h c before bytes kind. more-conserving mark h c before) h calls .splits
+    calls-induction limit mark (λ h c. Unit) Conserving (unfold occurrences withVerdict in record { one-each = refl; splits = λ x. refl })
+    (λ h c before bytes may e. more-conserving mark h c before) h calls .splits

@@ -1,17 +1,18 @@
 -- What a caller has after any number of calls: induction over them, and that calls on one table are one run over all their scans.
 use Prim.Native.Nat.{ℕ, _<_}
 use mathlib.Core.Path.{_≡_, refl, sym, _∙_, ap, subst}
-use mathlib.Core.Logic.{_⊎_, inl, inr, ⊎-map}
+use mathlib.Core.Logic.{inl, inr}
 use mathlib.Core.List.{List, _++_, append-nil}
-use lib.ListN.{length, drop, take}
+use lib.ListN.{length, drop}
 use lib.Seq.{take-append-seam, take-at}
 use Rattle.reading.specs.Rule.{Bytes}
-use Rattle.reading.specs.Outcome.{Outcome, accepted, refused}
+use Rattle.reading.specs.Outcome.{accepted, refused}
 use Rattle.reading.proofs.AllLaws.{all-append}
 use Rattle.synthesis.specs.Monitor.{kept, verdicts, ended}
 use Rattle.synthesis.proofs.Runs.{kept-append, verdicts-append, ended-append, verdicts-length}
 use Rattle.running.specs.Running.{start, following, Run, followed}
-use Rattle.running.specs.Calls.{Call, History, noCalls, withOutcome, withCall, Calls, none, call, OnTable}
+use Rattle.running.specs.Calls.{Call, History, noCalls, outcomeOf, withOutcome, withCall, Calls, none, call}
+use Rattle.running.specs.Calls.{OnTable, OnTableOrRefused}
 use Rattle.running.specs.Promises.{WellFormedTable}
 use Rattle.running.specs.declared.State.{State}
 use Rattle.running.proofs.RunCases.{run-cases}
@@ -42,35 +43,30 @@ with-fit mark h c =
       take-at v (drop (length v) (c .verdicts)) (length (c .scans)) (verdicts-length F (h .state) (c .scans)),
     )
 
--- What holds before the first call, and after each run of the kind, holds after any number of calls.
-pub calls-induction : (limit mark : ℕ) (Kind : Call → Type 0) (P : History → Type 0) → P noCalls
-    → ((h : History) (c : Call) → P h → Bytes (c .scans) → Kind c → P (withRun mark h c))
-    → (h : History) → Calls limit mark Kind h → P h
-calls-induction limit mark Kind P first more h none = first
-calls-induction limit mark Kind P first more h (call before c calls bytes kind) =
-    step (calls-induction limit mark Kind P first more before calls)
+-- What holds before the first call, and after each run that may be made, holds after any number of calls.
+pub calls-induction : (limit mark : ℕ) (May : History → Call → Type 0) (P : History → Type 0) → P noCalls
+    → ((h : History) (c : Call) → P h → Bytes (c .scans) → May h c
+    → outcomeOf limit mark h c ≡ accepted (followed mark (c .table) (h .state) (c .scans)) → P (withRun mark h c))
+    → (h : History) → Calls limit mark May h → P h
+calls-induction limit mark May P first more h none = first
+calls-induction limit mark May P first more h (call before c calls bytes may) =
+    step (calls-induction limit mark May P first more before calls)
   where
-    of-kind : {y : Run} → Kind c ⊎ ((number place : ℕ) × (accepted y ≡ refused number place)) → Kind c
-    of-kind (inl k) = k
-    of-kind (inr e) = absurd (not-refused (e .2))
-
     step : P before → P (withCall limit mark before c)
     step p =
         run-cases limit mark (c .table) (c .count) (before .state) (c .scans) (length (c .output)) (length (c .verdicts))
-        (λ o. Kind c ⊎ ((number place : ℕ) × (o ≡ refused number place)) → P (withOutcome before c o))
-        (λ r k. subst P (sym (with-refused before c 15 0)) p)
-        (λ r f k. subst P (sym (with-refused before c 16 0)) p)
-        (λ r f k. subst P (sym (with-fit mark before c)) (more before c p bytes (of-kind k)))
-        kind
+        (λ o. outcomeOf limit mark before c ≡ o → P (withOutcome before c o))
+        (λ r e. subst P (sym (with-refused before c 15 0)) p)
+        (λ r f e. subst P (sym (with-refused before c 16 0)) p)
+        (λ r f e. subst P (sym (with-fit mark before c)) (more before c p bytes may e))
+        refl
 
--- ---- kinds of calls
-
--- calls of a kind are of any kind that holds wherever it does
-pub calls-of-kind : (limit mark : ℕ) {Kind Kind′ : Call → Type 0} → ((c : Call) → Kind c → Kind′ c)
-    → (h : History) → Calls limit mark Kind h → Calls limit mark Kind′ h
-calls-of-kind limit mark wider h none = none
-calls-of-kind limit mark wider h (call before c calls bytes kind) =
-    call before c (calls-of-kind limit mark wider before calls) bytes (⊎-map (wider c) (λ e. e) kind)
+-- calls that may be made under one condition may be under a weaker one
+pub calls-weaken : (limit mark : ℕ) {May May′ : History → Call → Type 0} → ((h : History) (c : Call) → May h c → May′ h c)
+    → (h : History) → Calls limit mark May h → Calls limit mark May′ h
+calls-weaken limit mark weaker h none = none
+calls-weaken limit mark weaker h (call before c calls bytes may) =
+    call before c (calls-weaken limit mark weaker before calls) bytes (weaker before c may)
 
 -- ---- calls on one table
 
@@ -97,7 +93,13 @@ module _ (limit mark count : ℕ) (table : List ℕ) (wf : WellFormedTable limit
         inside = ends-inside limit mark count table wf (h .state) w (before .inside);
       })
 
-  pub one-run : (h : History) → Calls limit mark (OnTable table count) h → OneRun mark table count h
+  pub one-run : (h : History) → Calls limit mark (OnTableOrRefused limit mark table count) h → OneRun mark table count h
   one-run =
-      calls-induction limit mark (OnTable table count) (OneRun mark table count)
-      (record { bytes = tt; state = refl; kept = refl; verdicts = refl; inside = wf .some }) one-more
+      calls-induction limit mark (OnTableOrRefused limit mark table count) (OneRun mark table count)
+      (record { bytes = tt; state = refl; kept = refl; verdicts = refl; inside = wf .some })
+      (λ h c before bytes may e. one-more h c before bytes (taken h c may e))
+    where
+      taken : (h : History) (c : Call) {y : Run} → OnTableOrRefused limit mark table count h c → outcomeOf limit mark h c ≡ accepted y
+          → OnTable table count c
+      taken h c (inl on) e = on
+      taken h c (inr refusal) e = absurd (not-refused (sym e ∙ refusal .2))

@@ -56,16 +56,19 @@ withOutcome h c outcome =
 abbrev pub withCall : (limit mark : ℕ) → History → Call → History
 withCall limit mark h c = withOutcome h c (outcomeOf limit mark h c)
 
--- What a caller has after any number of calls, each of them of a kind or else refused. Their scans are bytes.
-pub data Calls (limit mark : ℕ) (Kind : Call → Type 0) : History → Type 0 where
-  none : Calls limit mark Kind noCalls
-  call : (h : History) (c : Call) → Calls limit mark Kind h → Bytes (c .scans)
-      → Kind c ⊎ ((number place : ℕ) × (outcomeOf limit mark h c ≡ refused number place)) → Calls limit mark Kind (withCall limit mark h c)
+-- What a caller has after any number of calls, each of them one that may be made where the caller stands. Their scans are bytes.
+pub data Calls (limit mark : ℕ) (May : History → Call → Type 0) : History → Type 0 where
+  none : Calls limit mark May noCalls
+  call : (h : History) (c : Call) → Calls limit mark May h → Bytes (c .scans) → May h c → Calls limit mark May (withCall limit mark h c)
 
 -- calls on one table, with its count of equations
 pub record OnTable (table : List ℕ) (count : ℕ) (c : Call) : Type 0 where
   pub same-table : c .table ≡ table
   pub same-count : c .count ≡ count
+
+-- the same, and any others that are refused
+abbrev pub OnTableOrRefused : (limit mark : ℕ) → (table : List ℕ) → (count : ℕ) → History → Call → Type 0
+OnTableOrRefused limit mark table count h c = OnTable table count c ⊎ ((number place : ℕ) × (outcomeOf limit mark h c ≡ refused number place))
 
 -- the scans that have this verdict
 unfoldable pub withVerdict : (verdict : ℕ) → (verdicts scans : List ℕ) → List ℕ

@@ -15,7 +15,7 @@ use Rattle.synthesis.specs.Table.{meaning}
 use Rattle.synthesis.specs.Building.{buildingOf, countedOf, tableAfter}
 use Rattle.synthesis.specs.declared.Counted.the-variants.{Equations}
 use Rattle.running.specs.Running.{following, roomy, Run, followed, runOf, checkedOf, occurrences, ranOf, keptOf, verdictsOf}
-use Rattle.running.specs.Calls.{Call, History, taken, outcomeOf, Calls, OnTable, withVerdict}
+use Rattle.running.specs.Calls.{Call, History, taken, outcomeOf, Calls, OnTable, OnTableOrRefused, withVerdict}
 use Rattle.running.specs.declared.State.{State}
 use Rattle.running.specs.declared.Ran.{Ran}
 
@@ -34,7 +34,7 @@ abbrev pub DropsExactly : Type 0
 DropsExactly =
     (limit mark : ℕ) (s table : List ℕ) (r : Rule) (n : ℕ) → limit ≤ mark → Bytes s → ruleOf s ≡ accepted r
     → countedOf (buildingOf limit s (length table)) ≡ Equations n
-    → (h : History) → Calls limit mark (OnTable (tableAfter mark (buildingOf limit s (length table)) table) n) h → Sifted r h
+    → (h : History) → Calls limit mark (OnTableOrRefused limit mark (tableAfter mark (buildingOf limit s (length table)) table) n) h → Sifted r h
 
 -- 2. Two calls, the second with the state of the first, do what one call on both lists of scans does.
 pub record Together (s : State) (one two both : Outcome Run) : Type 0 where
@@ -72,7 +72,7 @@ Conserves =
 -- So too after any number of calls, on any tables.
 abbrev pub CallsConserve : Type 0
 CallsConserve =
-    (limit mark : ℕ) (h : History) → Calls limit mark (λ c. Unit) h → (c : ℕ)
+    (limit mark : ℕ) (h : History) → Calls limit mark (λ h c. Unit) h → (c : ℕ)
     → occurrences c (h .scans) ≡ occurrences c (h .kept) + occurrences c (withVerdict 1 (h .verdicts) (h .scans))
 
 -- 4. A table is well formed for a count of equations when it has their rows, each entry the mark or under the count.
@@ -110,5 +110,5 @@ BuiltWellFormed =
 abbrev pub NeverUnfit : Type 0
 NeverUnfit =
     (limit mark : ℕ) (s table : List ℕ) (n : ℕ) → countedOf (buildingOf limit s (length table)) ≡ Equations n
-    → (h : History) → Calls limit mark (OnTable (tableAfter mark (buildingOf limit s (length table)) table) n) h
+    → (h : History) → Calls limit mark (OnTableOrRefused limit mark (tableAfter mark (buildingOf limit s (length table)) table) n) h
     → (c : Call) → OnTable (tableAfter mark (buildingOf limit s (length table)) table) n c → outcomeOf limit mark h c ≡ refused 16 0 → ⊥

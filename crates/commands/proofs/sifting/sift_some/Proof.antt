@@ -1,4 +1,5 @@
 -- `sift_some` meets its contract: the block is one more call.
+use native.Mathlib.Omega.{arith}
 use borrow.Author.Needs.{needs}
 use Rattle.commands.proofs.SiftingLaws.{ends-call}
 use Rattle.commands.proofs.sifting.sift_some.Statement.{statement}
@@ -38,9 +39,11 @@ returns-2 : tie.Need-returns-2
 returns-2 c =
     let block = c .before .before .before .before in
     let counted = block .before .before .before .before .before in
-    let x = counted .before .before .before .before .before .before .before .before .before .before .args in
+    let start = counted .before .before .before .before .before .before .before .before .before .before in
+    let x = start .args in
     let e = block .sift-block .ensures in
-    ends-call (x .table .now) (x .count) (x .state) _ (x .output .now) (x .verdicts .now) (e .0) (e .1)
+    let read = slice-aggregate-sift-block (block .before .before .before) in
+    ends-call (x .table .now) (x .count) (x .state) _ (x .output .now) (x .verdicts .now) (start .pre .0) (omega arith) (omega arith) (e .0) (e .1)
 
 pub sift-some-spec : {M : Type 1} → statement M
 sift-some-spec =

@@ -1,6 +1,6 @@
 -- `sift_under` meets its contract: its calls are on the table that building leaves, and after a refusal there are none.
 use Prim.Native.Nat.{_<_}
-use mathlib.Core.Path.{sym, _∙_}
+use mathlib.Core.Path.{sym, _∙_, subst}
 use native.Mathlib.Omega.{arith}
 use lib.ListN.{length}
 use borrow.Author.Needs.{needs}
@@ -8,6 +8,8 @@ use Rattle.reading.specs.Rule.{Bytes}
 use Rattle.reading.proofs.AllLaws.{all-of}
 use Rattle.synthesis.specs.Building.{buildingOf}
 use Rattle.running.specs.Calls.{noCalls, none}
+use Rattle.running.specs.Promises.{WellFormedTable}
+use Rattle.running.proofs.BuiltTables.{built-well-formed}
 use Rattle.commands.proofs.SiftingLaws.{under-rule}
 use Rattle.commands.proofs.sifting.sift_under.Statement.{statement}
 use Rattle.commands.proofs.sifting.sift_under.Tie as tie
@@ -24,7 +26,13 @@ enum-known-answer : tie.Need-enum-known-answer
 enum-known-answer c = search needs
 
 sift-all-requires : tie.Need-sift-all-requires
-sift-all-requires c κs = search needs
+sift-all-requires c κs =
+    let told = c .before .before in
+    let built = told .before .before .before .before in
+    let x = built .before .before .before .before .args in
+    let n = told .answer .given .0 .0 in
+    subst (WellFormedTable 128 255 n) (sym (built .build .ensures .1))
+    (built-well-formed 128 255 (x .file .now) (x .table .now) n (sym (built .build .ensures .0) ∙ told .answer .given .1))
 
 enum-known-answer-2 : tie.Need-enum-known-answer-2
 enum-known-answer-2 c = search needs
