@@ -4,11 +4,17 @@ from argparse import ArgumentParser
 from pathlib import Path
 
 CRATES = Path(__file__).resolve().parent.parent / "crates"
+PRIME = 1000000007
 
 
 def three_bytes(number):
     """A number as the test programs read it: three bytes, highest first."""
     return number.to_bytes(3, "big")
+
+
+def digest(content):
+    """The bytes as one number in base 256, highest first, modulo a prime."""
+    return int.from_bytes(content, "big") % PRIME
 
 
 def is_check(description):
@@ -19,10 +25,15 @@ def is_check(description):
 
 
 def settle(crate, stdin, lines, checks):
-    stdout = "".join(line + "\n" for line in lines).encode()
-    for name, content in (("stdin", stdin), ("stdout", stdout)):
+    """The input of a crate's program, and the lines that it must write."""
+    settle_files(crate, {"stdin": stdin, "stdout": "".join(line + "\n" for line in lines).encode()}, checks)
+
+
+def settle_files(crate, contents, checks):
+    for name, content in contents.items():
         path = CRATES / crate / name
         if not checks:
+            path.parent.mkdir(parents=True, exist_ok=True)
             path.write_bytes(content)
         elif not path.is_file() or path.read_bytes() != content:
             sys.exit(f"crates/{crate}/{name} is out of date")

@@ -9,10 +9,8 @@ import known_equations
 import table_cases
 from compare import check
 from equations import CODES, build, row, rows, said, text_of
-from expected import is_check, settle, three_bytes
+from expected import digest, is_check, settle, three_bytes
 from rules import Refusal
-
-PRIME = 1000000007
 
 # Numbers of rows that are asked for besides those of the equations and the one after.
 ROWS = [127, 128, 155, 156, 2**56, 2**64 - 1]
@@ -22,11 +20,6 @@ def fresh_table(size, case):
     """The table that is lent: byte i is case + 7 × i, modulo 251."""
     cycle = bytes((case + 7 * i) % 251 for i in range(251))
     return bytearray((cycle * (size // 251 + 1))[:size])
-
-
-def digest(content):
-    """The bytes as one number in base 256, highest first, modulo a prime."""
-    return int.from_bytes(content, "big") % PRIME
 
 
 def summary(content):

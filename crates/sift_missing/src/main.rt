@@ -1,0 +1,4 @@
+// The program `sift` with no rule.bin.
+fn main() {
+    commands::sift();
+}

@@ -1,0 +1,108 @@
+"""Calls that are refused, each put between two calls of a stream. The stream goes on as if they had not been made.
+
+Each fault is given its number by hand, from the paper's table of refusals."""
+from contextlib import contextmanager
+
+from compare import expect
+from stream_script import MOST_BYTES
+
+# Counts that are too high, with some whose rows would take a multiple of 2^64 bytes, or one row more.
+COUNTS = [129, 130, 255, 256, 2**56, 2**56 + 1, 2**63, 2**64 - 1]
+
+# States that are too high under any count, with some whose rows would begin at a multiple of 2^64, or one row after.
+STATES = [128, 129, 255, 256, 2**56, 2**56 + 1, 2**63, 2**64 - 1]
+
+
+@contextmanager
+def other_count(script, count):
+    before = script.count
+    script.set_count(count)
+    yield
+    script.set_count(before)
+
+
+@contextmanager
+def other_state(script, state):
+    before = script.state
+    script.set_state(state)
+    yield
+    script.set_state(before)
+
+
+@contextmanager
+def other_entry(script, place, entry):
+    before = bytes(script.table[place : place + 1])
+    script.write(place, bytes([entry]))
+    yield
+    script.write(place, before)
+
+
+@contextmanager
+def unchanged():
+    yield
+
+
+def wrong_count(random, script):
+    """None, too many, or one less where the last equation is an entry. With one more the next row may be fit."""
+    last = script.count - 1
+    less = [last] if last in script.table[: script.rows()] else []
+    return other_count(script, random.choice([0, 0] + less + COUNTS))
+
+
+def wrong_state(random, script):
+    return other_state(script, random.choice([script.count, script.count + 1] + STATES))
+
+
+def wrong_entry(random, script):
+    """An entry that is too high: the first, the last or another."""
+    last = script.rows() - 1
+    place = random.choice([0, last, last, random.randrange(last)])
+    return other_entry(script, place, random.choice([script.count, 254, 128, random.randrange(script.count, 255)]))
+
+
+def enough(random, size):
+    """Room for so many scans: just enough, a little more or much more, as far as the program has it."""
+    return min(size + random.choice([0, 0, 0, 1, 2, 9, 50]), MOST_BYTES)
+
+
+def lengths(random, script):
+    """How much of the table is lent: the rows alone, a little more, or much more."""
+    return random.choice([script.rows(), script.rows(), script.rows() + 1, 32768, 40000, MOST_BYTES])
+
+
+def short_lengths(random, script):
+    """Less of the table than its rows."""
+    rows = script.rows()
+    return random.choice([rows - 1, rows - 1, rows - 256, 0, random.randrange(rows)])
+
+
+def short_sizes(random, size):
+    """Sizes of the buffers, of which one is or both are too short for the scans."""
+    short = random.choice([size - 1, size - 1, 0, random.randrange(size)])
+    other = enough(random, size)
+    return random.choice([(short, other), (other, short), (short, short), (short, size), (size, short)])
+
+
+def refused_call(random, script, scans):
+    """A call that is refused, by 15 where both apply."""
+    changes = [wrong_count, wrong_state, wrong_entry]
+    is_cut, is_changed = random.randrange(4) == 0, random.randrange(3) > 0
+    is_short = len(scans) > 0 and (random.randrange(3) == 0 or not (is_cut or is_changed))
+    is_changed = is_changed or not (is_cut or is_short)
+    lent = short_lengths(random, script) if is_cut else lengths(random, script)
+    sizes = short_sizes(random, len(scans)) if is_short else [enough(random, len(scans)) for _ in range(2)]
+    with random.choice(changes)(random, script) if is_changed else unchanged():
+        state = script.state
+        ran, _, _ = script.call(scans, lent, *sizes)
+        number = 15 if is_short else 16
+        expect(str(ran) == f"refused {number} at 0 {state} 0 0", "a fault", str(ran))
+        script.tally["15 and 16"] += is_short and (is_cut or is_changed)
+        script.tally["16 with no scans"] += not scans
+
+
+def harmless_change(random, script):
+    """A byte just behind the rows, or further, where there is one."""
+    if script.rows() == MOST_BYTES:
+        return unchanged()
+    place = random.choice([script.rows(), script.rows(), random.randrange(script.rows(), MOST_BYTES)])
+    return other_entry(script, place, random.choice([script.count, 254, 128, 255, 0]))
