@@ -70,10 +70,12 @@ pub(crate) fn check(
 ) -> Checked
     ensures { λ r. ⌜ r ≡ checkedOf (runOf 128 255 (now (table .entry)) count state (now (scans .entry)) output verdicts) ⌝ }
 {
-    if !is_roomy(scans, output, verdicts) {
+    let has_room = is_roomy(scans, output, verdicts);
+    let is_fit = fits(table, count, state);
+    if !has_room {
         return Checked::Refused(15, 0);
     }
-    if !fits(table, count, state) {
+    if !is_fit {
         return Checked::Refused(16, 0);
     }
     Checked::Fit

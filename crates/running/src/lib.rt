@@ -64,10 +64,12 @@ pub fn run(
     };
     let end = follow(table, state, scans, output, verdicts);
     let state = end.state;
+    let kept = end.kept;
+    let dropped = scans.len() - kept;
     Ran {
         checked,
         state,
-        kept: end.kept,
-        dropped: scans.len() - end.kept,
+        kept,
+        dropped,
     }
 }

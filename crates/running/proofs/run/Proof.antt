@@ -37,9 +37,9 @@ follow-requires c κs =
     let f = fit (c .before .before) in
     (f .below, f .output-room, f .verdicts-room)
 
-sub-t11 : tie.Need-sub-t11
-sub-t11 c =
-    let f = c .before .before .before .before .before .before in
+sub-dropped : tie.Need-sub-dropped
+sub-dropped c =
+    let f = c .before .before .before .before .before in
     let x = f .before .before .before .before .before .before .before .before .before .before .args in
     omega (arith, f .follow .ensures .1 .0, kept-dropped (following 255 (x .table .now)) (x .state) (x .scans .now))
 
@@ -51,7 +51,7 @@ same-length-2 c = search needs
 
 returns-2 : tie.Need-returns-2
 returns-2 c =
-    let f = c .before .before .before .before .before .before in
+    let f = c .before .before .before .before .before in
     let t = f .before .before .before in
     let x = t .before .before .before .before .before .before .before .args in
     let e = f .follow .ensures in
@@ -67,7 +67,7 @@ run-spec =
     enum-told-2
     returns
     follow-requires
-    sub-t11
+    sub-dropped
     same-length
     same-length-2
     returns-2)

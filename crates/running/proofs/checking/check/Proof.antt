@@ -7,24 +7,26 @@ use Rattle.running.proofs.checking.check.Tie as tie
 is-roomy-requires : tie.Need-is-roomy-requires
 is-roomy-requires c κs = search needs
 
-returns : tie.Need-returns
-unfolding runOf
-returns c = rw (← c .before .is-roomy .ensures, c .if1 .taken)
-
 fits-requires : tie.Need-fits-requires
 fits-requires c κs = search needs
+
+returns : tie.Need-returns
+unfolding runOf
+returns c = rw (← c .before .before .is-roomy .ensures, c .if1 .taken)
 
 returns-2 : tie.Need-returns-2
 unfolding runOf
 returns-2 c =
-    let roomy = c .before .before in
-    rw (← roomy .before .is-roomy .ensures, roomy .if1 .left, ← c .before .fits2 .ensures, c .if2 .taken)
+    let room = c .before in
+    let fit = room .before in
+    rw (← fit .before .is-roomy .ensures, room .if1 .left, ← fit .fits2 .ensures, c .if2 .taken)
 
 returns-3 : tie.Need-returns-3
 unfolding runOf
 returns-3 c =
-    let roomy = c .before .before in
-    rw (← roomy .before .is-roomy .ensures, roomy .if1 .left, ← c .before .fits2 .ensures, c .if2 .left)
+    let room = c .before in
+    let fit = room .before in
+    rw (← fit .before .is-roomy .ensures, room .if1 .left, ← fit .fits2 .ensures, c .if2 .left)
 
 pub check-spec : {M : Type 1} → statement M
-check-spec = tie.close (tie.spec is-roomy-requires returns fits-requires returns-2 returns-3)
+check-spec = tie.close (tie.spec is-roomy-requires fits-requires returns returns-2 returns-3)
