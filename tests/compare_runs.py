@@ -1,4 +1,4 @@
-"""Holds sifting by violation against runs over tables: on streams, and on what was typed."""
+"""Holds what was typed against sifting, violation and runs, and a run's scans against what is kept and dropped."""
 from collections import Counter
 
 import known_equations

@@ -1,4 +1,5 @@
-"""Verdicts of sifting, and runs with all that they return and write, typed from the paper, by hand."""
+"""Verdicts of sifting, and runs with all that they return and write, typed by hand from the paper. Only the table of
+the number-pool rule is computed, by the Python equations."""
 from equations import rows
 from known import ANY, ONE, POOL, bytes_of
 from known_equations import SEVEN, SIX

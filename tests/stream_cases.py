@@ -1,4 +1,4 @@
-"""The rules and the tables on which runs are tried. They are the same at each run."""
+"""The rules and the tables on which runs are tried. They are the same each time."""
 from random import Random
 
 import known_runs

@@ -1,7 +1,7 @@
 """Calls that are refused, each put between two calls of a stream. The stream goes on as if they had not been made.
 
 Each fault is given its number by hand, from the paper's table of refusals."""
-from contextlib import contextmanager
+from contextlib import contextmanager, nullcontext
 
 from compare import expect
 from stream_script import MOST_BYTES
@@ -35,11 +35,6 @@ def other_entry(script, place, entry):
     script.write(place, bytes([entry]))
     yield
     script.write(place, before)
-
-
-@contextmanager
-def unchanged():
-    yield
 
 
 def wrong_count(random, script):
@@ -91,7 +86,7 @@ def refused_call(random, script, scans):
     is_changed = is_changed or not (is_cut or is_short)
     lent = short_lengths(random, script) if is_cut else lengths(random, script)
     sizes = short_sizes(random, len(scans)) if is_short else [enough(random, len(scans)) for _ in range(2)]
-    with random.choice(changes)(random, script) if is_changed else unchanged():
+    with random.choice(changes)(random, script) if is_changed else nullcontext():
         state = script.state
         ran, _, _ = script.call(scans, lent, *sizes)
         number = 15 if is_short else 16
@@ -103,6 +98,6 @@ def refused_call(random, script, scans):
 def harmless_change(random, script):
     """A byte just behind the rows, or further, where there is one."""
     if script.rows() == MOST_BYTES:
-        return unchanged()
+        return nullcontext()
     place = random.choice([script.rows(), script.rows(), random.randrange(script.rows(), MOST_BYTES)])
     return other_entry(script, place, random.choice([script.count, 254, 128, 255, 0]))

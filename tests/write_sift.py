@@ -31,17 +31,19 @@ def pool_rule():
 
 
 def long_stream(random):
-    """Four blocks and a bit. The first three end in a cancel of slot 5, so that an issue of it, or a note and then
-    the issue, is dropped only if the state is carried on; the fourth ends in a sync after a cancel."""
+    """Four blocks and a bit. The first three end in a cancel of slot 5, so that the issue of it that comes then, after
+    none, one or two other scans, is dropped only if the state is carried on. The fourth ends in a sync after a
+    cancel, and the issue is kept."""
     scans = bytearray(random.choice((ISSUE, CANCEL, NOTE, SYNC, 0, 255)) for _ in range(4 * BLOCK + 1000))
-    for block, ahead in ((1, [ISSUE]), (2, [NOTE, ISSUE]), (3, [CANCEL, NOTE, ISSUE])):
+    for block, ahead in ((1, [ISSUE]), (2, [NOTE, ISSUE]), (3, [NOTE, 0, ISSUE])):
         scans[block * BLOCK - 1] = CANCEL
         scans[block * BLOCK : block * BLOCK + len(ahead)] = ahead
     scans[4 * BLOCK - 2 : 4 * BLOCK + 1] = [CANCEL, SYNC, ISSUE]
     return bytes(scans)
 
 
-def kept(rule, scans):
+def sifted(rule, scans):
+    """The kept scans, and the verdicts."""
     verdicts = Sifting(read_rule(rule)).sift(scans)
     return bytes(scan for scan, verdict in zip(scans, verdicts) if verdict == 0), verdicts
 
@@ -56,13 +58,13 @@ def check_long(scans, verdicts):
 def main():
     checks = is_check(__doc__)
     paper, scans = bytes_of(POOL), bytes([37, 5, 128, 5, 37, 5])
-    expect(kept(paper, scans)[0] == bytes([37, 128, 5, 37, 5]), "the paper's scans")
+    expect(sifted(paper, scans)[0] == bytes([37, 128, 5, 37, 5]), "the paper's scans")
     settle_files("sift", {"data/rule.bin": paper, "stdin": scans, "stdout": bytes([37, 128, 5, 37, 5])}, checks)
     settle_files("sift_missing", {"stdin": scans, "stdout": b"refused 1 at 0\n"}, checks)
     longer = paper + bytes(5000)
     settle_files("sift_refused", {"data/rule.bin": longer, "stdin": scans, "stdout": b"refused 3 at 23\n"}, checks)
     rule, scans = pool_rule(), long_stream(Random("sift"))
-    written, verdicts = kept(rule, scans)
+    written, verdicts = sifted(rule, scans)
     check_long(scans, verdicts)
     settle_files("sift_long", {"data/rule.bin": rule, "stdin": scans, "stdout": written}, checks)
     print(f"{len(scans)} scans in the long stream, {len(written)} kept")

@@ -10,14 +10,14 @@ use Rattle.reading.specs.Outcome.{Outcome}
 use Rattle.synthesis.specs.Building.{Synthesis, countedOf, tableAfter}
 use Rattle.synthesis.specs.declared.Counted.the-variants.{Equations}
 use Rattle.running.specs.Running.{runOf, ranOf}
-use Rattle.running.specs.Calls.{Call, History, withCall, Calls, call, OnTableOrRefused}
-use Rattle.running.specs.Promises.{WellFormedTable}
+use Rattle.running.specs.Calls.{Call, History, withCall, Calls, none, call, OnTableOrRefused}
+use Rattle.running.specs.Running.{WellFormedTable}
 use Rattle.running.specs.declared.State.{State}
 use Rattle.running.proofs.Refusals.{runs-on-tables}
 use Rattle.running.proofs.Histories.{calls-weaken, one-run}
 use Rattle.running.proofs.DemandTwo.{drops-exactly}
 use Rattle.commands.specs.Sifting.{EndsCalls, FitOn, EndsCallsOn, UnderRule}
-use Rattle.commands.specs.Promises.{SiftsByRule}
+use Rattle.commands.specs.Promises.{SiftsByRule, NoCallsRefused}
 
 -- fit calls on a table are calls on it
 fit-on : (table : List ℕ) (count : ℕ) (h : History) → Calls 128 255 (FitOn table count) h
@@ -41,15 +41,19 @@ ends-call table count s scans output verdicts wf ro rv bytes e (h, calls, same) 
 -- calls on the table that building leaves, with its count, are those that `sift` makes under the rule
 pub under-rule : (outcome : Outcome Synthesis) (table : List ℕ) (n : ℕ) {t : List ℕ} {s : State} → t ≡ tableAfter 255 outcome table
     → countedOf outcome ≡ Equations n → EndsCallsOn t n s → EndsCalls (UnderRule outcome table) s
-under-rule outcome table n same e (h, calls, ends) = (
-  h,
-  calls-weaken 128 255
-      (λ h c may. record { same-table = may .on .same-table ∙ same; same-count = rw (may .on .same-count) e; fit = may .fit }) h calls,
-  ends,
-)
+under-rule outcome table n same e (h, calls, ends) =
+    (h, calls-weaken 128 255 (λ h c may. record { count = n; answered = e; fit-on = rw (← same) may }) h calls, ends)
 
 pub sifts-by-rule : SiftsByRule
 sifts-by-rule s table r n bytes read e h calls =
     drops-exactly 128 255 s table r n (omega arith) bytes read e h
     (calls-weaken 128 255
-    (λ h c under. inl (record { same-table = under .same-table; same-count = let k = under .same-count in cc })) h calls)
+    (λ h c under. inl (record {
+      same-table = under .fit-on .on .same-table;
+      same-count = under .fit-on .on .same-count ∙ (let k = under .answered in cc);
+    })) h calls)
+
+pub no-calls-refused : NoCallsRefused
+no-calls-refused s table number place e h none = refl
+no-calls-refused s table number place e h (call before c calls bytes under) =
+    let k = under .answered in let z : _≡_ {A = ℕ} 0 1 = cc in absurd (omega arith)

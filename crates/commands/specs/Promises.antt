@@ -8,8 +8,8 @@ use Rattle.reading.specs.Outcome.{accepted}
 use Rattle.reading.specs.File.{ruleOf}
 use Rattle.reading.specs.Numbered.{readingOf}
 use Rattle.synthesis.specs.Building.{buildingOf, countedOf, tableAfter}
-use Rattle.synthesis.specs.declared.Counted.the-variants.{Equations}
-use Rattle.running.specs.Calls.{History, Calls}
+use Rattle.synthesis.specs.declared.Counted.the-variants.{Equations, Refused}
+use Rattle.running.specs.Calls.{History, noCalls, Calls}
 use Rattle.running.specs.Promises.{Sifted}
 use Rattle.commands.specs.Printing.{textFor, printed}
 use Rattle.commands.specs.Sifting.{UnderRule}
@@ -21,12 +21,18 @@ PrintsAnswer =
     let outcome = buildingOf 128 s (length table) in
     printed (countedOf outcome) (readingOf (ruleOf s) .rule) (tableAfter 255 outcome table) ≡ textFor outcome (tableAfter 255 outcome table)
 
--- 2. The 4,096 bytes that it reads settle the answer to the whole input.
+-- 2. The 4,096 bytes that each program reads of a rule file settle the answer to the whole of it.
 abbrev pub SettledByBuffer : Type 0
 SettledByBuffer = (s : List ℕ) (size : ℕ) → buildingOf 128 (take 4096 s) size ≡ buildingOf 128 s size
 
--- 3. Under an accepted rule, the scans that `sift` was given are sifted by it, however they came in blocks.
+-- 3. Under an accepted rule, calls as the contract of `sift` has them sift by the rule, however the scans come in blocks.
 abbrev pub SiftsByRule : Type 0
 SiftsByRule =
     (s table : List ℕ) (r : Rule) (n : ℕ) → Bytes s → ruleOf s ≡ accepted r → countedOf (buildingOf 128 s (length table)) ≡ Equations n
     → (h : History) → Calls 128 255 (UnderRule (buildingOf 128 s (length table)) table) h → Sifted r h
+
+-- Under a refused one there are no calls.
+abbrev pub NoCallsRefused : Type 0
+NoCallsRefused =
+    (s table : List ℕ) (number place : ℕ) → countedOf (buildingOf 128 s (length table)) ≡ Refused number place
+    → (h : History) → Calls 128 255 (UnderRule (buildingOf 128 s (length table)) table) h → h ≡ noCalls

@@ -1,4 +1,5 @@
--- The calls that `sift` makes, and what it hands back. That their kept scans are written, no contract can say.
+-- The calls that `sift` makes, and what it hands back. That their scans are those of standard input, and that the kept ones are written, no
+-- contract can say.
 use Prim.Native.Nat.{ℕ}
 use mathlib.Core.Path.{_≡_}
 use mathlib.Core.List.{List}
@@ -24,11 +25,11 @@ pub record FitOn (table : List ℕ) (count : ℕ) (h : History) (c : Call) : Typ
 abbrev pub EndsCallsOn : (table : List ℕ) → (count : ℕ) → State → Type 0
 EndsCallsOn table count = EndsCalls (FitOn table count)
 
--- calls on the table that building leaves, with the count that it answers, that aren't refused; where building refuses, there are none
+-- such calls on the table that building leaves, with the count that it answers; where building refuses, there are none
 pub record UnderRule (outcome : Outcome Synthesis) (table : List ℕ) (h : History) (c : Call) : Type 0 where
-  pub same-table : c .table ≡ tableAfter 255 outcome table
-  pub same-count : countedOf outcome ≡ Equations (c .count)
-  pub fit : checkedOf (outcomeOf 128 255 h c) ≡ Fit
+  pub count : ℕ
+  pub answered : countedOf outcome ≡ Equations count
+  pub fit-on : FitOn (tableAfter 255 outcome table) count h c
 
 -- what `sift` hands back for a rule file and the table in which its rows are built
 pub record Sifts (s table : List ℕ) (r : SiftResult) : Type 0 where

@@ -12,8 +12,8 @@ use Rattle.synthesis.specs.Answering.{firstOf, answerOf, hopeless}
 use Rattle.synthesis.specs.Search.{noted, found}
 use Rattle.synthesis.specs.Table.{rowOf, entries}
 use Rattle.synthesis.specs.Building.{equationsOf}
-use Rattle.running.specs.Running.{start, Run, followed, runOf, occurrences}
-use Rattle.running.specs.Promises.{WellFormedTable, RunsOn}
+use Rattle.running.specs.Running.{start, WellFormedTable, Run, followed, runOf, occurrences}
+use Rattle.running.specs.Promises.{RunsOn}
 use Rattle.running.proofs.Refusals.{runs-on-tables}
 use Rattle.running.proofs.BuiltTables.{built-well-formed}
 use Rattle.listing.specs.Text.{decimalIn, decimal}

@@ -17,8 +17,8 @@ use Rattle.synthesis.specs.Table.{rowOf}
 use Rattle.synthesis.specs.Building.{synthesisOf, buildingOf, countedOf, tableAfter}
 use Rattle.synthesis.specs.declared.Counted.{Counted}
 use Rattle.synthesis.specs.declared.Counted.the-variants.{Equations, Refused}
-use Rattle.running.specs.Running.{start, Run, runOf, ranOf, outputAfter, verdictsAfter}
-use Rattle.running.specs.declared.Checked.the-variants.{Fit}
+use Rattle.running.specs.Running.{start, Run, runOf, checkedOf, ranOf, outputAfter, verdictsAfter}
+use Rattle.running.specs.declared.Checked.the-variants.{Fit, Refused as Unfit}
 use Rattle.listing.specs.Text.{text, decimal}
 use Rattle.listing.specs.Lines.{refusalLine, listing}
 
@@ -173,7 +173,8 @@ pub record RunsPool (outcome : Outcome Run) : Type 0 where
 -- These scans from the start, over a table of 3 equations, with an output and verdicts of any sizes. Under 6 bytes: 15 at 0.
 pub record PoolScans (table : List ℕ) : Type 0 where
   pub enough : (output verdicts : ℕ) → 6 ≤ output → 6 ≤ verdicts → RunsPool (runOf 128 255 table 3 start poolScans output verdicts)
-  pub short : (output verdicts : ℕ) → (output < 6) ⊎ (verdicts < 6) → runOf 128 255 table 3 start poolScans output verdicts ≡ refused 15 0
+  pub short : (output verdicts : ℕ) → (output < 6) ⊎ (verdicts < 6)
+      → checkedOf (runOf 128 255 table 3 start poolScans output verdicts) ≡ Unfit 15 0
 
 -- ---- all of them
 

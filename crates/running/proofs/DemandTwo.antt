@@ -12,13 +12,14 @@ use Rattle.synthesis.specs.Violation.{ViolatesRule}
 use Rattle.synthesis.specs.Monitor.{Answer, verdicts, Monitors}
 use Rattle.synthesis.specs.Table.{entry}
 use Rattle.synthesis.proofs.Runs.{verdicts-length}
+use Rattle.synthesis.proofs.Verdicts.{verdicts-range, verdicts-take, dropped-at}
 use Rattle.synthesis.proofs.MonitorLaws.{drops-violations, kept-safe}
 use Rattle.synthesis.proofs.Renaming.{renamed-monitors}
 use Rattle.synthesis.proofs.Built.{left, table-monitors}
-use Rattle.running.specs.Running.{start, following}
-use Rattle.running.specs.Calls.{History, withVerdict}
+use Rattle.running.specs.Running.{start, moved, following, WellFormedTable}
+use Rattle.running.specs.Calls.{History, Calls, OnTableOrRefused, withVerdict}
 use Rattle.running.specs.Promises.{Sifted, DropsExactly}
-use Rattle.running.proofs.WithVerdicts.{kept-with, verdicts-range, verdicts-take, dropped-at}
+use Rattle.running.proofs.WithVerdicts.{kept-with}
 use Rattle.running.proofs.Histories.{OneRun, one-run}
 use Rattle.running.proofs.BuiltTables.{built-well-formed}
 
@@ -46,7 +47,7 @@ module _ {E : Type 0} (r : Rule) (answer : E → ℕ → Answer E) (first : E) (
 -- the states of a run are the equations under a new name
 following-monitors : (r : Rule) (mark : ℕ) (table : List ℕ) → Monitors r (entry 256 mark table) 0 → Monitors r (following mark table) start
 following-monitors r mark table =
-    renamed-monitors r (λ e. Unit) (entry 256 mark table) (following mark table) (λ e. record { equation = e })
+    renamed-monitors r (λ e. Unit) (entry 256 mark table) (following mark table) (moved start)
     (record { stays = λ e e′ c ok b q. tt; drops = λ e c ok b q. rw q; follows = λ e e′ c ok b q. rw q }) 0 tt
 
 sifted : (r : Rule) (mark : ℕ) (table : List ℕ) (count : ℕ) (h : History)
@@ -62,8 +63,13 @@ sifted r mark table count h monitors run =
       safe = rw (run .kept) (kept-safe r F start monitors w (run .bytes));
     }
 
+-- On any well-formed table that monitors a rule, calls sift by the rule.
+pub monitors-sift : (limit mark count : ℕ) (table : List ℕ) (r : Rule) → WellFormedTable limit mark count table
+    → Monitors r (entry 256 mark table) 0 → (h : History) → Calls limit mark (OnTableOrRefused limit mark table count) h → Sifted r h
+monitors-sift limit mark count table r wf monitors h calls =
+    sifted r mark table count h (following-monitors r mark table monitors) (one-run limit mark count table wf h calls)
+
 pub drops-exactly : DropsExactly
-drops-exactly limit mark s table r n below bytes read e h calls =
-    let t = left limit mark s table in
-    sifted r mark t n h (following-monitors r mark t (table-monitors limit mark s table r n below bytes read e))
-    (one-run limit mark n t (built-well-formed limit mark s table n e) h calls)
+drops-exactly limit mark s table r n below bytes read e =
+    monitors-sift limit mark n (left limit mark s table) r (built-well-formed limit mark s table n e)
+    (table-monitors limit mark s table r n below bytes read e)

@@ -8,15 +8,14 @@ use lib.Seq.{take-append-seam, take-at}
 use Rattle.reading.specs.Rule.{Bytes}
 use Rattle.reading.specs.Outcome.{accepted, refused}
 use Rattle.reading.proofs.AllLaws.{all-append}
+use Rattle.reading.proofs.Outcomes.{never-accepted}
 use Rattle.synthesis.specs.Monitor.{kept, verdicts, ended}
 use Rattle.synthesis.proofs.Runs.{kept-append, verdicts-append, ended-append, verdicts-length}
-use Rattle.running.specs.Running.{start, following, Run, followed}
+use Rattle.running.specs.Running.{start, following, WellFormedTable, Run, followed}
 use Rattle.running.specs.Calls.{Call, History, noCalls, outcomeOf, withOutcome, withCall, Calls, none, call}
 use Rattle.running.specs.Calls.{OnTable, OnTableOrRefused}
-use Rattle.running.specs.Promises.{WellFormedTable}
 use Rattle.running.specs.declared.State.{State}
 use Rattle.running.proofs.RunCases.{run-cases}
-use Rattle.running.proofs.Refusals.{not-refused}
 use Rattle.running.proofs.Tables.{ends-inside}
 
 -- ---- one more call
@@ -102,4 +101,4 @@ module _ (limit mark count : ℕ) (table : List ℕ) (wf : WellFormedTable limit
       taken : (h : History) (c : Call) {y : Run} → OnTableOrRefused limit mark table count h c → outcomeOf limit mark h c ≡ accepted y
           → OnTable table count c
       taken h c (inl on) e = on
-      taken h c (inr refusal) e = absurd (not-refused (sym e ∙ refusal .2))
+      taken h c (inr refusal) e = absurd (never-accepted (sym (refusal .2) ∙ e))

@@ -22,6 +22,7 @@ followed-together mark table s v w =
     let F = following mark table in
     let e = ended F s v in
     record {
+      checked = refl;
       ran = rw (
         ended-append F s v w,
         kept-append F s v w,
@@ -55,4 +56,4 @@ two-calls limit mark table count s v w o₁ v₁ o₂ v₂ o₃ v₃ r₁ r₂ r
           run-unfit limit mark table count s w o₂ v₂ r₂ f,
           run-unfit limit mark table count s (v ++ w) o₃ v₃ r₃ f,
         )
-        (record { ran = refl; kept = refl; verdicts = refl })
+        (record { checked = refl; ran = refl; kept = refl; verdicts = refl })

@@ -1,6 +1,6 @@
 -- When a run is refused, and with which number.
 use Prim.Native.Nat.{ℕ, _≤_, _<_}
-use mathlib.Core.Path.{_≡_, refl, sym, _∙_}
+use mathlib.Core.Path.{_≡_, refl, sym, _∙_, ap}
 use mathlib.Core.Logic.{_⊎_, inl, inr}
 use mathlib.Core.Bool.{Bool, true, false, true≢false, and-eq-true-iff}
 use mathlib.Core.List.{List}
@@ -8,9 +8,10 @@ use native.Mathlib.Omega.{arith}
 use lib.Dec.{leb}
 use lib.ListN.{length}
 use borrow.Author.Tests.{leb-true, leb-false, le-leb, lt-leb}
-use Rattle.reading.specs.Outcome.{accepted, refused}
-use Rattle.running.specs.Running.{roomy, fits, Run, runOf}
-use Rattle.running.specs.Promises.{WellFormedTable, RunsOnTables}
+use Rattle.reading.specs.Outcome.{refused}
+use Rattle.running.specs.Running.{WellFormedTable, roomy, fits, runOf, checkedOf}
+use Rattle.running.specs.Promises.{RunsOnTables}
+use Rattle.running.specs.declared.Checked.the-variants.{Refused}
 use Rattle.running.proofs.RunCases.{run-short, run-unfit, run-fit, run-cases}
 use Rattle.running.proofs.Tables.{fits-well, well-fits, following-is, ends-inside}
 
@@ -42,37 +43,34 @@ module _ (scans : List ℕ) (output verdicts : ℕ) where
 
 -- ---- the promise
 
-pub not-refused : {y : Run} {number place : ℕ} → accepted y ≡ refused number place → ⊥
-not-refused e = let z : _≡_ {A = ℕ} 0 1 = cc in omega arith
-
 pub runs-on-tables : RunsOnTables
 runs-on-tables limit mark table count s scans output verdicts = record {
-  short = (was-short, λ h. run-short limit mark table count s scans output verdicts (short-roomy scans output verdicts h));
-  unfit = (was-unfit, λ h. unfit (h .0) (h .1) (h .2) (fits limit mark table count s) refl);
+  short = (was-short, λ h. ap checkedOf (run-short limit mark table count s scans output verdicts (short-roomy scans output verdicts h)));
+  unfit = (was-unfit, λ h. ap checkedOf (unfit (h .0) (h .1) (h .2) (fits limit mark table count s) refl));
   follows = λ h k wf i.
       run-fit limit mark table count s scans output verdicts (room-roomy scans output verdicts h k) (well-fits limit mark table count s wf i);
   entries = λ wf i c b. following-is limit mark count table wf s c i b;
   ends = λ wf i. ends-inside limit mark count table wf s scans i;
 }
   where
-    was-short : runOf limit mark table count s scans output verdicts ≡ refused 15 0 → (output < length scans) ⊎ (verdicts < length scans)
+    was-short : checkedOf (runOf limit mark table count s scans output verdicts) ≡ Refused 15 0 → (output < length scans) ⊎ (verdicts < length scans)
     was-short =
         run-cases limit mark table count s scans output verdicts
-        (λ o. o ≡ refused 15 0 → (output < length scans) ⊎ (verdicts < length scans))
+        (λ o. checkedOf o ≡ Refused 15 0 → (output < length scans) ⊎ (verdicts < length scans))
         (λ r e. roomy-short scans output verdicts r)
         (λ r f e. let z : _≡_ {A = ℕ} 16 15 = cc in absurd (omega arith))
-        (λ r f e. absurd (not-refused e))
+        (λ r f e. let z : _≡_ {A = ℕ} 0 1 = cc in absurd (omega arith))
 
-    was-unfit : runOf limit mark table count s scans output verdicts ≡ refused 16 0
+    was-unfit : checkedOf (runOf limit mark table count s scans output verdicts) ≡ Refused 16 0
         → (length scans ≤ output) × (length scans ≤ verdicts) × (WellFormedTable limit mark count table × (s .equation < count) → ⊥)
     was-unfit =
         run-cases limit mark table count s scans output verdicts
-        (λ o. o ≡ refused 16 0
+        (λ o. checkedOf o ≡ Refused 16 0
         → (length scans ≤ output) × (length scans ≤ verdicts) × (WellFormedTable limit mark count table × (s .equation < count) → ⊥))
         (λ r e. let z : _≡_ {A = ℕ} 15 16 = cc in absurd (omega arith))
         (λ r f e. let room = roomy-room scans output verdicts r in
         (room .0, room .1, λ h. true≢false (sym (well-fits limit mark table count s (h .0) (h .1)) ∙ f)))
-        (λ r f e. absurd (not-refused e))
+        (λ r f e. let z : _≡_ {A = ℕ} 0 1 = cc in absurd (omega arith))
 
     unfit : length scans ≤ output → length scans ≤ verdicts → (WellFormedTable limit mark count table × (s .equation < count) → ⊥)
         → (b : Bool) → fits limit mark table count s ≡ b → runOf limit mark table count s scans output verdicts ≡ refused 16 0

@@ -15,8 +15,7 @@ use Rattle.synthesis.specs.Monitor.{dropped, next, cases, ended}
 use Rattle.synthesis.specs.Table.{rowOf, meaning}
 use Rattle.synthesis.proofs.Rows.{row-is}
 use Rattle.synthesis.proofs.Runs.{run-induction}
-use Rattle.running.specs.Running.{following, inRange, entriesInRange, fits}
-use Rattle.running.specs.Promises.{WellFormedTable}
+use Rattle.running.specs.Running.{moved, following, inRange, entriesInRange, isWellFormed, WellFormedTable, fits}
 use Rattle.running.specs.declared.State.{State}
 
 -- ---- the test of a table
@@ -63,53 +62,52 @@ module _ (limit mark : ℕ) (table : List ℕ) (count : ℕ) where
       let code : i % 256 < 256 = mod-lt i (omega arith) in
       rw is at (wf .range (i / 256) (i % 256) (omega arith) code)
 
+  -- what is left of the test after each of its parts
+  abbrev entries-fit : Bool
+  entries-fit = entriesInRange mark count (take (256 * count) table)
+
+  abbrev rows-fit : Bool
+  rows-fit = leb (256 * count) (length table) && entries-fit
+
+  test-well : isWellFormed limit mark table count ≡ true → WellFormedTable limit mark count table
+  unfolding isWellFormed
+  test-well e =
+      let one = and-eq-true-iff (leb 1 count) (leb count limit && rows-fit) .0 e in
+      let two = and-eq-true-iff (leb count limit) rows-fit .0 (one .1) in
+      let three = and-eq-true-iff (leb (256 * count) (length table)) entries-fit .0 (two .1) in
+      let room : 256 * count ≤ length table = leb-true (256 * count) (length table) (three .0) in
+      let long : length (take (256 * count) table) ≡ 256 * count = length-take-le (256 * count) table room in
+      let each = all-in-range mark count (take (256 * count) table) .0 (three .1) in
+      record {
+        some = leb-true 1 count (one .0);
+        few = leb-true count limit (two .0);
+        room = room;
+        range = λ k c h b. rw (getD-take (256 * count) table (256 * k + c) 0 (omega arith)) at (each (256 * k + c) (omega arith));
+      }
+
+  well-tests : WellFormedTable limit mark count table → isWellFormed limit mark table count ≡ true
+  unfolding isWellFormed
+  well-tests wf =
+      let long : length (take (256 * count) table) ≡ 256 * count = length-take-le (256 * count) table (wf .room) in
+      rw (le-leb 1 count (wf .some), le-leb count limit (wf .few), le-leb (256 * count) (length table) (wf .room))
+      (all-in-range mark count (take (256 * count) table) .1
+      (λ i h. rw (getD-take (256 * count) table i 0 (omega arith)) (by-place wf i (omega arith))))
+
   module _ (s : State) where
-    -- what is left of the test after each of its parts
-    abbrev entries-fit : Bool
-    entries-fit = entriesInRange mark count (take (256 * count) table)
-
-    abbrev rows-fit : Bool
-    rows-fit = leb (256 * count) (length table) && entries-fit
-
-    abbrev state-fits : Bool
-    state-fits = ltb (s .equation) count && rows-fit
-
     pub fits-well : fits limit mark table count s ≡ true → WellFormedTable limit mark count table × (s .equation < count)
     unfolding fits
     fits-well e =
-        let one = and-eq-true-iff (leb 1 count) (leb count limit && state-fits) .0 e in
-        let two = and-eq-true-iff (leb count limit) state-fits .0 (one .1) in
-        let three = and-eq-true-iff (ltb (s .equation) count) rows-fit .0 (two .1) in
-        let four = and-eq-true-iff (leb (256 * count) (length table)) entries-fit .0 (three .1) in
-        let room : 256 * count ≤ length table = leb-true (256 * count) (length table) (four .0) in
-        let long : length (take (256 * count) table) ≡ 256 * count = length-take-le (256 * count) table room in
-        let each = all-in-range mark count (take (256 * count) table) .0 (four .1) in (
-          record {
-            some = leb-true 1 count (one .0);
-            few = leb-true count limit (two .0);
-            room = room;
-            range = λ k c h b. rw (getD-take (256 * count) table (256 * k + c) 0 (omega arith)) at (each (256 * k + c) (omega arith));
-          },
-          ltb-true (s .equation) count (three .0),
-        )
+        let both = and-eq-true-iff (isWellFormed limit mark table count) (ltb (s .equation) count) .0 e in
+        (test-well (both .0), ltb-true (s .equation) count (both .1))
 
     pub well-fits : WellFormedTable limit mark count table → s .equation < count → fits limit mark table count s ≡ true
     unfolding fits
-    well-fits wf inside =
-        let long : length (take (256 * count) table) ≡ 256 * count = length-take-le (256 * count) table (wf .room) in
-        rw (
-          le-leb 1 count (wf .some),
-          le-leb count limit (wf .few),
-          lt-ltb (s .equation) count inside,
-          le-leb (256 * count) (length table) (wf .room),
-        )
-        (all-in-range mark count (take (256 * count) table) .1
-        (λ i h. rw (getD-take (256 * count) table i 0 (omega arith)) (by-place wf i (omega arith))))
+    well-fits wf inside = rw (well-tests wf) (lt-ltb (s .equation) count inside)
 
 -- ---- the entries of a well-formed table
 
 -- an element, whatever stands for a missing one
-getD-inside : (l : List ℕ) (i d d′ : ℕ) → i < length l → getD l i d ≡ getD l i d′
+pub getD-inside : (l : List ℕ) (i d d′ : ℕ) → i < length l → getD l i d ≡ getD l i d′
 getD-inside [] i d d′ h = absurd (omega arith)
 getD-inside (x ∷ l) zero d d′ h = refl
 getD-inside (x ∷ l) (suc i) d d′ h = getD-inside l i d d′ (omega arith)
@@ -127,7 +125,7 @@ module _ (limit mark count : ℕ) (table : List ℕ) (wf : WellFormedTable limit
   row-inside k h = omega (arith, wf .room)
 
   pub following-is : (s : State) (c : ℕ) → s .equation < count → c < 256
-      → following mark table s c ≡ cases (meaning mark (getD table (256 * (s .equation) + c) 0)) dropped (λ e. next (record { equation = e }))
+      → following mark table s c ≡ cases (meaning mark (getD table (256 * (s .equation) + c) 0)) dropped (λ e. next (moved s e))
   following-is s c h b = rw (row-at table (s .equation) c mark (row-inside (s .equation) h) b)
 
   -- every scan has an entry in range, also one that isn't a byte

@@ -7,17 +7,18 @@ use mathlib.Core.Bool.{true}
 use mathlib.Core.List.{List, [], _∷_, _++_}
 use lib.ListN.{length, getD, take}
 use Rattle.reading.specs.Rule.{Rule, Bytes}
-use Rattle.reading.specs.Outcome.{Outcome, accepted, refused}
+use Rattle.reading.specs.Outcome.{Outcome, accepted}
 use Rattle.reading.specs.File.{ruleOf}
 use Rattle.synthesis.specs.Violation.{ViolatesRule}
 use Rattle.synthesis.specs.Monitor.{dropped, cases, next}
 use Rattle.synthesis.specs.Table.{meaning}
 use Rattle.synthesis.specs.Building.{buildingOf, countedOf, tableAfter}
 use Rattle.synthesis.specs.declared.Counted.the-variants.{Equations}
-use Rattle.running.specs.Running.{following, roomy, Run, followed, runOf, checkedOf, occurrences, ranOf, keptOf, verdictsOf}
+use Rattle.running.specs.Running.{moved, following, WellFormedTable, roomy, Run, followed, runOf, checkedOf, occurrences, ranOf}
+use Rattle.running.specs.Running.{keptOf, verdictsOf}
 use Rattle.running.specs.Calls.{Call, History, taken, outcomeOf, Calls, OnTable, OnTableOrRefused, withVerdict}
 use Rattle.running.specs.declared.State.{State}
-use Rattle.running.specs.declared.Ran.{Ran}
+use Rattle.running.specs.declared.Checked.the-variants.{Refused}
 
 -- 1. Demand 2. After any number of calls on the table that building leaves, a scan has verdict 1 exactly when the scans kept before it,
 -- with it after them, violate the rule. What was kept doesn't.
@@ -38,6 +39,7 @@ DropsExactly =
 
 -- 2. Two calls, the second with the state of the first, do what one call on both lists of scans does.
 pub record Together (s : State) (one two both : Outcome Run) : Type 0 where
+  pub checked : ranOf (ranOf s one .state) two .checked ≡ ranOf s one .checked
   pub ran : ranOf s both ≡ record {
     checked = ranOf s one .checked;
     state = ranOf (ranOf s one .state) two .state;
@@ -49,11 +51,11 @@ pub record Together (s : State) (one two both : Outcome Run) : Type 0 where
 
 abbrev pub TwoCalls : Type 0
 TwoCalls =
-    (limit mark : ℕ) (table : List ℕ) (count : ℕ) (s : State) (v w : List ℕ) (o₁ v₁ o₂ v₂ o₃ v₃ : ℕ)
-    → roomy v o₁ v₁ ≡ true → roomy w o₂ v₂ ≡ true → roomy (v ++ w) o₃ v₃ ≡ true →
-    let one = runOf limit mark table count s v o₁ v₁ in
-    let two = runOf limit mark table count (ranOf s one .state) w o₂ v₂ in
-    Together s one two (runOf limit mark table count s (v ++ w) o₃ v₃)
+    (limit mark : ℕ) (table : List ℕ) (count : ℕ) (s : State) (first second : List ℕ) (o₁ v₁ o₂ v₂ o₃ v₃ : ℕ)
+    → roomy first o₁ v₁ ≡ true → roomy second o₂ v₂ ≡ true → roomy (first ++ second) o₃ v₃ ≡ true →
+    let one = runOf limit mark table count s first o₁ v₁ in
+    let two = runOf limit mark table count (ranOf s one .state) second o₂ v₂ in
+    Together s one two (runOf limit mark table count s (first ++ second) o₃ v₃)
 
 -- 3. Of each code, the scans that a run took are those that it kept and those with verdict 1. The counts are as the verdicts say.
 pub record Conserved (s : State) (scans : List ℕ) (outcome : Outcome Run) : Type 0 where
@@ -75,24 +77,18 @@ CallsConserve =
     (limit mark : ℕ) (h : History) → Calls limit mark (λ h c. Unit) h → (c : ℕ)
     → occurrences c (h .scans) ≡ occurrences c (h .kept) + occurrences c (withVerdict 1 (h .verdicts) (h .scans))
 
--- 4. A table is well formed for a count of equations when it has their rows, each entry the mark or under the count.
-pub record WellFormedTable (limit mark count : ℕ) (table : List ℕ) : Type 0 where
-  pub some : 1 ≤ count
-  pub few : count ≤ limit
-  pub room : 256 * count ≤ length table
-  pub range : (k c : ℕ) → k < count → c < 256 → (getD table (256 * k + c) 0 ≡ mark) ⊎ (getD table (256 * k + c) 0 < count)
-
--- 15 is for buffers that are too short, and comes first; 16 for all other that is unfit. What is left follows the entries, byte
--- 256 × k + c for code c in equation k, and ends in an equation of the table.
+-- 4. 15 is for buffers that are too short, and comes first; 16 for a count, a state or a table that is unfit. Any other run follows the
+-- entries, and ends in an equation of the table.
 pub record RunsOn (limit mark : ℕ) (table : List ℕ) (count : ℕ) (s : State) (scans : List ℕ) (output verdicts : ℕ) : Type 0 where
-  pub short : (runOf limit mark table count s scans output verdicts ≡ refused 15 0) ↔ ((output < length scans) ⊎ (verdicts < length scans))
-  pub unfit : (runOf limit mark table count s scans output verdicts ≡ refused 16 0)
+  pub short : (checkedOf (runOf limit mark table count s scans output verdicts) ≡ Refused 15 0)
+      ↔ ((output < length scans) ⊎ (verdicts < length scans))
+  pub unfit : (checkedOf (runOf limit mark table count s scans output verdicts) ≡ Refused 16 0)
       ↔ ((length scans ≤ output) × (length scans ≤ verdicts) × (WellFormedTable limit mark count table × (s .equation < count) → ⊥))
   pub follows : length scans ≤ output → length scans ≤ verdicts → WellFormedTable limit mark count table → s .equation < count
       → runOf limit mark table count s scans output verdicts ≡ accepted (followed mark table s scans)
   pub entries : WellFormedTable limit mark count table → s .equation < count → (c : ℕ) → c < 256
       → following mark table s c
-      ≡ cases (meaning mark (getD table (256 * (s .equation) + c) 0)) dropped (λ e. next (record { equation = e }))
+      ≡ cases (meaning mark (getD table (256 * (s .equation) + c) 0)) dropped (λ e. next (moved s e))
   pub ends : WellFormedTable limit mark count table → s .equation < count → followed mark table s scans .state .equation < count
 
 abbrev pub RunsOnTables : Type 0
@@ -111,4 +107,5 @@ abbrev pub NeverUnfit : Type 0
 NeverUnfit =
     (limit mark : ℕ) (s table : List ℕ) (n : ℕ) → countedOf (buildingOf limit s (length table)) ≡ Equations n
     → (h : History) → Calls limit mark (OnTableOrRefused limit mark (tableAfter mark (buildingOf limit s (length table)) table) n) h
-    → (c : Call) → OnTable (tableAfter mark (buildingOf limit s (length table)) table) n c → outcomeOf limit mark h c ≡ refused 16 0 → ⊥
+    → (c : Call) → OnTable (tableAfter mark (buildingOf limit s (length table)) table) n c
+    → checkedOf (outcomeOf limit mark h c) ≡ Refused 16 0 → ⊥

@@ -1,10 +1,12 @@
 -- A run over scans, on any table: when it is refused, and else what it keeps, judges and leaves. The limit on equations and the mark for
 -- dropped are any; the paper's are 128 and 255.
-use Prim.Native.Nat.{ℕ, suc, _*_}
+use Prim.Native.Nat.{ℕ, suc, _+_, _*_, _≤_, _<_}
+use mathlib.Core.Path.{_≡_}
+use mathlib.Core.Logic.{_⊎_}
 use mathlib.Core.Bool.{Bool, true, not, cond, _&&_, _||_}
 use mathlib.Core.List.{List, [], _∷_, _++_}
 use lib.Dec.{eqb, ltb, leb}
-use lib.ListN.{length, take, drop}
+use lib.ListN.{length, getD, take, drop}
 use Rattle.reading.specs.Outcome.{Outcome, accepted, refused, refuse}
 use Rattle.synthesis.specs.Monitor.{Answer, dropped, next, cases, kept, verdicts, ended}
 use Rattle.synthesis.specs.Table.{entry}
@@ -19,9 +21,13 @@ use Rattle.running.specs.declared.Ran.{Ran}
 abbrev pub start : State
 start = record { equation = 0 }
 
+-- a state that goes on with another equation
+abbrev pub moved : State → ℕ → State
+moved s e = record { equation = e }
+
 -- What a table answers to a scan in a state: the entry of the state's equation for its code.
 abbrev pub following : (mark : ℕ) → (table : List ℕ) → State → ℕ → Answer State
-following mark table s c = cases (entry 256 mark table (s .equation) c) dropped (λ e. next (record { equation = e }))
+following mark table s c = cases (entry 256 mark table (s .equation) c) dropped (λ e. next (moved s e))
 
 -- ---- refusals
 
@@ -33,14 +39,21 @@ unfoldable pub entriesInRange : (mark count : ℕ) → List ℕ → Bool
 entriesInRange mark count [] = true
 entriesInRange mark count (x ∷ xs) = inRange mark count x && entriesInRange mark count xs
 
--- There are 1 to `limit` equations, the state's is one of them, and their rows are inside the table, with each entry in range.
+-- The table is well formed for a count of equations: it has from 1 to `limit` of them, and their rows, with each entry in range.
+unfoldable pub isWellFormed : (limit mark : ℕ) → (table : List ℕ) → (count : ℕ) → Bool
+isWellFormed limit mark table count =
+    leb 1 count && (leb count limit && (leb (256 * count) (length table) && entriesInRange mark count (take (256 * count) table)))
+
+-- the same in words: byte 256 × k + c is the entry of equation k for code c
+pub record WellFormedTable (limit mark count : ℕ) (table : List ℕ) : Type 0 where
+  pub some : 1 ≤ count
+  pub few : count ≤ limit
+  pub room : 256 * count ≤ length table
+  pub range : (k c : ℕ) → k < count → c < 256 → (getD table (256 * k + c) 0 ≡ mark) ⊎ (getD table (256 * k + c) 0 < count)
+
+-- the table is well formed, and the state's equation is one of its own
 unfoldable pub fits : (limit mark : ℕ) → (table : List ℕ) → (count : ℕ) → State → Bool
-fits limit mark table count s =
-    leb 1 count
-    && (leb count limit
-    && (ltb (s .equation) count
-    && (leb (256 * count) (length table)
-    && entriesInRange mark count (take (256 * count) table))))
+fits limit mark table count s = isWellFormed limit mark table count && ltb (s .equation) count
 
 -- an output and verdicts of these sizes have room for every scan
 abbrev pub roomy : (scans : List ℕ) → (output verdicts : ℕ) → Bool
@@ -82,8 +95,8 @@ occurrences x (y ∷ ys) = cond (eqb y x) (suc (occurrences x ys)) (occurrences 
 
 -- what a run from the state s hands back; a refused one, that state and counts of 0
 abbrev pub ranOf : State → Outcome Run → Ran
-ranOf s (accepted y) = record { checked = Fit; state = y .state; kept = length (y .kept); dropped = occurrences 1 (y .verdicts) }
-ranOf s (refused number place) = record { checked = Refused number place; state = s; kept = 0; dropped = 0 }
+ranOf s (accepted y) = record { checked = checkedOf (accepted y); state = y .state; kept = length (y .kept); dropped = occurrences 1 (y .verdicts) }
+ranOf s (refused number place) = record { checked = checkedOf (refused number place); state = s; kept = 0; dropped = 0 }
 
 -- the scans that a run keeps and the verdicts that it gives; a refused one, none
 abbrev pub keptOf : Outcome Run → List ℕ

@@ -3,7 +3,7 @@ use crate::Checked;
 use crate::State;
 use synthesis::DROPPED;
 ghost use mathlib.Core.Path.{_≡_};
-ghost use Rattle.running.specs.Running.{inRange, entriesInRange, fits, roomy, runOf, checkedOf};
+ghost use Rattle.running.specs.Running.{inRange, entriesInRange, isWellFormed, fits, roomy, runOf, checkedOf};
 
 // Whether an entry is the mark for dropped or the number of an equation.
 fn in_range(entry: u8, count: u8) -> bool
@@ -29,9 +29,9 @@ fn entries_in_range(entries: &[u8], count: u8) -> bool
     all
 }
 
-// Whether the table has well-formed rows for `count` equations, and the state is one of these.
-fn fits(table: &[u8], count: usize, state: State) -> bool
-    ensures { λ r. ⌜ r ≡ fits 128 255 (now (table .entry)) count state ⌝ }
+// Whether the table is well formed for so many equations.
+fn is_well_formed(table: &[u8], count: usize) -> bool
+    ensures { λ r. ⌜ r ≡ isWellFormed 128 255 (now (table .entry)) count ⌝ }
 {
     if count == 0 {
         return false;
@@ -39,14 +39,21 @@ fn fits(table: &[u8], count: usize, state: State) -> bool
     if 128 < count {
         return false;
     }
-    if count <= state.equation {
-        return false;
-    }
     let end = 256 * count;
     if table.len() < end {
         return false;
     }
     entries_in_range(&table[..end], count as u8)
+}
+
+// Whether it is, and the state's equation is one of them.
+fn fits(table: &[u8], count: usize, state: State) -> bool
+    ensures { λ r. ⌜ r ≡ fits 128 255 (now (table .entry)) count state ⌝ }
+{
+    if !is_well_formed(table, count) {
+        return false;
+    }
+    state.equation < count
 }
 
 // Whether an output and verdicts of these lengths have room for every scan.

@@ -43,7 +43,8 @@ fn either_byte(first: bool, a: u8, b: u8) -> u8
 }
 
 // Runs over the scans with a look-up and two stores for each, and no jump on its entry: for a dropped scan the byte of the output is
-// written back as it was. What goes from scan to scan is where the equation's row begins, so that no scan waits for a multiplication.
+// written back as it was. What goes from scan to scan is where the equation's row begins, so that no scan waits for a multiplication. Kept is
+// told by a test of its own, with which the compiled loop was measured to be faster.
 pub(crate) fn follow(
     table: &[u8],
     state: State,

@@ -8,6 +8,7 @@ pub mod AnsweringLaws
 pub mod ViolationLaws
 pub mod EquationLaws
 pub mod Runs
+pub mod Verdicts
 pub mod RuleMonitor
 pub mod Places
 pub mod Finding

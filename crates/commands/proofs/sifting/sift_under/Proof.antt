@@ -8,7 +8,7 @@ use Rattle.reading.specs.Rule.{Bytes}
 use Rattle.reading.proofs.AllLaws.{all-of}
 use Rattle.synthesis.specs.Building.{buildingOf}
 use Rattle.running.specs.Calls.{noCalls, none}
-use Rattle.running.specs.Promises.{WellFormedTable}
+use Rattle.running.specs.Running.{WellFormedTable}
 use Rattle.running.proofs.BuiltTables.{built-well-formed}
 use Rattle.commands.proofs.SiftingLaws.{under-rule}
 use Rattle.commands.proofs.sifting.sift_under.Statement.{statement}

@@ -1,71 +1,22 @@
--- `checking::fits` meets its contract: each return is a test that fails, and the last one has passed the others.
-use Prim.Native.Nat.{_*_}
-use mathlib.Core.Path.{sym}
-use mathlib.Core.Bool.{and-false}
-use native.Mathlib.Omega.{arith}
+-- `checking::fits` meets its contract: the two tests are those of the definition.
 use borrow.Author.Needs.{needs}
-use borrow.Author.Tests.{lt-ltb, le-ltb, le-leb, lt-leb}
-use lib.ListN.{length}
-use lib.Seq.{length-take-le}
+use borrow.Author.Tests.{not-true, not-false}
 use Rattle.running.specs.Running.{fits}
 use Rattle.running.proofs.checking.fits.Statement.{statement}
 use Rattle.running.proofs.checking.fits.Tie as tie
 
+is-well-formed-requires : tie.Need-is-well-formed-requires
+is-well-formed-requires c κs = search needs
+
 returns : tie.Need-returns
 unfolding fits
-returns c =
-    let x = c .before .before .args in
-    simp (lt-leb 1 (x .count) (omega arith))
+returns c = rw (← c .before .is-well-formed .ensures, not-true (c .before .is-well-formed .result) (c .if1 .taken))
 
 returns-2 : tie.Need-returns-2
 unfolding fits
 returns-2 c =
-    let x = c .before .before .before .args in
-    simp (lt-leb (x .count) 128 (omega arith), and-false)
-
-returns-3 : tie.Need-returns-3
-unfolding fits
-returns-3 c =
-    let x = c .before .before .before .before .before .args in
-    simp (le-ltb (x .state .equation) (x .count) (omega arith), and-false)
-
-mul-end : tie.Need-mul-end
-mul-end c = search needs
-
-returns-4 : tie.Need-returns-4
-unfolding fits
-returns-4 c =
-    let x = c .before .before .before .before .before .before .args in
-    simp (lt-leb (256 * x .count) (length (x .table .now)) (omega arith), and-false)
-
-slice-aggregate-entries-in-range : tie.Need-slice-aggregate-entries-in-range
-slice-aggregate-entries-in-range c =
-    let x = c .before .before .before .before .before .before .before .args in
-    sym (length-take-le (256 * x .count) (x .table .now) (omega arith))
-
-cast-entries-in-range : tie.Need-cast-entries-in-range
-cast-entries-in-range c = search needs
-
-entries-in-range-requires : tie.Need-entries-in-range-requires
-entries-in-range-requires c κs = search needs
-
-returns-5 : tie.Need-returns-5
-unfolding fits
-returns-5 c =
-    let x = c .before .before .before .before .before .before .before .before .args in
-    rw (le-leb 1 (x .count) (omega arith), le-leb (x .count) 128 (omega arith), lt-ltb (x .state .equation) (x .count) (omega arith))
-    (rw (le-leb (256 * x .count) (length (x .table .now)) (omega arith)) (c .entries-in-range .ensures))
+    let formed = c .before in
+    rw (← formed .before .is-well-formed .ensures, not-false (formed .before .is-well-formed .result) (formed .if1 .left))
 
 pub fits-spec : {M : Type 1} → statement M
-fits-spec =
-    tie.close
-    (tie.spec
-    returns
-    returns-2
-    returns-3
-    mul-end
-    returns-4
-    slice-aggregate-entries-in-range
-    cast-entries-in-range
-    entries-in-range-requires
-    returns-5)
+fits-spec = tie.close (tie.spec is-well-formed-requires returns returns-2)

@@ -4,7 +4,7 @@ use mathlib.Core.Path.{sym}
 use native.Mathlib.Omega.{arith}
 use borrow.Author.Needs.{needs}
 use lib.ListN.{length, List·getD-eq-default}
-use lib.Seq.{drop-cons}
+use Rattle.running.proofs.Tables.{getD-inside}
 use Rattle.running.proofs.following.entry.Statement.{statement}
 use Rattle.running.proofs.following.entry.Tie as tie
 
@@ -23,7 +23,7 @@ returns c =
     let l = r .row .result .now in
     let code = r .before .before .args .code in
     let inside : code < length l = c .before .if1 .taken in (
-      rw (← r .row .ensures) (cc (drop-cons l code 0 inside, drop-cons l code 255 inside)),
+      rw (← r .row .ensures) (getD-inside l code 0 255 inside),
       omega (arith, c .shared-slice-known2 .given code .fits),
     )
 
