@@ -8,7 +8,7 @@ use Rattle.synthesis.proofs.Synthesized.{building-accepts, building-enough, cou
 use Rattle.synthesis.proofs.Equations.{answers-count}
 use Rattle.synthesis.proofs.Built.{left, table-rest, entries-in-range}
 use Rattle.running.specs.Promises.{BuiltWellFormed, NeverUnfit}
-use Rattle.running.proofs.Tables.{row-at}
+use Rattle.running.proofs.Tables.{row-at, other-well-formed}
 use Rattle.running.proofs.Refusals.{runs-on-tables}
 use Rattle.running.proofs.Histories.{one-run}
 
@@ -33,4 +33,4 @@ never-unfit limit mark s table n e h calls c on refusal =
     let wf = built-well-formed limit mark s table n e in
     let inside = one-run limit mark n t wf h calls .inside in
     runs-on-tables limit mark (c .table) (c .count) (h .state) (c .scans) (length (c .output)) (length (c .verdicts)) .unfit .0 refusal .2
-    (rw (on .same-table, on .same-count) (wf, inside))
+    (rw (on .same-count) (other-well-formed limit mark n t wf (c .table) (on .same-rows), inside))

@@ -1,22 +1,23 @@
 -- What a caller has after any number of calls: induction over them, and that calls on one table are one run over all their scans.
-use Prim.Native.Nat.{ℕ, _<_}
+use Prim.Native.Nat.{ℕ, _*_, _<_}
 use mathlib.Core.Path.{_≡_, refl, sym, _∙_, ap, subst}
 use mathlib.Core.Logic.{inl, inr}
 use mathlib.Core.List.{List, _++_, append-nil}
-use lib.ListN.{length, drop}
+use lib.ListN.{length, take, drop}
 use lib.Seq.{take-append-seam, take-at}
 use Rattle.reading.specs.Rule.{Bytes}
 use Rattle.reading.specs.Outcome.{accepted, refused}
 use Rattle.reading.proofs.AllLaws.{all-append}
 use Rattle.reading.proofs.Outcomes.{never-accepted}
-use Rattle.synthesis.specs.Monitor.{kept, verdicts, ended}
+use Rattle.synthesis.specs.Monitor.{kept, verdicts, ended, Renames}
 use Rattle.synthesis.proofs.Runs.{kept-append, verdicts-append, ended-append, verdicts-length}
+use Rattle.synthesis.proofs.Renaming.{renamed-runs}
 use Rattle.running.specs.Running.{start, following, WellFormedTable, Run, followed}
 use Rattle.running.specs.Calls.{Call, History, noCalls, outcomeOf, withOutcome, withCall, Calls, none, call}
 use Rattle.running.specs.Calls.{OnTable, OnTableOrRefused}
 use Rattle.running.specs.declared.State.{State}
 use Rattle.running.proofs.RunCases.{run-cases}
-use Rattle.running.proofs.Tables.{ends-inside}
+use Rattle.running.proofs.Tables.{next-inside, ends-inside, same-following}
 
 -- ---- one more call
 
@@ -78,12 +79,24 @@ pub record OneRun (mark : ℕ) (table : List ℕ) (count : ℕ) (h : History) : 
   pub inside : h .state .equation < count
 
 module _ (limit mark count : ℕ) (table : List ℕ) (wf : WellFormedTable limit mark count table) where
+  -- The states of a run on the table go by the same names on any other with these rows.
+  renames : (t : List ℕ) → take (256 * count) t ≡ take (256 * count) table
+      → Renames 256 (λ s. s .equation < count) (following mark table) (following mark t) (λ s. s)
+  renames t same = record {
+    stays = λ s s′ c inside b q. next-inside limit mark count table wf s s′ c inside q;
+    drops = λ s c inside b q. same-following limit mark count table wf t same s c inside b ∙ q;
+    follows = λ s s′ c inside b q. same-following limit mark count table wf t same s c inside b ∙ q;
+  }
+
   one-more : (h : History) (c : Call) → OneRun mark table count h → Bytes (c .scans) → OnTable table count c
       → OneRun mark table count (withRun mark h c)
   one-more h c before bytes on =
       let F = following mark table in
       let w = c .scans in
-      rw (on .same-table)
+      let run =
+      renamed-runs 256 (λ s. s .equation < count) F (following mark (c .table)) (λ s. s) (renames (c .table) (on .same-rows)) (h .state) w
+      (before .inside) bytes in
+      rw (run .keeps, run .judges, run .ends)
       (record {
         bytes = all-append (λ b. b < 256) (h .scans) w (before .bytes) bytes;
         state = ap (λ (s : State). ended F s w) (before .state) ∙ sym (ended-append F start (h .scans) w);

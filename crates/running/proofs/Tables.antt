@@ -1,6 +1,6 @@
 -- Well-formed tables: the test for them, their entries, and where a run on one ends.
 use Prim.Native.Nat.{ℕ, zero, suc, _+_, _*_, _/_, _%_, _≤_, _<_}
-use mathlib.Core.Path.{_≡_, refl, _∙_, ap}
+use mathlib.Core.Path.{_≡_, refl, sym, _∙_, ap}
 use mathlib.Core.Logic.{_↔_, _⊎_, inl, inr}
 use mathlib.Core.Bool.{Bool, true, false, _&&_, and-eq-true-iff}
 use mathlib.Core.List.{List, [], _∷_}
@@ -138,7 +138,7 @@ module _ (limit mark count : ℕ) (table : List ℕ) (wf : WellFormedTable limit
           inl (List·getD-eq-default (rowOf 256 table k) mark
           (rw (row-is 256 table k (row-inside k h), length-take 256 (drop (256 * k) table)) (omega arith)))
 
-  next-inside : (s s′ : State) (c : ℕ) → s .equation < count → following mark table s c ≡ next s′ → s′ .equation < count
+  pub next-inside : (s s′ : State) (c : ℕ) → s .equation < count → following mark table s c ≡ next s′ → s′ .equation < count
   next-inside s s′ c h e = on (eqb x mark) refl (entry-range (s .equation) c h)
     where
       x : ℕ
@@ -156,3 +156,29 @@ module _ (limit mark count : ℕ) (table : List ℕ) (wf : WellFormedTable limit
   ends-inside =
       run-induction (following mark table) (λ s w. s .equation < count → ended (following mark table) s w .equation < count) (λ s h. h)
       (λ s c w q ih h. rw q (ih h)) (λ s s′ c w q ih h. rw q (ih (next-inside s s′ c h q)))
+
+-- ---- tables with the same rows
+
+module _ (limit mark count : ℕ) (table : List ℕ) (wf : WellFormedTable limit mark count table) (other : List ℕ)
+    (same : take (256 * count) other ≡ take (256 * count) table) where
+  -- the other has all of them
+  other-room : 256 * count ≤ length other
+  other-room =
+      let long = length-take-le (256 * count) table (wf .room) in
+      omega (arith, length-take (256 * count) other, ap length same)
+
+  same-entry : (i : ℕ) → i < 256 * count → getD other i 0 ≡ getD table i 0
+  same-entry i h = rw (← getD-take (256 * count) other i 0 h, ← getD-take (256 * count) table i 0 h, same)
+
+  pub other-well-formed : WellFormedTable limit mark count other
+  other-well-formed = record {
+    some = wf .some;
+    few = wf .few;
+    room = other-room;
+    range = λ k c h b. rw (same-entry (256 * k + c) (omega arith)) (wf .range k c h b);
+  }
+
+  pub same-following : (s : State) (c : ℕ) → s .equation < count → c < 256 → following mark other s c ≡ following mark table s c
+  same-following s c h b =
+      following-is limit mark count other other-well-formed s c h b
+      ∙ rw (same-entry (256 * (s .equation) + c) (omega arith)) (sym (following-is limit mark count table wf s c h b))

@@ -1,5 +1,5 @@
 -- Calls of a run one after the other, each with the state that the last one handed back, and what their caller then has.
-use Prim.Native.Nat.{ℕ}
+use Prim.Native.Nat.{ℕ, _*_}
 use mathlib.Core.Path.{_≡_}
 use mathlib.Core.Logic.{_⊎_}
 use mathlib.Core.Bool.{cond}
@@ -61,9 +61,9 @@ pub data Calls (limit mark : ℕ) (May : History → Call → Type 0) : History 
   none : Calls limit mark May noCalls
   call : (h : History) (c : Call) → Calls limit mark May h → Bytes (c .scans) → May h c → Calls limit mark May (withCall limit mark h c)
 
--- calls on one table, with its count of equations
+-- calls on the rows of one table, with its count of equations; what stands behind the rows may be anything
 pub record OnTable (table : List ℕ) (count : ℕ) (c : Call) : Type 0 where
-  pub same-table : c .table ≡ table
+  pub same-rows : take (256 * count) (c .table) ≡ take (256 * count) table
   pub same-count : c .count ≡ count
 
 -- the same, and any others that are refused
