@@ -14,38 +14,27 @@ STATES = [128, 129, 255, 256, 2**56, 2**56 + 1, 2**63, 2**64 - 1]
 
 
 @contextmanager
-def other_count(script, count):
-    before = script.count
-    script.set_count(count)
+def changed(change, to, back):
+    """Changes a script for the calls inside, and then changes it back."""
+    change(to)
     yield
-    script.set_count(before)
+    change(back)
 
 
-@contextmanager
-def other_state(script, state):
-    before = script.state
-    script.set_state(state)
-    yield
-    script.set_state(before)
-
-
-@contextmanager
 def other_entry(script, place, entry):
     before = bytes(script.table[place : place + 1])
-    script.write(place, bytes([entry]))
-    yield
-    script.write(place, before)
+    return changed(lambda entries: script.write(place, entries), bytes([entry]), before)
 
 
 def wrong_count(random, script):
     """None, too many, or one less where the last equation is an entry. With one more the next row may be fit."""
     last = script.count - 1
     less = [last] if last in script.table[: script.rows()] else []
-    return other_count(script, random.choice([0, 0] + less + COUNTS))
+    return changed(script.set_count, random.choice([0, 0] + less + COUNTS), script.count)
 
 
 def wrong_state(random, script):
-    return other_state(script, random.choice([script.count, script.count + 1] + STATES))
+    return changed(script.set_state, random.choice([script.count, script.count + 1] + STATES), script.state)
 
 
 def wrong_entry(random, script):

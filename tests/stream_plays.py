@@ -5,7 +5,7 @@ from compare_runs import check_conserved
 from equations import CODES, DROPPED_ENTRY
 from rules import read_rule
 from sifting import Sifting
-from stream_faults import enough, harmless_change, lengths, other_count, refused_call
+from stream_faults import changed, enough, harmless_change, lengths, refused_call
 from stream_scans import halves, pieces, singles, steered
 from stream_script import MOST_BYTES
 
@@ -99,7 +99,7 @@ def play_next_row(random, script, data):
     script.fill(0, 0)
     script.build(data)
     count, behind = script.count, script.rows() + CODES
-    with other_count(script, count + 1):
+    with changed(script.set_count, count + 1, script.count):
         for entry, number in ((count + 1, 16), (254, 16), (DROPPED_ENTRY, None), (count, None), (0, None)):
             script.write(behind - 1, bytes([entry]))
             script.begin()
