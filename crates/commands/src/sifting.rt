@@ -11,8 +11,7 @@ ghost use mathlib.Core.List.{List};
 ghost use Prim.Native.Nat.{ℕ, _≤_};
 ghost use lib.ListN.{length};
 ghost use Rattle.reading.specs.Rule.{Bytes};
-ghost use Rattle.running.specs.Running.{runOf, ranOf};
-ghost use Rattle.running.specs.Running.{WellFormedTable};
+ghost use Rattle.running.specs.Running.{WellFormedTable, runOf, ranOf};
 ghost use Rattle.commands.specs.Sifting.{EndsCallsOn, Sifts};
 
 // The state after a block of scans, and whether there may be more.

@@ -2,7 +2,7 @@
 // A record is one byte of kind and a body. The records before a call set its table, its count and its state:
 //   f FIRST STEP          byte i of the table is FIRST + STEP × i, modulo 256
 //   w PLACE LENGTH bytes  the table's bytes from the place on are these
-//   r LENGTH bytes        the table is built from this rule file, the count is that of building, the state is the start
+//   r LENGTH bytes        the table is built from this rule file, the count is that of building, 0 where it refuses, the state is the start
 //   n COUNT               the count
 //   b                     the state is the start
 //   s EQUATION            the state

@@ -61,7 +61,7 @@ module _ {E : Type 0} (answer : E → ℕ → Answer E) where
       → verdicts answer e (w ++ (c ∷ [])) ≡ verdicts answer e w ++ (0 ∷ [])
   verdicts-last e w c q = verdicts-append e w (c ∷ []) ∙ rw q
 
-  -- one that is dropped leaves a verdict alone
+  -- one that is dropped adds a verdict and nothing else
   pub kept-drop : (e : E) (w : List ℕ) (c : ℕ) → answer (ended answer e w) c ≡ dropped → kept answer e (w ++ (c ∷ [])) ≡ kept answer e w
   kept-drop e w c q = kept-append e w (c ∷ []) ∙ rw q (append-nil (kept answer e w))
 
