@@ -1,5 +1,6 @@
 -- The lines of a listing, and all of them.
 use Prim.Native.Nat.{ℕ, zero, suc}
+use mathlib.Core.Bool.{Bool, true, false}
 use mathlib.Core.List.{List, [], _∷_, _++_}
 use lib.ListN.{length}
 use Rattle.reading.specs.declared.Extent.{Extent}
@@ -22,6 +23,11 @@ line fields = spaced fields ++ text "\n"
 
 abbrev pub refusalLine : (number place : ℕ) → List ℕ
 refusalLine number place = line (text "refused" ∷ decimal number ∷ text "at" ∷ decimal place ∷ [])
+
+-- a model meets a rule, or breaks it
+abbrev pub judgmentLine : (meets : Bool) → List ℕ
+judgmentLine true = line (text "meets" ∷ [])
+judgmentLine false = line (text "breaks" ∷ [])
 
 abbrev pub patternsLine : (count : ℕ) → List ℕ
 patternsLine count = line (text "patterns" ∷ decimal count ∷ [])

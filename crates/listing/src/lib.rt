@@ -7,7 +7,7 @@ ghost use mathlib.Core.Path.{_≡_};
 ghost use Prim.Native.Nat.{_-_, _/_, _%_, min, _≤_, _<_};
 ghost use lib.ListN.{length};
 ghost use Rattle.listing.specs.Runs.{RunTo};
-ghost use Rattle.listing.specs.Lines.{refusalLine};
+ghost use Rattle.listing.specs.Lines.{refusalLine, judgmentLine};
 ghost use Rattle.listing.specs.Positions.{lineOf, Within, noLine, rowLineAt, listingLineAt};
 ghost use Rattle.listing.specs.LineParts.{Gives};
 
@@ -29,6 +29,17 @@ pub fn refusal_line(number: u8, place: usize) -> Line
     ensures { λ r. ⌜ Within r ⌝ }
 {
     lines::refusal(number, place)
+}
+
+// The line that says whether a model meets a rule.
+pub fn judgment_line(meets: bool) -> Line
+    ensures { λ r. ⌜ r ≡ lineOf (judgmentLine meets) ⌝ }
+    ensures { λ r. ⌜ Within r ⌝ }
+{
+    if meets {
+        return lines::alone(b"meets");
+    }
+    lines::alone(b"breaks")
 }
 
 // No line, at a position after the last.

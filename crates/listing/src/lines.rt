@@ -1,4 +1,4 @@
-// The lines of a listing, and the line of a refusal.
+// The lines of a listing, and those of a refusal and of a judgment.
 use crate::Line;
 use reading::Extent;
 ghost use mathlib.Core.List.{[], _∷_};
@@ -15,6 +15,14 @@ pub(crate) fn counted(word: &[u8], n: usize) -> Line
     ensures { λ r. ⌜ Prints (line (now (word .entry) ∷ decimal n ∷ [])) r ⌝ }
 {
     Line::empty().word(word).field(n).ended()
+}
+
+// A word alone.
+pub(crate) fn alone(word: &[u8]) -> Line
+    requires { ⌜ length (now word) ≤ 16 ⌝ }
+    ensures { λ r. ⌜ Prints (line (now (word .entry) ∷ [])) r ⌝ }
+{
+    Line::empty().word(word).ended()
 }
 
 // Pattern i.
