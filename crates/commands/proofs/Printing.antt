@@ -12,10 +12,12 @@ use Rattle.reading.proofs.Accepted.{reading-accepts}
 use Rattle.reading.proofs.Prefix.{first-bytes}
 use Rattle.synthesis.specs.Building.{equationsOf, Synthesis, synthesisOf, buildingOf, countedOf, tableAfter}
 use Rattle.synthesis.proofs.Synthesized.{synthesis-accepts, building-accepts}
+use Rattle.models.specs.Judging.{judgingOf}
+use Rattle.models.proofs.Settled.{settled-by-first-bytes}
 use Rattle.listing.specs.Positions.{linesFrom}
 use Rattle.listing.proofs.AllLines.{lists-rule}
 use Rattle.commands.specs.Printing.{textFor, printed}
-use Rattle.commands.specs.Promises.{PrintsAnswer, SettledByBuffer}
+use Rattle.commands.specs.Promises.{PrintsAnswer, SettledByBuffer, JudgmentSettledByBuffer}
 
 -- 32,802 lines are enough for the listing of an accepted rule, which has at most 128 equations
 accepted-prints : (s table : List ℕ) → Bytes s → (y : Synthesis) → synthesisOf 128 s ≡ accepted y
@@ -37,3 +39,7 @@ prints-answer s table bytes = on (buildingOf 128 s (length table)) refl
 pub settled-by-buffer : SettledByBuffer
 unfolding buildingOf synthesisOf
 settled-by-buffer s size = rw (first-bytes s 4096 (omega arith))
+
+pub judgment-settled-by-buffer : JudgmentSettledByBuffer
+unfolding judgingOf
+judgment-settled-by-buffer s f size = rw (settled-by-buffer s size, settled-by-first-bytes f 4096 (omega arith))

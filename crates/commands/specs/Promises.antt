@@ -11,6 +11,7 @@ use Rattle.synthesis.specs.Building.{buildingOf, countedOf, tableAfter}
 use Rattle.synthesis.specs.declared.Counted.the-variants.{Equations, Refused}
 use Rattle.running.specs.Calls.{History, noCalls, Calls}
 use Rattle.running.specs.Promises.{Sifted}
+use Rattle.models.specs.Judging.{judgingOf}
 use Rattle.commands.specs.Printing.{textFor, printed}
 use Rattle.commands.specs.Sifting.{UnderRule}
 
@@ -24,6 +25,10 @@ PrintsAnswer =
 -- 2. The 4,096 bytes that each program reads of a rule file settle the answer to the whole of it.
 abbrev pub SettledByBuffer : Type 0
 SettledByBuffer = (s : List ℕ) (size : ℕ) → buildingOf 128 (take 4096 s) size ≡ buildingOf 128 s size
+
+-- So do those that `meets` reads of a rule file and of a model file.
+abbrev pub JudgmentSettledByBuffer : Type 0
+JudgmentSettledByBuffer = (s f : List ℕ) (size : ℕ) → judgingOf 128 (take 4096 s) size (take 4096 f) ≡ judgingOf 128 s size f
 
 -- 3. Under an accepted rule, calls as the contract of `sift` has them sift by the rule, however the scans come in blocks.
 abbrev pub SiftsByRule : Type 0

@@ -1,7 +1,9 @@
 // What the programs do: each reads its input, prints the answer, and hands it back.
 mod files;
+mod judging;
 mod sifting;
 
+pub use judging::meets;
 use libc::STDIN_FILENO;
 use libc::STDOUT_FILENO;
 use listing::Line;

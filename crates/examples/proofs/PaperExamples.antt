@@ -14,7 +14,7 @@ paper-examples = record {
   short-table = λ s table h. rw (building-short 128 s (length table) h);
   number-pool = number-pool;
   pool-table = pool-table;
-  texts = record { refusal = refl; one-digit = refl; two-digits = refl; four-digits = refl };
+  texts = record { refusal = refl; meets = refl; breaks = refl; one-digit = refl; two-digits = refl; four-digits = refl };
   small-files = small-files;
   pool-scans = pool-scans;
 }

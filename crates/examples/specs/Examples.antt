@@ -3,6 +3,7 @@
 use Prim.Native.Nat.{ℕ, _≤_, _<_}
 use mathlib.Core.Path.{_≡_}
 use mathlib.Core.Logic.{_⊎_}
+use mathlib.Core.Bool.{true, false}
 use mathlib.Core.List.{List, [], _∷_, _++_, map}
 use lib.ListN.{length, drop, replicate}
 use Rattle.reading.specs.Code.{codeOf, issue, cancel, sync}
@@ -20,7 +21,7 @@ use Rattle.synthesis.specs.declared.Counted.the-variants.{Equations, Refused}
 use Rattle.running.specs.Running.{start, Run, runOf, checkedOf, ranOf, outputAfter, verdictsAfter}
 use Rattle.running.specs.declared.Checked.the-variants.{Fit, Refused as Unfit}
 use Rattle.listing.specs.Text.{text, decimal}
-use Rattle.listing.specs.Lines.{refusalLine, listing}
+use Rattle.listing.specs.Lines.{refusalLine, judgmentLine, listing}
 
 -- ---- shorter to write
 
@@ -117,6 +118,8 @@ pub record PoolTable (table : List ℕ) : Type 0 where
 
 pub record Texts : Type 0 where
   pub refusal : refusalLine 7 12 ≡ text "refused 7 at 12\n"
+  pub meets : judgmentLine true ≡ text "meets\n"
+  pub breaks : judgmentLine false ≡ text "breaks\n"
   -- not in the paper: numbers of one digit and of more
   pub one-digit : decimal 0 ≡ text "0"
   pub two-digits : decimal 10 ≡ text "10"

@@ -1,1 +1,1 @@
-// The paper's examples, as one theorem over the definitions of the layers. There is no code.
+// The paper's examples, as theorems over the definitions of the layers. There is no code.

@@ -139,11 +139,11 @@ distinct-last l e n d i h = on (decLt i (length l))
 -- ---- a list of distinct numbers is no longer than one that has them all
 
 -- the list without the first e in it
-abbrev without : ℕ → List ℕ → List ℕ
+abbrev pub without : ℕ → List ℕ → List ℕ
 without e [] = []
 without e (x ∷ l) = cond (eqb e x) l (x ∷ without e l)
 
-without-length : (e : ℕ) (l : List ℕ) → Member e l → length l ≡ suc (length (without e l))
+pub without-length : (e : ℕ) (l : List ℕ) → Member e l → length l ≡ suc (length (without e l))
 without-length e [] h = absurd (omega arith)
 without-length e (x ∷ l) h = on (eqb e x) h (without-length e l)
   where
@@ -152,7 +152,7 @@ without-length e (x ∷ l) h = on (eqb e x) h (without-length e l)
     on true h ih = refl
     on false h ih = ap suc (ih (omega arith))
 
-without-member : (e y : ℕ) (l : List ℕ) → (y ≡ e → ⊥) → Member y l → Member y (without e l)
+pub without-member : (e y : ℕ) (l : List ℕ) → (y ≡ e → ⊥) → Member y l → Member y (without e l)
 without-member e y [] n h = h
 without-member e y (x ∷ l) n h = on (eqb e x) refl (eqb y x) refl h (without-member e y l n)
   where

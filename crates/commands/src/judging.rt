@@ -1,0 +1,48 @@
+// The program `meets`.
+use crate::files::read_file;
+use crate::print_line;
+use listing::Line;
+use models::Judged;
+ghost use mathlib.Core.Path.{_≡_};
+ghost use mathlib.Core.List.{List};
+ghost use Prim.Native.Nat.{ℕ};
+ghost use lib.ListN.{length};
+ghost use Rattle.reading.specs.Rule.{Bytes};
+ghost use Rattle.listing.specs.Positions.{lineOf, Within};
+ghost use Rattle.models.specs.Judging.{judgingOf, JudgedAs};
+ghost use Rattle.commands.specs.Printing.{judgedText};
+
+// The line of an answer.
+fn judged_line(answer: Judged) -> Line
+    ensures { λ r. ⌜ r ≡ lineOf (judgedText answer) ⌝ }
+    ensures { λ r. ⌜ Within r ⌝ }
+{
+    match answer {
+        Judged::Meets => listing::judgment_line(true),
+        Judged::Breaks => listing::judgment_line(false),
+        Judged::Refused(number, place) => listing::refusal_line(number, place),
+    }
+}
+
+// Judges a model file under a rule file, and prints the answer. (A slice of u8 consists of bytes.)
+fn print_judged(rule: &[u8], model: &[u8], table: &mut [u8]) -> Judged
+    ensures { λ _. ⌜ Bytes (now (rule .entry)) × Bytes (now (model .entry)) ⌝ }
+    ensures { λ r. ⌜ JudgedAs (judgingOf 128 (now (rule .entry)) (length (now (table .entry))) (now (model .entry))) r ⌝ }
+{
+    let answer = models::judge(rule, model, table);
+    print_line(judged_line(answer));
+    answer
+}
+
+// Reads a rule from the file rule.bin and a model from the file model.bin, prints whether the model meets the rule or why one is refused, and
+// hands back the answer. No more than 4,096 bytes are read of each.
+pub fn meets() -> Judged
+    ensures { λ r. ⌜ ((s : List ℕ) × (f : List ℕ) × Bytes s × Bytes f × JudgedAs (judgingOf 128 s 32768 f) r) ⌝ }
+{
+    let mut rule = io::buffer();
+    let n = read_file(b"rule.bin", &mut rule);
+    let mut model = io::buffer();
+    let k = read_file(b"model.bin", &mut model);
+    let mut table = [0u8; 32768];
+    print_judged(&rule[..n], &model[..k], &mut table)
+}

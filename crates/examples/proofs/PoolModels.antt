@@ -1,0 +1,166 @@
+-- The paper's model under the number-pool rule, which it breaks, and one that meets the rule.
+use Prim.Native.Nat.{ℕ, zero, suc, _≤_, _<_}
+use mathlib.Core.Path.{_≡_, refl, sym, _∙_}
+use mathlib.Core.Logic.{inl, inr}
+use mathlib.Core.Bool.{Bool, true, false, true≢false}
+use mathlib.Core.List.{List, [], _∷_}
+use native.Mathlib.Omega.{arith}
+use lib.Dec.{eqb}
+use lib.ListN.{length, getD}
+use borrow.Author.Tests.{eqb-true}
+use Rattle.reading.specs.Pattern.{bit, covers}
+use Rattle.reading.specs.Formula.{Formula, falsity, both, necessity, variable}
+use Rattle.reading.specs.Rule.{Bytes}
+use Rattle.reading.specs.Outcome.{accepted}
+use Rattle.synthesis.specs.Violation.{coveredBy, ViolatesRule, by-falsity, by-first, by-code, by-body}
+use Rattle.synthesis.specs.Table.{entry}
+use Rattle.models.specs.Model.{Label, silent, code, Walk, stay, silent-first, code-first, Weak}
+use Rattle.models.specs.Satisfaction.{SatisfiesWith, Satisfies, SatisfiesDecided}
+use Rattle.models.specs.Monitored.{suppressing}
+use Rattle.models.specs.Phone.{Phone, labelOf, noStep, StepIn, modelOf}
+use Rattle.models.specs.File.{statesOf, stepsAt, phoneOf}
+use Rattle.models.specs.Judging.{judgingOf, JudgedAs}
+use Rattle.models.specs.Promises.{Enforces, Safe}
+use Rattle.models.specs.declared.Step.{Step}
+use Rattle.models.specs.declared.Judged.the-variants.{Meets, Breaks}
+use Rattle.models.proofs.SatisfactionLaws.{satisfies-safe, decided-safe}
+use Rattle.models.proofs.BisimulationLaws.{bisimilar-alike}
+use Rattle.models.proofs.DemandThree.{demand-three}
+use Rattle.models.proofs.JudgingLaws.{judging-case}
+use Rattle.examples.specs.Examples.{tableLeft, poolFile, poolRule}
+use Rattle.examples.specs.ModelExamples.{behindPool, JudgesPool, breakingFile, breakingPhone, Breaking}
+use Rattle.examples.specs.ModelExamples.{meetingFile, meetingPhone, Meeting, ModelExamples}
+use Rattle.examples.proofs.NumberPool.{number-pool}
+
+-- ---- any model file under the number-pool rule
+
+module _ (f : List ℕ) (y : Phone) (read : phoneOf f ≡ accepted y) where
+  pool-enforces : Bytes f → (table : List ℕ) → 32768 ≤ length table
+      → Enforces poolRule (suppressing (entry 256 255 (tableLeft poolFile table))) 0 (modelOf y)
+  pool-enforces bytes table room =
+      demand-three 128 255 poolFile table f poolRule 3 y (omega arith) (search arith) bytes (number-pool .file .reading)
+      (number-pool .file .answers .building table room) read
+
+  pool-judging : (table : List ℕ) → 32768 ≤ length table
+      → judgingOf 128 poolFile (length table) f ≡ accepted (record { rule = poolRule; phone = y })
+  pool-judging table room =
+      judging-case 128 poolFile f (length table) poolRule 3 y (number-pool .file .reading) (number-pool .file .answers .building table room) read
+
+  judges-met : SatisfiesDecided (modelOf y) poolRule → JudgesPool f Meets
+  judges-met sat table room r judged = on (rw (pool-judging table room) at judged)
+    where
+      on : JudgedAs (accepted (record { rule = poolRule; phone = y })) r → r ≡ Meets
+      on (inl x) = x .0
+      on (inr x) = absurd (x .1 sat)
+
+  judges-broken : (SatisfiesDecided (modelOf y) poolRule → ⊥) → JudgesPool f Breaks
+  judges-broken unsat table room r judged = on (rw (pool-judging table room) at judged)
+    where
+      on : JudgedAs (accepted (record { rule = poolRule; phone = y })) r → r ≡ Breaks
+      on (inl x) = absurd (unsat (x .1))
+      on (inr x) = x .0
+
+-- ---- the paper's model breaks the rule
+
+breaking-read : phoneOf breakingFile ≡ accepted breakingPhone
+unfolding phoneOf statesOf stepsAt
+breaking-read = refl
+
+-- the step of a place in the list
+step-at : (steps : List Step) (i : ℕ) → i < length steps
+    → StepIn steps (getD steps i noStep .from) (labelOf (getD steps i noStep .label)) (getD steps i noStep .to)
+step-at steps i h = record { place = i; inside = h; from-is = refl; label-is = refl; to-is = refl }
+
+-- number 5 is cancelled, and after a silent step issued
+cancel-issue : ViolatesRule poolRule (37 ∷ 5 ∷ [])
+unfolding bit covers
+cancel-issue = by-body (by-code refl (by-first (by-code refl by-falsity)))
+
+breaking-walk : Walk (modelOf breakingPhone) 0 (37 ∷ 5 ∷ []) 0
+breaking-walk =
+    let steps = breakingPhone .steps in
+    code-first (step-at steps 0 (omega arith)) (silent-first (step-at steps 1 (omega arith)) (code-first (step-at steps 2 (omega arith)) stay))
+
+breaking-unsafe : Safe (modelOf breakingPhone) poolRule → ⊥
+breaking-unsafe safe = safe (37 ∷ 5 ∷ []) 0 breaking-walk cancel-issue
+
+breaking-unsatisfied : Satisfies (modelOf breakingPhone) poolRule → ⊥
+breaking-unsatisfied sat = breaking-unsafe (satisfies-safe (modelOf breakingPhone) poolRule .0 sat)
+
+breaking : Breaking
+breaking = record {
+  file = breaking-read;
+  unsatisfied = breaking-unsatisfied;
+  judged = judges-broken breakingFile breakingPhone breaking-read (λ sat. breaking-unsafe (decided-safe (modelOf breakingPhone) poolRule sat));
+  changed = λ table room alike. breaking-unsatisfied (
+      bisimilar-alike (modelOf breakingPhone) (behindPool table (modelOf breakingPhone)) alike poolRule .1
+      (pool-enforces breakingFile breakingPhone breaking-read (search arith) table room .satisfies));
+}
+
+-- ---- the other meets it
+
+meeting-read : phoneOf meetingFile ≡ accepted meetingPhone
+unfolding phoneOf statesOf stepsAt
+meeting-read = refl
+
+-- its two steps
+data MeetingStep : ℕ → Label → ℕ → Type 0 where
+  cancels : MeetingStep 0 (code 37) 1
+  syncs : MeetingStep 1 (code 128) 0
+
+meeting-step : {s t : ℕ} {a : Label} → StepIn (meetingPhone .steps) s a t → MeetingStep s a t
+meeting-step x = rw (← x .from-is, ← x .label-is, ← x .to-is) (on (x .place) (x .inside))
+  where
+    on : (i : ℕ) → i < 2 → MeetingStep (getD (meetingPhone .steps) i noStep .from) (labelOf (getD (meetingPhone .steps) i noStep .label))
+        (getD (meetingPhone .steps) i noStep .to)
+    on zero h = cancels
+    on (suc zero) h = syncs
+    on (suc (suc i)) h = absurd (omega (arith, h))
+
+-- none is silent
+no-silent : {s t : ℕ} → MeetingStep s silent t → ⊥
+no-silent x = elim x [ ]
+
+silent-stays : {s t : ℕ} → Walk (modelOf meetingPhone) s [] t → s ≡ t
+silent-stays stay = refl
+silent-stays (silent-first h k) = absurd (no-silent (meeting-step h))
+
+weak-step : {s c t : ℕ} → Weak (modelOf meetingPhone) s c t → MeetingStep s (code c) t
+weak-step x = rw (silent-stays (x .silent-before), ← silent-stays (x .silent-after)) (meeting-step (x .step))
+
+-- a step from state 1 is no issue of 5, and leads back to state 0
+no-issue : {c t : ℕ} → MeetingStep 1 (code c) t → coveredBy (poolRule .patterns) 1 c ≡ false
+unfolding bit covers
+no-issue syncs = refl
+
+leads-back : {c t : ℕ} → MeetingStep 1 (code c) t → t ≡ 0
+leads-back syncs = refl
+
+-- It meets the rule by a set that has state 0 alone, whatever sets are.
+module _ {ℓ} (Sets : Type ℓ) (Has : Sets → ℕ → Type 0) (X : Sets) (only : (s : ℕ) → Has X s → s ≡ 0) (has : Has X 0) where
+  abbrev Holds : List Sets → Formula → ℕ → Type ℓ
+  Holds = SatisfiesWith (modelOf meetingPhone) (coveredBy (poolRule .patterns)) Sets Has
+
+  after-first : {c t : ℕ} → MeetingStep 0 (code c) t → Holds (X ∷ []) (both (necessity 1 falsity) (necessity 2 (variable 0))) t
+  after-first cancels = (
+    λ c t q x. absurd (true≢false (sym q ∙ no-issue (weak-step x))),
+    λ c t q x. record { lower = rw (leads-back (weak-step x)) has },
+  )
+
+  meeting-holds : Holds [] (poolRule .formula) 0
+  meeting-holds = (X, λ s h c t q x. after-first (weak-step (rw (only s h) at x)), has)
+
+meeting : Meeting
+meeting = record {
+  file = meeting-read;
+  satisfied = satisfied;
+  judged = judges-met meetingFile meetingPhone meeting-read
+      (meeting-holds (ℕ → Bool) (λ X s. X s ≡ true) (λ s. eqb s 0) (λ s. eqb-true s 0) refl);
+  unchanged = λ table room. pool-enforces meetingFile meetingPhone meeting-read (search arith) table room .bisimilar satisfied;
+}
+  where
+    satisfied : Satisfies (modelOf meetingPhone) poolRule
+    satisfied = meeting-holds (ℕ → Type 0) (λ X s. X s) (λ s. s ≡ 0) (λ s h. h) refl
+
+pub model-examples : ModelExamples
+model-examples = record { breaking = breaking; meeting = meeting }

@@ -1,0 +1,62 @@
+-- The paper's model under the number-pool rule, which it breaks, and one that meets the rule.
+use Prim.Native.Nat.{ℕ, _≤_}
+use mathlib.Core.Path.{_≡_}
+use mathlib.Core.List.{List, [], _∷_}
+use lib.ListN.{length}
+use Rattle.reading.specs.Outcome.{accepted}
+use Rattle.synthesis.specs.Table.{entry}
+use Rattle.models.specs.Model.{Model}
+use Rattle.models.specs.Satisfaction.{Satisfies}
+use Rattle.models.specs.Bisimulation.{Bisimilar}
+use Rattle.models.specs.Monitored.{suppressing, monitored}
+use Rattle.models.specs.Phone.{Phone, modelOf}
+use Rattle.models.specs.File.{phoneOf}
+use Rattle.models.specs.Judging.{judgingOf, JudgedAs}
+use Rattle.models.specs.declared.Step.{Step}
+use Rattle.models.specs.declared.Judged.{Judged}
+use Rattle.models.specs.declared.Judged.the-variants.{Meets, Breaks}
+use Rattle.examples.specs.Examples.{tableLeft, poolFile, poolRule}
+
+-- label 256 is silent
+abbrev pub step : (from label to : ℕ) → Step
+step from label to = record { from = from; label = label; to = to }
+
+-- a model behind the table that building leaves of the number-pool rule
+abbrev pub behindPool : (table : List ℕ) → Model → Model
+behindPool table = monitored (suppressing (entry 256 255 (tableLeft poolFile table))) 0
+
+-- Judging answers so, with every table of at least 32,768 bytes.
+abbrev pub JudgesPool : (model : List ℕ) → Judged → Type 0
+JudgesPool f answer =
+    (table : List ℕ) → 32768 ≤ length table → (r : Judged) → JudgedAs (judgingOf 128 poolFile (length table) f) r → r ≡ answer
+
+-- Model 16 3, 17 0 37 1, 18 1 2, 17 2 5 0 under the number-pool rule: breaks
+abbrev pub breakingFile : List ℕ
+breakingFile = 16 ∷ 3 ∷ 17 ∷ 0 ∷ 37 ∷ 1 ∷ 18 ∷ 1 ∷ 2 ∷ 17 ∷ 2 ∷ 5 ∷ 0 ∷ []
+
+abbrev pub breakingPhone : Phone
+breakingPhone = record { states = 3; steps = step 0 37 1 ∷ step 1 256 2 ∷ step 2 5 0 ∷ [] }
+
+-- Behind the monitor it is another: no strong bisimulation has the two starts.
+pub record Breaking : Type 1 where
+  pub file : phoneOf breakingFile ≡ accepted breakingPhone
+  pub unsatisfied : Satisfies (modelOf breakingPhone) poolRule → ⊥
+  pub judged : JudgesPool breakingFile Breaks
+  pub changed : (table : List ℕ) → 32768 ≤ length table → Bisimilar (modelOf breakingPhone) (behindPool table (modelOf breakingPhone)) → ⊥
+
+-- Not in the paper: a phone that cancels number 5 and syncs, again and again, meets the rule. The monitor doesn't change it.
+abbrev pub meetingFile : List ℕ
+meetingFile = 16 ∷ 2 ∷ 17 ∷ 0 ∷ 37 ∷ 1 ∷ 17 ∷ 1 ∷ 128 ∷ 0 ∷ []
+
+abbrev pub meetingPhone : Phone
+meetingPhone = record { states = 2; steps = step 0 37 1 ∷ step 1 128 0 ∷ [] }
+
+pub record Meeting : Type 1 where
+  pub file : phoneOf meetingFile ≡ accepted meetingPhone
+  pub satisfied : Satisfies (modelOf meetingPhone) poolRule
+  pub judged : JudgesPool meetingFile Meets
+  pub unchanged : (table : List ℕ) → 32768 ≤ length table → Bisimilar (modelOf meetingPhone) (behindPool table (modelOf meetingPhone))
+
+pub record ModelExamples : Type 1 where
+  pub breaking : Breaking
+  pub meeting : Meeting

@@ -1,0 +1,113 @@
+-- `judge` meets its contract: each return is a row of what judging answers and leaves.
+use Prim.Native.Nat.{_<_}
+use native.Mathlib.Omega.{arith}
+use borrow.Author.Needs.{needs}
+use Rattle.reading.specs.Rule.{Bytes}
+use Rattle.reading.proofs.AllLaws.{all-of}
+use Rattle.models.proofs.Judgment.{judges-model-refused, judges-rule-refused, Accepts, both-accepted}
+use Rattle.models.proofs.Judgment.{model-has-phone, table-well-formed, judges-meets, judges-breaks}
+use Rattle.models.proofs.judge.Statement.{statement}
+use Rattle.models.proofs.judge.Tie as tie
+
+-- the files are bytes
+rule-bytes : (c : tie.After-slice-known) → Bytes (c .before .before .before .args .rule .now)
+rule-bytes c =
+    all-of (λ b. b < 256) (c .before .before .before .args .rule .now) 0 (λ i h. omega (arith, c .before .before .shared-slice-known .given i))
+
+model-bytes : (c : tie.After-slice-known) → Bytes (c .before .before .before .args .model .now)
+model-bytes c =
+    all-of (λ b. b < 256) (c .before .before .before .args .model .now) 0 (λ i h. omega (arith, c .before .shared-slice-known2 .given i))
+
+-- the model is read and the rule built
+accepts : (c : tie.After-enum-told3) → let b = c .before .before .before .before in let m = b .before .before .before .before in
+    let x = m .before .before .before .before .args in
+    Accepts (x .rule .now) (x .table .now) (x .model .now) (b .build .last .1 .0) (m .read-model .result .model)
+accepts c =
+    let b = c .before .before .before .before in
+    let m = b .before .before .before .before in
+    both-accepted _ _ _ _ (rule-bytes (m .before)) (model-bytes (m .before)) (m .read-model .ensures) (b .before .before .enum-told .given .1)
+    (b .build .ensures .0) (b .build .ensures .1) (c .enum-told3 .given .1)
+
+read-model-requires : tie.Need-read-model-requires
+read-model-requires c κs = search needs
+
+enum-told : tie.Need-enum-told
+enum-told c = search needs
+
+enum-told-2 : tie.Need-enum-told-2
+enum-told-2 c = search needs
+
+refuse-requires : tie.Need-refuse-requires
+refuse-requires c κs = search needs
+
+returns : tie.Need-returns
+returns c =
+    let told = c .before in
+    judges-model-refused _ _ _ (told .before .before .read-model .ensures) (told .enum-told2 .given .1) (c .refuse .ensures)
+
+build-requires : tie.Need-build-requires
+build-requires c κs = search needs
+
+enum-told-3 : tie.Need-enum-told-3
+enum-told-3 c = search needs
+
+enum-told-4 : tie.Need-enum-told-4
+enum-told-4 c = search needs
+
+refuse-rule-requires : tie.Need-refuse-rule-requires
+refuse-rule-requires c κs = search needs
+
+same-length : tie.Need-same-length
+same-length c = search needs
+
+returns-2 : tie.Need-returns-2
+returns-2 c =
+    let told = c .before in
+    let b = told .before .before .before .before in
+    let x = b .before .before .before .before .before .before .before .before .args in
+    judges-rule-refused (x .rule .now) (x .table .now) (x .model .now) (b .build .ensures .0) (b .build .ensures .1) (told .enum-told4 .given .1)
+    (c .refuse-rule .ensures)
+
+of-model-requires : tie.Need-of-model-requires
+of-model-requires c κs = model-has-phone _ _ _ (accepts c)
+
+never-drops-requires : tie.Need-never-drops-requires
+never-drops-requires c κs = (c .before .of-model .ensures .1, table-well-formed _ _ _ (accepts (c .before .before)))
+
+same-length-2 : tie.Need-same-length-2
+same-length-2 c = search needs
+
+returns-3 : tie.Need-returns-3
+returns-3 c =
+    let a = c .before .before .before in
+    judges-meets _ _ _ (accepts (a .before)) (a .of-model .ensures .0) (c .before .never-drops .ensures) (c .if1 .taken)
+
+same-length-3 : tie.Need-same-length-3
+same-length-3 c = search needs
+
+returns-4 : tie.Need-returns-4
+returns-4 c =
+    let a = c .before .before .before in
+    judges-breaks _ _ _ (accepts (a .before)) (a .of-model .ensures .0) (c .before .never-drops .ensures) (c .if1 .left)
+
+pub judge-spec : {M : Type 1} → statement M
+judge-spec =
+    tie.close
+    (tie.spec
+    read-model-requires
+    enum-told
+    enum-told-2
+    refuse-requires
+    returns
+    build-requires
+    enum-told-3
+    enum-told-4
+    refuse-rule-requires
+    same-length
+    returns-2
+    of-model-requires
+    never-drops-requires
+    same-length-2
+    returns-3
+    same-length-3
+    returns-4)

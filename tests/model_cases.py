@@ -1,0 +1,85 @@
+"""The rules, the models and the table sizes on which judging is tried. They are the same each time."""
+from random import Random
+
+import known_models
+import model_faults
+import model_limits
+import stream_cases
+from equations import LEAST_TABLE, rows
+from judging import refusal_of
+from known import POOL, bytes_of
+from models import MOST_STATES, SILENT
+from model_shapes import as_file, chain, drawn_models, mended, put_back, random_steps, renumbered, some_labels
+from model_shapes import up_to_drop, with_unreached
+from rules import read_rule
+
+# Most tables are the least ones.
+SIZES = [LEAST_TABLE] * 12 + [32769, 33023, 40000, 65536]
+
+
+def typed_cases():
+    cases = [(LEAST_TABLE, rule, model) for rule, model, _ in known_models.judged()]
+    cases += [(LEAST_TABLE, bytes_of(POOL), model) for model, _ in known_models.refused()]
+    return cases + [(size, rule, model) for rule, model, size, _ in known_models.ordered()]
+
+
+def chain_models(random, rule, table):
+    """Walks that the rule drops the last scan of, where it drops any: with silent steps; without the last scan; and
+    beside states that aren't reached."""
+    scans = up_to_drop(random, rule, random.randrange(1, 30))
+    labels = some_labels(random, rule, table)
+    states, steps = chain(random, scans, random.randrange(20))
+    whole = mended(states, steps, table)
+    more = with_unreached(random, states, whole, labels)
+    return [as_file(count, renumbered(random, count, some)) for count, some in ((states, steps), (states, whole), more)]
+
+
+def looped_models(random, rule, table):
+    """A walk that the rule keeps with other steps between its states; a step that breaks the rule put back; and all
+    steps repeated."""
+    scans = up_to_drop(random, rule, random.randrange(4, 20))
+    states, steps = chain(random, scans, random.randrange(9))
+    steps += random_steps(random, list(scans) + [SILENT] * random.randrange(9), states, random.randrange(1, 9))
+    whole = mended(states, steps, table)
+    again = put_back(random, steps, whole)
+    return [as_file(states, some) for some in (whole, again, renumbered(random, states, again * 2))]
+
+
+def models_for(random, number, data):
+    """Three models for a rule. Their kind changes from rule to rule."""
+    rule, table = read_rule(data), rows(data)
+    if number % 5 == 0:
+        return drawn_models(random, rule, table, random.randrange(1, 5), random.randrange(1, 9))
+    if number % 5 == 1:
+        return chain_models(random, rule, table)
+    if number % 5 == 2:
+        states = random.randrange(5, 30)
+        return drawn_models(random, rule, table, states, random.randrange(states, 4 * states))
+    if number % 5 == 3:
+        return looped_models(random, rule, table)
+    states = random.choice([MOST_STATES, MOST_STATES, random.randrange(30, MOST_STATES)])
+    return drawn_models(random, rule, table, states, random.choice([64, 100, 200, 511, 512]))
+
+
+def drawn_cases(random):
+    """Models for rules of many shapes."""
+    cases = []
+    for number, data in enumerate(stream_cases.rule_files()[::2]):
+        cases += [(random.choice(SIZES), data, model) for model in models_for(random, number, data)]
+    return cases
+
+
+def spoiled_cases(random, judged):
+    """The models, of which some break their rule, with a fault at their end."""
+    return [(size, rule, model_faults.spoiled(random, model)) for size, rule, model in judged]
+
+
+def cases():
+    """Every case, none of them twice."""
+    random = Random("models")
+    pool = bytes_of(POOL)
+    every = typed_cases() + model_faults.grid()
+    every += [(LEAST_TABLE, pool, model) for model in model_faults.files(random)]
+    some = drawn_cases(random) + [(LEAST_TABLE, rule, model) for rule, model in model_limits.pairs(random)]
+    every += some + spoiled_cases(random, [case for case in some[::25] if refusal_of(*case) is None])
+    return list(dict.fromkeys(every))

@@ -1,0 +1,53 @@
+"""Writes what the test program `judgments` reads and what it must answer, from the Python alone: from satisfaction,
+which is held against violation, against the table of the Python equations, and against all that demand 3 says.
+
+Each case on its standard input is a table's size, a rule's length and a model's length, each as three bytes, highest
+first, and then the two files. Each case has one line on its standard output. With --check nothing is written, and the
+files are compared with what would be.
+"""
+from collections import Counter
+
+import compare_models
+import model_cases
+import stream_cases
+from expected import digest, is_check, settle, three_bytes
+from judging import judge
+from models import MOST_STEPS, Model, read_model
+from rules import Refusal
+from write_tables import fresh_table
+
+
+def reading_of(data):
+    """What reading says of a model file, and the model that it hands back: the states, the number of steps, and the
+    digest of 512 steps, each as from, two bytes of label, and to. What isn't filled is 0, and all of it where the file
+    is refused."""
+    answer = read_model(data)
+    is_refused = isinstance(answer, Refusal)
+    model = Model(0, ()) if is_refused else answer
+    steps = b"".join(bytes([step.source, *divmod(step.label, 256), step.target]) for step in model.steps)
+    told = str(answer) if is_refused else "accepted"
+    return f"{told} {model.states} {len(model.steps)} {digest(steps.ljust(4 * MOST_STEPS, bytes(1)))}"
+
+
+def input_of(size, rule, model):
+    return three_bytes(size) + three_bytes(len(rule)) + three_bytes(len(model)) + rule + model
+
+
+def main():
+    checks = is_check(__doc__)
+    pairs, met = compare_models.check(stream_cases.rule_files())
+    cases = model_cases.cases()
+    lines, tally = [], Counter()
+    for case, (size, rule, model) in enumerate(cases):
+        table = fresh_table(size, case)
+        answer = judge(rule, model, table)
+        compare_models.check_answer(rule, model, answer)
+        lines.append(f"{reading_of(model)} {answer} {digest(table)}")
+        tally[answer.split(" at ")[0]] += 1
+    settle("judgments", b"".join(input_of(*case) for case in cases), lines, checks)
+    print(f"{pairs} pairs compared, {met} of which meet, {len(cases)} cases:")
+    print(", ".join(f"{number} {what}" for what, number in sorted(tally.items())))
+
+
+if __name__ == "__main__":
+    main()

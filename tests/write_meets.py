@@ -1,0 +1,42 @@
+"""Writes the files that the program `meets` reads and what it must print, and the same for the crates that run it on
+other files, from what is typed here and held against judging.
+
+With --check nothing is written, and the files are compared with what would be.
+"""
+from compare import expect
+from equations import LEAST_TABLE
+from expected import is_check, settle_files
+from judging import judge
+from known import POOL, bytes_of
+from known_models import MEETING, PAPER
+from models import MOST_STEPS, file_of
+
+# More steps than there may be, and more bytes than the program reads. The first byte that is too much settles it.
+REFUSED = file_of(2, [(0, 37, 1), (1, 128, 0)] * (MOST_STEPS + 50))
+
+
+def programs():
+    """Each crate with its rule, its model, if it has one, and the line that it prints."""
+    paper = bytes_of(POOL)
+    return [
+        ("meets", paper, bytes_of(PAPER), "breaks"),
+        ("meets_met", paper, bytes_of(MEETING), "meets"),
+        ("meets_missing", paper, None, "refused 11 at 0"),
+        ("meets_refused", paper, REFUSED, "refused 14 at 2050"),
+    ]
+
+
+def main():
+    checks = is_check(__doc__)
+    for crate, rule, model, line in programs():
+        answer = judge(rule, model or b"", bytearray(LEAST_TABLE))
+        expect(answer == line, crate, answer)
+        contents = {"data/rule.bin": rule, "stdin": b"", "stdout": f"{line}\n".encode()}
+        if model is not None:
+            contents["data/model.bin"] = model
+        settle_files(crate, contents, checks)
+    print(f"{len(programs())} programs")
+
+
+if __name__ == "__main__":
+    main()
