@@ -10,12 +10,13 @@ use lib.ListN.{length, getD, drop, length-take, length-drop}
 use borrow.Author.Tests.{eqb-true, eqb-false, eq-eqb, ne-eqb}
 use Rattle.synthesis.specs.Monitor.{dropped, next}
 use Rattle.synthesis.specs.Table.{rowOf, meaning, entry}
+use Rattle.synthesis.specs.Promises.{RowInRange}
 use Rattle.synthesis.proofs.Rows.{row-is}
 use Rattle.running.specs.Running.{WellFormedTable}
-use Rattle.running.proofs.Tables.{row-at}
+use Rattle.running.proofs.Tables.{getD-inside, row-at}
 use Rattle.models.specs.Model.{silent, code, Model}
 use Rattle.models.specs.Phone.{labelOf}
-use Rattle.models.specs.Exploring.{Reached, silently, keeping, NeverDrops, RowInRange, leadsTo}
+use Rattle.models.specs.Exploring.{Reached, silently, keeping, NeverDrops, leadsTo}
 
 -- ---- labels and entries
 
@@ -57,13 +58,15 @@ module _ (row : List ℕ) (e label : ℕ) where
   leads-by-code other = rw (ne-eqb label 256 other)
 
   -- to an equation, unless it is dropped
-  pub leads-inside : (count : ℕ) → RowInRange count row → e < count → label ≤ 256 → (leadsTo row e label ≡ 255 → ⊥)
+  pub leads-inside : (count : ℕ) → RowInRange 255 count row → e < count → label ≤ 256 → (leadsTo row e label ≡ 255 → ⊥)
       → leadsTo row e label < count
   leads-inside count fits inside h kept = on (eqb label 256) refl
     where
       on : (b : Bool) → eqb label 256 ≡ b → leadsTo row e label < count
       on true q = rw q inside
-      on false q = rw q (known (fits .range label (omega (arith, eqb-false label 256 q))) (rw q at kept))
+      on false q =
+          let byte : label < 256 = omega (arith, eqb-false label 256 q) in
+          rw q (known (rw (getD-inside row label 0 255 (omega (arith, fits .whole))) at (fits .range label byte)) (rw q at kept))
         where
           known : (getD row label 255 ≡ 255) ⊎ (getD row label 255 < count) → (getD row label 255 ≡ 255 → ⊥) → getD row label 255 < count
           known (inl z) other = absurd (other z)
@@ -73,10 +76,10 @@ module _ (row : List ℕ) (e label : ℕ) where
 
 -- in range for its count, and so for a limit on it
 pub row-in-range : (limit count : ℕ) (table : List ℕ) → WellFormedTable limit 255 count table → (k : ℕ) → k < count
-    → (most : ℕ) → count ≤ most → RowInRange most (rowOf 256 table k)
+    → (most : ℕ) → count ≤ most → RowInRange 255 most (rowOf 256 table k)
 row-in-range limit count table wf k h most under = record {
-  row-length = rw (row-is 256 table k room) (omega (arith, length-take 256 (drop (256 * k) table), length-drop (256 * k) table));
-  range = λ c b. rw (row-at table k c 255 room b) (wider (getD table (256 * k + c) 0) (wf .range k c h b));
+  whole = rw (row-is 256 table k room) (omega (arith, length-take 256 (drop (256 * k) table), length-drop (256 * k) table));
+  range = λ c b. rw (row-at table k c 0 room b) (wider (getD table (256 * k + c) 0) (wf .range k c h b));
 }
   where
     room : 256 * k + 256 ≤ length table

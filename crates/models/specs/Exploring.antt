@@ -99,11 +99,6 @@ pub record Noted (pair : ℕ) (seen pairs : List ℕ) (found : ℕ) (seen′ pai
   pub grown : Grown (λ p. p ≡ pair) seen pairs found seen′ pairs′ found′
   pub is-seen : Seen seen′ pair
 
--- a row of 256 entries, each the mark for dropped or the number of one of `count` equations
-pub record RowInRange (count : ℕ) (row : List ℕ) : Type 0 where
-  pub row-length : length row ≡ 256
-  pub range : (c : ℕ) → c < 256 → (getD row c 255 ≡ 255) ⊎ (getD row c 255 < count)
-
 -- where a label leads from an equation with this row; 255 where it is dropped
 abbrev pub leadsTo : (row : List ℕ) → (equation label : ℕ) → ℕ
 leadsTo row equation label = cond (eqb label 256) equation (getD row label 255)

@@ -9,10 +9,11 @@ ghost use mathlib.Core.Bool.{true};
 ghost use Prim.Native.Nat.{ℕ, _≤_, _<_};
 ghost use lib.ListN.{length};
 ghost use Rattle.synthesis.specs.Table.{entry};
+ghost use Rattle.synthesis.specs.Promises.{RowInRange};
 ghost use Rattle.running.specs.Running.{WellFormedTable};
 ghost use Rattle.models.specs.Phone.{Phone, modelOf};
 ghost use Rattle.models.specs.Exploring.{NeverDrops, Linked, LinksInRange, linksOf};
-ghost use Rattle.models.specs.Exploring.{Worklist, Noted, RowInRange, leadsTo, ExpandedAs};
+ghost use Rattle.models.specs.Exploring.{Worklist, Noted, leadsTo, ExpandedAs};
 
 // What expanding a pair comes to: a step is dropped, or so many pairs have been found.
 enum Expanded {
@@ -57,7 +58,7 @@ fn expand(
     found: usize,
 ) -> Expanded
     requires { ⌜ LinksInRange (linksOf (now last) (now earlier) (now labels) (now targets))
-        × RowInRange 128 (now row) × (pair < 8192) × Worklist (now seen) (now pairs) found ⌝ }
+        × RowInRange 255 128 (now row) × (pair < 8192) × Worklist (now seen) (now pairs) found ⌝ }
     ensures { λ r. ⌜ ExpandedAs (linksOf (now (last .entry)) (now (earlier .entry)) (now (labels .entry)) (now (targets .entry)))
         (now (row .entry)) pair (now (seen .entry)) (now (pairs .entry)) found r (now (seen .exit)) (now (pairs .exit)) ⌝ }
 {

@@ -76,7 +76,7 @@ shared-slice-read-after c = search needs
 after-requires : tie.Need-after-requires Inv-loop μ-loop
 after-requires c κs =
     let l = c .before .before in
-    (start l .pre .1 .row-length, start l .pre .0 .labels-range (l .loop .step - 1))
+    (start l .pre .1 .whole, start l .pre .0 .labels-range (l .loop .step - 1))
 
 cast-if1 : tie.Need-cast-if1 Inv-loop μ-loop
 cast-if1 c = search needs
