@@ -8,18 +8,9 @@ use libc::STDIN_FILENO;
 use printing::print_judged;
 use printing::print_reading;
 use printing::print_table;
-use printing::wide;
-
-// The table that is lent: byte i is case + 7 × i, modulo 251.
-fn refresh(table: &mut [u8], case: u64) {
-    let mut byte = case % 251;
-    let mut i = 0;
-    while i < table.len() {
-        table[i] = byte as u8;
-        byte = (byte + 7) % 251;
-        i += 1;
-    }
-}
+use testing::Head;
+use testing::fill;
+use testing::read_size;
 
 fn answer(rule: &[u8], model: &[u8], table: &mut [u8]) {
     print_reading(models::read_model(model));
@@ -28,6 +19,7 @@ fn answer(rule: &[u8], model: &[u8], table: &mut [u8]) {
 }
 
 // Fills the two spaces with the files of a case, answers it, and says whether the files were whole.
+// Byte i of the table that is lent is case + 7 × i, modulo 251.
 fn answer_files(rule: &mut [u8], model: &mut [u8], table: &mut [u8], case: u64) -> bool {
     if io::read_full(STDIN_FILENO, rule) < rule.len() {
         return false;
@@ -35,33 +27,22 @@ fn answer_files(rule: &mut [u8], model: &mut [u8], table: &mut [u8], case: u64) 
     if io::read_full(STDIN_FILENO, model) < model.len() {
         return false;
     }
-    refresh(table, case);
+    fill(table, case, 7, 250);
     answer(rule, model, table);
     true
 }
 
-fn size_of(a: u8, b: u8, c: u8) -> usize {
-    (wide(a) * 65536 + wide(b) * 256 + wide(c)) as usize
-}
-
 // Answers the next case, and says whether there was one that the spaces can hold.
 fn answer_case(rule: &mut [u8], model: &mut [u8], table: &mut [u8], case: u64) -> bool {
-    let mut head = [0u8; 9];
-    if io::read_full(STDIN_FILENO, &mut head) < 9 {
+    let Head::Number(size) = read_size(table.len()) else {
         return false;
-    }
-    let size = size_of(head[0], head[1], head[2]);
-    let n = size_of(head[3], head[4], head[5]);
-    let m = size_of(head[6], head[7], head[8]);
-    if size > table.len() {
+    };
+    let Head::Number(n) = read_size(rule.len()) else {
         return false;
-    }
-    if n > rule.len() {
+    };
+    let Head::Number(m) = read_size(model.len()) else {
         return false;
-    }
-    if m > model.len() {
-        return false;
-    }
+    };
     answer_files(&mut rule[..n], &mut model[..m], &mut table[..size], case)
 }
 

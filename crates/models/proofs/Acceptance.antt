@@ -2,7 +2,7 @@
 use Prim.Native.Nat.{ℕ}
 use mathlib.Core.Path.{_≡_, refl, sym, _∙_}
 use mathlib.Core.Bool.{Bool, true, false, true≢false}
-use mathlib.Core.List.{List, [], _∷_}
+use mathlib.Core.List.{List, []}
 use native.Mathlib.Omega.{arith}
 use lib.Dec.{ltb}
 use lib.ListN.{length}
@@ -18,29 +18,37 @@ use Rattle.synthesis.proofs.RuleMonitor.{hopeless-iff}
 use Rattle.synthesis.proofs.Synthesized.{made, synthesis-of}
 use Rattle.synthesis.proofs.Equations.{file-well-formed, answers-count, checks-table, reaches-equations, refuses-too-many}
 use Rattle.synthesis.proofs.Built.{refuses-hopeless}
-use Rattle.models.specs.Model.{Model, Walk, stay, silent-first, code-first, Finite}
+use Rattle.models.specs.Model.{Label, Model, Walk, stay, silent-first, code-first}
 use Rattle.models.specs.Satisfaction.{Satisfies}
+use Rattle.models.specs.Phone.{Phone, StepIn, modelOf, WellFormedPhone}
 use Rattle.models.specs.Promises.{Acceptable, AcceptsExactly, RefusesUnsatisfiable}
 use Rattle.models.proofs.SatisfactionLaws.{satisfies-safe}
+use Rattle.models.proofs.PhoneStates.{phones-finite}
 
 -- ---- a rule is satisfiable exactly when the empty list doesn't violate it
 
--- the model with one state and no step
-abbrev pub still : Model
-still = record { State = Unit {0}; start = tt; Step = λ s a t. ⊥ }
+-- the phone model with one state and no step
+abbrev stillPhone : Phone
+stillPhone = record { states = 1; steps = [] }
 
-still-trace : {s t : Unit {0}} {w : List ℕ} → Walk still s w t → w ≡ []
+abbrev still : Model
+still = modelOf stillPhone
+
+still-well-formed : WellFormedPhone stillPhone
+still-well-formed = record { some-states = omega arith; few-states = omega arith; few-steps = omega arith; steps = tt }
+
+no-step : {s t : ℕ} {a : Label} → StepIn [] s a t → ⊥
+no-step x = omega (arith, x .inside)
+
+still-trace : {s t : ℕ} {w : List ℕ} → Walk still s w t → w ≡ []
 still-trace stay = refl
-still-trace (silent-first h k) = absurd h
-still-trace (code-first h k) = absurd h
+still-trace (silent-first h k) = absurd (no-step h)
+still-trace (code-first h k) = absurd (no-step h)
 
-pub still-finite : Finite still
-still-finite = record { states = tt ∷ []; listed = λ w t k. (0, omega arith, refl) }
-
-pub still-satisfies : (r : Rule) → (ViolatesRule r [] → ⊥) → Satisfies still r
+still-satisfies : (r : Rule) → (ViolatesRule r [] → ⊥) → Satisfies still r
 still-satisfies r fine = satisfies-safe still r .1 (λ w t k v. fine (rw (still-trace k) at v))
 
-pub satisfiable-fine : (m : Model) (r : Rule) → Satisfies m r → ViolatesRule r [] → ⊥
+satisfiable-fine : (m : Model) (r : Rule) → Satisfies m r → ViolatesRule r [] → ⊥
 satisfiable-fine m r sat = satisfies-safe m r .0 sat [] (m .start) stay
 
 -- ---- a file that is a rule
@@ -66,7 +74,7 @@ module _ (limit : ℕ) (s : List ℕ) (bytes : Bytes s) where
         few = omega (arith, counts .count, counts .few);
         closed = reaches-equations limit s bytes r n (counts .is) e .closed;
         model = still;
-        finite = still-finite;
+        finite = phones-finite stillPhone;
         satisfied = still-satisfies r (λ v.
             let refused : countedOf (synthesisOf limit s) ≡ Refused 8 0 = refuses-hopeless limit s bytes r (counts .is) .1 v in
             let z : _≡_ {A = ℕ} 0 1 = cc in omega arith);
@@ -104,5 +112,6 @@ refuses-unsatisfiable limit s size r bytes room read =
     let refuses = unsatisfiable-refused limit s bytes r read in
     record {
       no-model = rw same (refused, λ none. refuses (none still));
-      no-finite = rw same (λ e m finite. refused e m, λ none. refuses (none still still-finite));
+      no-finite = rw same (λ e m finite. refused e m, λ none. refuses (none still (phones-finite stillPhone)));
+      no-phone = rw same (λ e y well-formed. refused e (modelOf y), λ none. refuses (none stillPhone still-well-formed));
     }

@@ -13,17 +13,17 @@ module _ (m n : Model) where
       → Walk m s w s′ → (t′ : n .State) × Walk n t w t′
   bisimilar-walk t b x stay = (t, stay)
   bisimilar-walk t b x (silent-first {s} {t = s′} h k) =
-      let (u, j, y) = b .there s s′ t silent x h in
+      let (u, j, y) = b .forth s s′ t silent x h in
       let (t′, l) = bisimilar-walk u b y k in
       (t′, silent-first j l)
   bisimilar-walk t b x (code-first {s} {t = s′} {c = c} h k) =
-      let (u, j, y) = b .there s s′ t (code c) x h in
+      let (u, j, y) = b .forth s s′ t (code c) x h in
       let (t′, l) = bisimilar-walk u b y k in
       (t′, code-first j l)
 
   bisimilar-turned : Bisimilar m n → Bisimilar n m
   bisimilar-turned (R, b, x) =
-      (λ t s. R s t, record { there = λ t t′ s a. b .back s t t′ a; back = λ t s s′ a. b .there s s′ t a }, x)
+      (λ t s. R s t, record { forth = λ t t′ s a. b .back s t t′ a; back = λ t s s′ a. b .forth s s′ t a }, x)
 
   bisimilar-satisfies : Bisimilar m n → (r : Rule) → Satisfies n r → Satisfies m r
   bisimilar-satisfies (R, b, x) r sat =

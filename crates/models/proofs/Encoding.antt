@@ -8,12 +8,14 @@ use lib.ListN.{length, getD, drop}
 use lib.Dec.{eqb, ltb}
 use borrow.Author.Tests.{ltb-false, eqb-true, eqb-false, le-ltb, ne-eqb, not-false}
 use Rattle.reading.specs.Rule.{All, Bytes}
-use Rattle.reading.specs.Outcome.{accepted}
+use Rattle.reading.specs.Outcome.{Outcome, accepted, refused}
+use Rattle.reading.specs.declared.Answer.the-variants.{Accepted}
 use Rattle.reading.proofs.AllLaws.{all-append}
 use Rattle.reading.proofs.Outcomes.{accepted-is, accepted-by, then-accepts, passes}
 use Rattle.models.specs.Phone.{Phone, WellFormedStep, WellFormedPhone, encodeStep, encodeSteps, encodePhone}
 use Rattle.models.specs.File.{statesOf, stepsAt, phoneOf}
-use Rattle.models.specs.Promises.{AcceptsPhones, OnePhone}
+use Rattle.models.specs.Judging.{stored, modelReadingOf}
+use Rattle.models.specs.Promises.{AcceptsPhones, OnePhone, AnswersAccepted}
 use Rattle.models.specs.declared.Step.{Step}
 use Rattle.models.proofs.StepBytes.{from-here, recordBytes, StepsStand, steps-read, steps-stand}
 
@@ -99,3 +101,16 @@ pub encode-bytes : (y : Phone) → WellFormedPhone y → Bytes (encodePhone y)
 encode-bytes y w =
     let few : y .states ≤ 64 = w .few-states in
     (omega arith, (omega arith, steps-are-bytes (y .states) (omega arith) (y .steps) (w .steps)))
+
+-- ---- what is handed up of it
+
+pub phone-accepted : (o : Outcome Phone) → modelReadingOf o .answer ≡ Accepted
+    → (y : Phone) × (o ≡ accepted y) × (modelReadingOf o .model ≡ stored y)
+phone-accepted (accepted y) e = (y, refl, refl)
+phone-accepted (refused number place) e = let z : _≡_ {A = ℕ} 0 1 = cc in absurd (omega arith)
+
+pub answers-accepted : AnswersAccepted
+answers-accepted f bytes = (
+  λ told. let (y, read, model) = phone-accepted (phoneOf f) told in let (w, is) = accepts-phones f bytes y .0 read in (y, w, is, model),
+  λ (y, w, is, model). rw (accepts-phones f bytes y .1 (w, is)),
+)

@@ -1,4 +1,4 @@
--- Any monitor of a rule enforces it on any model whose codes are bytes.
+-- Any monitor of a rule enforces it on any model whose codes are bytes, by any response that passes exactly what the monitor keeps.
 use Prim.Native.Nat.{ℕ}
 use mathlib.Core.Path.{_≡_, refl}
 use mathlib.Core.List.{List, _∷_}
@@ -6,17 +6,17 @@ use Rattle.synthesis.specs.Monitor.{Answer, dropped, next, Loses, now, later}
 use Rattle.synthesis.proofs.MonitorLaws.{loses-nothing, loses-rest}
 use Rattle.models.specs.Model.{Label, silent, code, Model, Walk, stay, silent-first, code-first, ByteCodes}
 use Rattle.models.specs.Bisimulation.{Bisimulation}
-use Rattle.models.specs.Monitored.{suppressing, silent-step, passed-step, silenced-step, monitored}
-use Rattle.models.specs.Promises.{MonitorsEnforce}
+use Rattle.models.specs.Monitored.{Response, PassesKept, silent-step, passed-step, silenced-step, monitored}
+use Rattle.models.specs.Promises.{MonitorsEnforce, SoundSatisfies}
 use Rattle.models.proofs.Walks.{walk-bytes}
 use Rattle.models.proofs.SatisfactionLaws.{satisfies-safe}
-use Rattle.models.proofs.Suppressing.{passed-next, next-passed, silenced-dropped}
+use Rattle.models.proofs.Responses.{silenced-dropped}
 use Rattle.models.proofs.Passing.{Passes, passes-silent, passes-code, passes-drop, safe-passes}
 
-module _ {E : Type 0} (answer : E → ℕ → Answer E) where
+module _ {E : Type 0} (answer : E → ℕ → Answer E) (respond : E → ℕ → Response E) (same : PassesKept respond answer) where
   module _ (m : Model) (first : E) where
     abbrev behind : Model
-    behind = monitored (suppressing answer) first m
+    behind = monitored respond first m
 
     -- ---- behind the monitor nothing is dropped
 
@@ -24,7 +24,7 @@ module _ {E : Type 0} (answer : E → ℕ → Answer E) where
     behind-loses stay l = loses-nothing answer l
     behind-loses (silent-first (silent-step h) k) l = behind-loses k l
     behind-loses (silent-first (silenced-step h q) k) l = behind-loses k l
-    behind-loses (code-first (passed-step {c = c} {e} {e′} h q) k) l = behind-loses k (loses-rest answer (passed-next answer e e′ c q) l)
+    behind-loses (code-first (passed-step {c = c} {e} {e′} h q) k) l = behind-loses k (loses-rest answer (same e e′ c .0 q) l)
 
     behind-codes : ByteCodes m → ByteCodes behind
     behind-codes codes x y c (passed-step {s} {t} h q) = codes s t c h
@@ -39,7 +39,7 @@ module _ {E : Type 0} (answer : E → ℕ → Answer E) where
         on : (a : Answer E) → answer e c ≡ a → ((e′ : E) → (Loses answer e′ w → ⊥) → (e″ : E) × Walk behind (t, e′) w (u, e″))
             → (e″ : E) × Walk behind (s, e) (c ∷ w) (u, e″)
         on dropped q rest = absurd (none (now q))
-        on (next e′) q rest = let (e″, j) = rest e′ (λ l. none (later q l)) in (e″, code-first (passed-step h (next-passed answer q)) j)
+        on (next e′) q rest = let (e″, j) = rest e′ (λ l. none (later q l)) in (e″, code-first (passed-step h (same e e′ c .1 q)) j)
 
     -- ---- where every walk passes whole, the two are bisimilar
 
@@ -47,34 +47,38 @@ module _ {E : Type 0} (answer : E → ℕ → Answer E) where
     data Beside : m .State → behind .State → Type 0 where
       beside : {s : m .State} {e : E} → Passes answer m e s → Beside s (s, e)
 
-    beside-there : (s s′ : m .State) (x : behind .State) (a : Label) → Beside s x → m .Step s a s′
+    beside-forth : (s s′ : m .State) (x : behind .State) (a : Label) → Beside s x → m .Step s a s′
         → (x′ : behind .State) × behind .Step x a x′ × Beside s′ x′
-    beside-there s s′ x silent (beside {e = e} passes) h = ((s′, e), silent-step h, beside (passes-silent answer m h passes))
-    beside-there s s′ x (code c) (beside {e = e} passes) h = on (answer e c) refl
+    beside-forth s s′ x silent (beside {e = e} passes) h = ((s′, e), silent-step h, beside (passes-silent answer m h passes))
+    beside-forth s s′ x (code c) (beside {e = e} passes) h = on (answer e c) refl
       where
         on : (a : Answer E) → answer e c ≡ a → (x′ : behind .State) × behind .Step (s, e) (code c) x′ × Beside s′ x′
         on dropped q = absurd (passes-drop answer m h q passes)
-        on (next e′) q = ((s′, e′), passed-step h (next-passed answer q), beside (passes-code answer m h q passes))
+        on (next e′) q = ((s′, e′), passed-step h (same e e′ c .1 q), beside (passes-code answer m h q passes))
 
     beside-back : (s : m .State) (x x′ : behind .State) (a : Label) → Beside s x → behind .Step x a x′
         → (s′ : m .State) × m .Step s a s′ × Beside s′ x′
     beside-back s x x′ a (beside passes) (silent-step {t = t} h) = (t, h, beside (passes-silent answer m h passes))
     beside-back s x x′ a (beside passes) (passed-step {t = t} {c} {e} {e′} h q) =
-        (t, h, beside (passes-code answer m h (passed-next answer e e′ c q) passes))
-    beside-back s x x′ a (beside passes) (silenced-step {c = c} {e} h q) = absurd (passes-drop answer m h (silenced-dropped answer e c q) passes)
+        (t, h, beside (passes-code answer m h (same e e′ c .0 q) passes))
+    beside-back s x x′ a (beside passes) (silenced-step {c = c} {e} h q) = absurd (passes-drop answer m h (silenced-dropped respond answer same e c q) passes)
 
     besides : Bisimulation m behind Beside
-    besides = record { there = beside-there; back = beside-back }
+    besides = record { forth = beside-forth; back = beside-back }
+
+pub sound-satisfies : SoundSatisfies
+sound-satisfies E r answer first sound respond same m codes =
+    let y = behind answer respond same m first in
+    satisfies-safe y r .1 (λ w x k v.
+    behind-loses answer respond same m first k (sound w (walk-bytes y (behind-codes answer respond same m first codes) k) v))
 
 pub monitors-enforce : MonitorsEnforce
-monitors-enforce E r answer first monitors m codes = record {
-  satisfies =
-      let y = behind answer m first in
-      satisfies-safe y r .1 (safe-passes answer y r first monitors (behind-codes answer m first codes) .1 (λ w x k. behind-loses answer m first k));
+monitors-enforce E r answer first monitors respond same m codes = record {
+  satisfies = sound-satisfies E r answer first (λ w bytes. monitors w bytes .0) respond same m codes;
   bisimilar = λ sat. (
-    Beside answer m first,
-    besides answer m first,
+    Beside answer respond same m first,
+    besides answer respond same m first,
     beside (safe-passes answer m r first monitors codes .0 (satisfies-safe m r .0 sat)),
   );
-  keeps = λ w t k fine. keeps-walk answer m first k (λ l. fine (monitors w (walk-bytes m codes k) .1 l));
+  keeps = λ w t k fine. keeps-walk answer respond same m first k (λ l. fine (monitors w (walk-bytes m codes k) .1 l));
 }

@@ -31,7 +31,7 @@ use Rattle.models.specs.declared.Judged as Judged′
 use Rattle.models.specs.declared.links.Links.{Links}
 use Rattle.models.proofs.SatisfactionLaws.{satisfies-safe}
 use Rattle.models.proofs.NeverDropping.{never-drops-safe}
-use Rattle.models.proofs.Encoding.{phone-well-formed}
+use Rattle.models.proofs.Encoding.{phone-accepted, phone-well-formed}
 use Rattle.models.proofs.PhoneCodes.{phone-codes}
 use Rattle.models.proofs.DecidedSets.{decided-satisfies}
 use Rattle.models.proofs.JudgingLaws.{judging-case}
@@ -42,11 +42,6 @@ phone-refused : (o : Outcome Phone) (number place : ℕ) → modelReadingOf o .a
     → o ≡ refused number place
 phone-refused (accepted y) number place e = let z : _≡_ {A = ℕ} 0 1 = cc in absurd (omega arith)
 phone-refused (refused number′ place′) number place e = cc
-
-phone-accepted : (o : Outcome Phone) → modelReadingOf o .answer ≡ Answer′.the-variants.Accepted
-    → (y : Phone) × (o ≡ accepted y) × (modelReadingOf o .model ≡ stored y)
-phone-accepted (accepted y) e = (y, refl, refl)
-phone-accepted (refused number place) e = let z : _≡_ {A = ℕ} 0 1 = cc in absurd (omega arith)
 
 module _ (s table f : List ℕ) where
   -- the answer and the table after a call

@@ -4,6 +4,7 @@ pub mod SatisfactionLaws
 pub mod BisimulationLaws
 pub mod Passing
 pub mod NeverDropping
+pub mod Responses
 pub mod Suppressing
 pub mod Enforcing
 pub mod StepLaws

@@ -9,6 +9,7 @@ use lib.Seq.{take-all, getD-take, length-take-le, take-at}
 use lib.Dec.{ltb, leb}
 use borrow.Author.Tests.{lt-ltb, lt-leb, ltb-true, ltb-false, ne-eqb}
 use Rattle.reading.specs.Rule.{All}
+use Rattle.reading.proofs.AllLaws.{all-append}
 use Rattle.reading.specs.Outcome.{accepted, refused}
 use Rattle.reading.proofs.Outcomes.{then-agree, both-agree}
 use Rattle.models.specs.Phone.{Phone, WellFormedStep, WellFormedPhone, encodeSteps, encodePhone}
@@ -17,7 +18,7 @@ use Rattle.models.specs.Promises.{SettledByFirstBytes, NotByFewer}
 use Rattle.models.specs.declared.Step.{Step}
 use Rattle.models.proofs.StepLaws.{record-bounds}
 use Rattle.models.proofs.StepBytes.{steps-full}
-use Rattle.models.proofs.Encoding.{states-read, phone-reads}
+use Rattle.models.proofs.Encoding.{states-read, phone-reads, encode-bytes}
 
 -- two files of at least 2,051 bytes, of which the first 2,051 are the same
 record Agree (f g : List ℕ) : Type 0 where
@@ -108,10 +109,10 @@ turns-length zero = refl
 turns-length (suc n) = omega (arith, turns-length n)
 
 -- 512 of them, and the kind of one more
-pub not-by-fewer : (f : List ℕ) × NotByFewer f
+pub not-by-fewer : NotByFewer
 not-by-fewer = on 512 refl
   where
-    on : (n : ℕ) → n ≡ 512 → (f : List ℕ) × NotByFewer f
+    on : (n : ℕ) → n ≡ 512 → NotByFewer
     on n e =
         let y : Phone = record { states = 1; steps = replicate n turn } in
         let full : length (y .steps) ≡ 512 = length-replicate n turn ∙ e in
@@ -123,9 +124,8 @@ not-by-fewer = on 512 refl
         } in
         let long : length (encodePhone y) ≡ 2050 = omega (arith, turns-length n) in (
           encodePhone y ++ (17 ∷ []),
-          record {
-            phone = y;
-            fewer = rw (take-at (encodePhone y) (17 ∷ []) 2050 long) (phone-reads y w);
-            whole = rw (← long) (full-refused y w full);
-          },
+          y,
+          all-append (λ b. b < 256) (encodePhone y) (17 ∷ []) (encode-bytes y w) (omega arith, tt),
+          rw (take-at (encodePhone y) (17 ∷ []) 2050 long) (phone-reads y w),
+          rw (← long) (full-refused y w full),
         )

@@ -36,24 +36,24 @@ modelReadingOf (refused number place) = record { answer = Refused number place; 
 -- ---- judging
 
 -- a rule and a phone model that were accepted
-pub record Case : Type 0 where
+pub record RuleAndModel : Type 0 where
   pub rule : Rule
   pub phone : Phone
 
 -- What is judged, with a table of so many bytes: 10 and 1 to 9 of building come first, then 11 to 14 of the model.
-unfoldable pub judgingOf : (limit : ℕ) → (rule : List ℕ) → (size : ℕ) → (model : List ℕ) → Outcome Case
+unfoldable pub judgingOf : (limit : ℕ) → (rule : List ℕ) → (size : ℕ) → (model : List ℕ) → Outcome RuleAndModel
 judgingOf limit s size f =
     andThen (buildingOf limit s size) (λ y. andThen (phoneOf f) (λ p. accepted (record { rule = y .rule; phone = p })))
 
 -- The answer of each outcome: meets where the model satisfies the rule, breaks where it doesn't, or the refusal with the paper's number
 -- and place.
-abbrev pub JudgedAs : Outcome Case → Judged → Type 0
+abbrev pub JudgedAs : Outcome RuleAndModel → Judged → Type 0
 JudgedAs (accepted x) answer =
     ((answer ≡ Judged′.the-variants.Meets) × SatisfiesDecided (modelOf (x .phone)) (x .rule))
     ⊎ ((answer ≡ Judged′.the-variants.Breaks) × (SatisfiesDecided (modelOf (x .phone)) (x .rule) → ⊥))
 JudgedAs (refused number place) answer = answer ≡ Judged′.the-variants.Refused number place
 
 -- what is left in the table: what building leaves, or no change where judging is refused
-abbrev pub tableJudged : Outcome Case → (built before : List ℕ) → List ℕ
+abbrev pub tableJudged : Outcome RuleAndModel → (built before : List ℕ) → List ℕ
 tableJudged (accepted x) built before = built
 tableJudged (refused number place) built before = before

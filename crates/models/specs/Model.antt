@@ -20,7 +20,7 @@ module _ (m : Model) where
     silent-first : {s t u : m .State} {w : List ℕ} → m .Step s silent t → Walk t w u → Walk s w u
     code-first : {s t u : m .State} {c : ℕ} {w : List ℕ} → m .Step s (code c) t → Walk t w u → Walk s (c ∷ w) u
 
-  -- A weak step: silent steps, one step with the code c, and silent steps, each time any number of them.
+  -- A weak transition: silent steps, one step with the code c, and silent steps, each time any number of them.
   pub record Weak (s : m .State) (c : ℕ) (t : m .State) : Type 0 where
     pub before : m .State
     pub after : m .State
@@ -28,7 +28,7 @@ module _ (m : Model) where
     pub step : m .Step before (code c) after
     pub silent-after : Walk after [] t
 
--- A model is finite when the states to which walks lead from its start stand in a list.
+-- A model is finite when the states to which walks lead from its start stand in a list. States that none leads to don't count.
 pub record Finite (m : Model) : Type 0 where
   pub states : List (m .State)
   pub listed : (w : List ℕ) (t : m .State) → Walk m (m .start) w t → (i : ℕ) × (i < length states) × (getD states i (m .start) ≡ t)

@@ -29,7 +29,7 @@ pub record StepIn (steps : List Step) (s : ℕ) (a : Label) (t : ℕ) : Type 0 w
   pub label-is : labelOf (getD steps place noStep .label) ≡ a
   pub to-is : getD steps place noStep .to ≡ t
 
--- The model that a phone model is. Its states are numbers, of which walks from state 0 reach none but those of the steps.
+-- The model that a phone model is, from its steps alone. Every number is a state; walks from state 0 lead only to 0 and to targets of steps.
 abbrev pub modelOf : Phone → Model
 modelOf y = record { State = ℕ; start = 0; Step = StepIn (y .steps) }
 

@@ -3,29 +3,31 @@
 use Prim.Native.Nat.{ℕ, _*_, _≤_}
 use mathlib.Core.Path.{_≡_}
 use mathlib.Core.Logic.{_↔_}
-use mathlib.Core.List.{List}
+use mathlib.Core.List.{List, [], _∷_}
 use lib.ListN.{length, take}
 use Rattle.reading.specs.Rule.{Rule, WellFormedRule, encode, Bytes}
 use Rattle.reading.specs.Outcome.{accepted, refused}
 use Rattle.reading.specs.File.{ruleOf}
+use Rattle.reading.specs.declared.Answer.the-variants.{Accepted}
 use Rattle.synthesis.specs.Violation.{ViolatesRule}
-use Rattle.synthesis.specs.Monitor.{Answer, kept, ended, Monitors}
+use Rattle.synthesis.specs.Monitor.{Answer, kept, ended, Loses, Monitors}
 use Rattle.synthesis.specs.Table.{entry}
 use Rattle.synthesis.specs.Building.{buildingOf, countedOf, tableAfter}
 use Rattle.synthesis.specs.Promises.{Closed}
 use Rattle.synthesis.specs.declared.Counted.the-variants.{Equations, Refused}
-use Rattle.models.specs.Model.{Model, Walk, Finite, ByteCodes}
+use Rattle.models.specs.Model.{Model, Walk, Weak, Finite, ByteCodes}
 use Rattle.models.specs.Satisfaction.{Satisfies, SatisfiesDecided}
 use Rattle.models.specs.Bisimulation.{Bisimilar}
-use Rattle.models.specs.Monitored.{Response, suppressing, monitored}
+use Rattle.models.specs.Monitored.{Response, suppressing, PassesKept, monitored}
 use Rattle.models.specs.Phone.{Phone, modelOf, WellFormedPhone, encodePhone}
 use Rattle.models.specs.File.{phoneOf}
-use Rattle.models.specs.Judging.{judgingOf, JudgedAs}
+use Rattle.models.specs.Judging.{stored, modelReadingOf, judgingOf, JudgedAs}
 use Rattle.models.specs.declared.Judged.{Judged}
 use Rattle.models.specs.declared.Judged.the-variants.{Meets, Breaks}
 
 -- 1. Demand 3. The model behind the monitor satisfies the rule; where the model already does, the two are strongly bisimilar; and every walk
--- of the model whose trace doesn't violate the rule is there behind the monitor, with the same trace, to the same state of the model.
+-- of the model whose trace doesn't violate the rule is there behind the monitor, with the same trace, to the same state of the model. The field
+-- calls these soundness, transparency, and the first half of transparency for traces that don't violate the rule.
 pub record Enforces (r : Rule) {E : Type 0} (respond : E → ℕ → Response E) (first : E) (m : Model) : Type 1 where
   pub satisfies : Satisfies (monitored respond first m) r
   pub bisimilar : Satisfies m r → Bisimilar m (monitored respond first m)
@@ -39,14 +41,20 @@ DemandThree =
     → ruleOf s ≡ accepted r → countedOf (buildingOf limit s (length table)) ≡ Equations n → phoneOf f ≡ accepted y
     → Enforces r (suppressing (entry 256 mark (tableAfter mark (buildingOf limit s (length table)) table))) 0 (modelOf y)
 
--- The same for any monitor of a rule and any model whose codes are bytes.
+-- The same for any monitor of a rule, any response that passes exactly what it keeps, and any model whose codes are bytes.
 abbrev pub MonitorsEnforce : Type 1
 MonitorsEnforce =
     (E : Type 0) (r : Rule) (answer : E → ℕ → Answer E) (first : E) → Monitors r answer first
-    → (m : Model) → ByteCodes m → Enforces r (suppressing answer) first m
+    → (respond : E → ℕ → Response E) → PassesKept respond answer → (m : Model) → ByteCodes m → Enforces r respond first m
 
--- The walks behind any monitor are those of the model, all of them: one with the trace w becomes one with what a run keeps of w, to the same
--- state of the model, beside the equation in which the run ends. There are no others.
+-- Of a monitor that drops something of each list that violates the rule, and maybe of others too, the first part holds.
+abbrev pub SoundSatisfies : Type 1
+SoundSatisfies =
+    (E : Type 0) (r : Rule) (answer : E → ℕ → Answer E) (first : E) → ((w : List ℕ) → Bytes w → ViolatesRule r w → Loses answer first w)
+    → (respond : E → ℕ → Response E) → PassesKept respond answer → (m : Model) → ByteCodes m → Satisfies (monitored respond first m) r
+
+-- Every walk of the model, violating or not, is there behind any monitor, with what a run keeps of its trace, to the same state of the model
+-- beside the equation in which the run ends. Every walk behind it has the ends and the trace of such a one.
 pub record CameFrom {E : Type 0} (answer : E → ℕ → Answer E) (m : Model) (x : m .State × E) (v : List ℕ) (y : m .State × E) : Type 0 where
   pub trace : List ℕ
   pub walk : Walk m (x .0) trace (y .0)
@@ -54,7 +62,7 @@ pub record CameFrom {E : Type 0} (answer : E → ℕ → Answer E) (m : Model) (
   pub ended-is : ended answer (x .1) trace ≡ y .1
 
 pub record WalksBehind {E : Type 0} (answer : E → ℕ → Answer E) (first : E) (m : Model) : Type 0 where
-  pub there : (s t : m .State) (w : List ℕ) (e : E) → Walk m s w t
+  pub forth : (s t : m .State) (w : List ℕ) (e : E) → Walk m s w t
       → Walk (monitored (suppressing answer) first m) (s, e) (kept answer e w) (t, ended answer e w)
   pub back : (x y : m .State × E) (v : List ℕ) → Walk (monitored (suppressing answer) first m) x v y → CameFrom answer m x v y
 
@@ -64,6 +72,10 @@ RunsBehind = (E : Type 0) (answer : E → ℕ → Answer E) (first : E) (m : Mod
 -- Bisimilar models satisfy the same rules. So a model that doesn't satisfy the rule isn't bisimilar to itself behind the monitor.
 abbrev pub BisimilarAlike : Type 1
 BisimilarAlike = (m n : Model) → Bisimilar m n → (r : Rule) → Satisfies m r ↔ Satisfies n r
+
+-- A weak transition is a walk whose trace is its code alone.
+abbrev pub WeakWalks : Type 1
+WeakWalks = (m : Model) (s t : m .State) (c : ℕ) → Weak m s c t ↔ Walk m s (c ∷ []) t
 
 -- 2. A model satisfies a rule exactly when no trace of a walk from its start violates it.
 abbrev pub Safe : Model → Rule → Type 0
@@ -88,7 +100,8 @@ JudgesExactly =
     → JudgedAs (judgingOf limit s size f) answer → JudgedExactly r y answer
 
 -- 4. Demand 2, acceptance. With a table that is long enough, building isn't refused exactly when the file is the encoding of a well-formed
--- rule within 32 patterns and 64 nodes, of which at most `limit` equations are reached, and which some finite model satisfies.
+-- rule within 32 patterns and 64 nodes, of which at most `limit` equations are reached, and which some finite model satisfies. All that are
+-- reached stand in a list of at most so many sets that is closed under the codes.
 pub record Acceptable (limit : ℕ) (s : List ℕ) : Type 1 where
   pub rule : Rule
   pub well-formed : WellFormedRule rule
@@ -105,10 +118,11 @@ AcceptsExactly =
     (limit : ℕ) (s table : List ℕ) → Bytes s → 256 * limit ≤ length table
     → ((n : ℕ) × (countedOf (buildingOf limit s (length table)) ≡ Equations n)) ↔ Acceptable limit s
 
--- A rule that was read is refused with 8 exactly when no model satisfies it, and exactly when no finite one does.
+-- A rule that was read is refused with 8 exactly when no model satisfies it, exactly when no finite one does, and exactly when no phone model does.
 pub record RefusedAsUnsatisfiable (limit : ℕ) (s : List ℕ) (size : ℕ) (r : Rule) : Type 1 where
   pub no-model : (countedOf (buildingOf limit s size) ≡ Refused 8 0) ↔ ((m : Model) → Satisfies m r → ⊥)
   pub no-finite : (countedOf (buildingOf limit s size) ≡ Refused 8 0) ↔ ((m : Model) → Finite m → Satisfies m r → ⊥)
+  pub no-phone : (countedOf (buildingOf limit s size) ≡ Refused 8 0) ↔ ((y : Phone) → WellFormedPhone y → Satisfies (modelOf y) r → ⊥)
 
 abbrev pub RefusesUnsatisfiable : Type 1
 RefusesUnsatisfiable =
@@ -123,15 +137,20 @@ AcceptsPhones = (f : List ℕ) → Bytes f → (y : Phone) → (phoneOf f ≡ ac
 abbrev pub OnePhone : Type 0
 OnePhone = (y y′ : Phone) → WellFormedPhone y → WellFormedPhone y′ → encodePhone y ≡ encodePhone y′ → y ≡ y′
 
+-- In terms of what `read_model` ensures: it answers "accepted" exactly for such files, and hands up that model.
+abbrev pub AnswersAccepted : Type 0
+AnswersAccepted =
+    (f : List ℕ) → Bytes f → (modelReadingOf (phoneOf f) .answer ≡ Accepted)
+    ↔ ((y : Phone) × WellFormedPhone y × (f ≡ encodePhone y) × (modelReadingOf (phoneOf f) .model ≡ stored y))
+
 -- What a file says is settled by its first 2,051 bytes, and not by 2,050.
 abbrev pub SettledByFirstBytes : Type 0
 SettledByFirstBytes = (f : List ℕ) (n : ℕ) → 2051 ≤ n → phoneOf (take n f) ≡ phoneOf f
 
-pub record NotByFewer (f : List ℕ) : Type 0 where
-  pub phone : Phone
-  pub fewer : phoneOf (take 2050 f) ≡ accepted phone
-  pub whole : phoneOf f ≡ refused 14 2050
+abbrev pub NotByFewer : Type 0
+NotByFewer =
+    (f : List ℕ) × (y : Phone) × Bytes f × (phoneOf (take 2050 f) ≡ accepted y) × (phoneOf f ≡ refused 14 2050)
 
--- The model of an accepted file is finite.
+-- The model of a file is finite.
 abbrev pub PhonesFinite : Type 0
 PhonesFinite = (y : Phone) → Finite (modelOf y)

@@ -31,6 +31,6 @@ module _ {ℓ} (m : Model) (covered : (pattern code : ℕ) → Bool) (Sets : Typ
 abbrev pub Satisfies : Model → Rule → Type 1
 Satisfies m r = SatisfiesWith m (coveredBy (r .patterns)) (m .State → Type 0) (λ X s. X s) [] (r .formula) (m .start)
 
--- The same with decided sets alone, as a contract can say it. For the models of files the two agree (`decided-satisfies`).
+-- The same with decided sets alone. A contract lives in `Type 0` and so can say this one. For phone models the two agree (`decided-satisfies`).
 abbrev pub SatisfiesDecided : Model → Rule → Type 0
 SatisfiesDecided m r = SatisfiesWith m (coveredBy (r .patterns)) (m .State → Bool) (λ X s. X s ≡ true) [] (r .formula) (m .start)

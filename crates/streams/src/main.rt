@@ -9,20 +9,19 @@
 //   c TABLE OUTPUT VERDICTS LENGTH scans
 //                         a call, with so many bytes of the table and of each buffer. The state is then what it returns
 // COUNT and EQUATION are eight bytes, FIRST and STEP one, the other numbers three, highest first. The input ends after the last record.
-mod numbers;
 mod printing;
 
 use libc::STDIN_FILENO;
-use numbers::Head;
-use numbers::read_byte;
-use numbers::read_long;
-use numbers::read_number;
-use numbers::size_of;
 use printing::print_buffers;
 use printing::print_counted;
 use printing::print_ran;
 use running::State;
 use synthesis::Counted;
+use testing::Head;
+use testing::fill;
+use testing::read_byte;
+use testing::read_long;
+use testing::read_size;
 
 // What the records so far have set, the table left aside.
 struct Held {
@@ -36,17 +35,6 @@ enum Step {
     Ended,
 }
 
-// Fills a buffer: byte i is first + step × i, modulo 256.
-fn fill(buf: &mut [u8], first: u8, step: u8) {
-    let mut byte = numbers::wide(first);
-    let mut i = 0;
-    while i < buf.len() {
-        buf[i] = byte as u8;
-        byte = (byte + numbers::wide(step)) % 256;
-        i += 1;
-    }
-}
-
 // How many equations were built.
 fn built_count(answer: Counted) -> usize {
     match answer {
@@ -58,7 +46,7 @@ fn built_count(answer: Counted) -> usize {
 fn take_fill(held: Held, table: &mut [u8]) -> Step {
     let first = read_byte();
     let step = read_byte();
-    fill(table, first, step);
+    fill(table, first as u64, step, 255);
     Step::Next(held)
 }
 
@@ -70,18 +58,12 @@ fn read_part(held: Held, part: &mut [u8]) -> Step {
 }
 
 fn take_part(held: Held, table: &mut [u8]) -> Step {
-    let Head::Number(at) = read_number() else {
+    let Head::Number(at) = read_size(table.len()) else {
         return Step::Ended;
     };
-    let Head::Number(n) = read_number() else {
+    let Head::Number(n) = read_size(table.len() - at) else {
         return Step::Ended;
     };
-    if at > table.len() {
-        return Step::Ended;
-    }
-    if n > table.len() - at {
-        return Step::Ended;
-    }
     let end = at + n;
     read_part(held, &mut table[at..end])
 }
@@ -100,12 +82,9 @@ fn read_rule(space: &mut [u8], table: &mut [u8]) -> Step {
 }
 
 fn take_rule(space: &mut [u8], table: &mut [u8]) -> Step {
-    let Head::Number(n) = read_number() else {
+    let Head::Number(n) = read_size(space.len()) else {
         return Step::Ended;
     };
-    if n > space.len() {
-        return Step::Ended;
-    }
     read_rule(&mut space[..n], table)
 }
 
@@ -146,8 +125,8 @@ fn call(
     if io::read_full(STDIN_FILENO, scans) < scans.len() {
         return Step::Ended;
     }
-    fill(output, (turn % 256) as u8, 7);
-    fill(verdicts, (turn % 251) as u8, 11);
+    fill(output, turn, 7, 255);
+    fill(verdicts, turn % 251, 11, 255);
     let ran = running::run(table, held.count, held.state, scans, output, verdicts);
     print_ran(ran);
     print_buffers(output, verdicts);
@@ -166,26 +145,18 @@ fn take_call(
     verdicts: &mut [u8],
     turn: u64,
 ) -> Step {
-    let mut head = [0u8; 12];
-    if io::read_full(STDIN_FILENO, &mut head) < 12 {
+    let Head::Number(lent) = read_size(table.len()) else {
         return Step::Ended;
-    }
-    let lent = size_of(head[0], head[1], head[2]);
-    let out = size_of(head[3], head[4], head[5]);
-    let ver = size_of(head[6], head[7], head[8]);
-    let n = size_of(head[9], head[10], head[11]);
-    if lent > table.len() {
+    };
+    let Head::Number(out) = read_size(output.len()) else {
         return Step::Ended;
-    }
-    if out > output.len() {
+    };
+    let Head::Number(ver) = read_size(verdicts.len()) else {
         return Step::Ended;
-    }
-    if ver > verdicts.len() {
+    };
+    let Head::Number(n) = read_size(scans.len()) else {
         return Step::Ended;
-    }
-    if n > scans.len() {
-        return Step::Ended;
-    }
+    };
     call(
         held,
         &table[..lent],

@@ -1,35 +1,11 @@
 // What is printed of building and of a run.
-use super::numbers::wide;
 use libc::STDOUT_FILENO;
 use running::Checked;
 use running::Ran;
 use synthesis::Counted;
-
-const PRIME: u64 = 1000000007;
-
-// Prints a space and a number.
-fn print_field(n: u64) {
-    io::write_all(STDOUT_FILENO, b" ");
-    io::print_decimal(STDOUT_FILENO, n);
-}
-
-// The number that the bytes make in base 256, highest first, modulo the prime.
-fn digest(bytes: &[u8]) -> u64 {
-    let mut sum: u64 = 0;
-    let mut i = 0;
-    while i < bytes.len() {
-        sum = (sum * 256 + wide(bytes[i])) % PRIME;
-        i += 1;
-    }
-    sum
-}
-
-fn print_refusal(number: u8, place: usize) {
-    io::write_all(STDOUT_FILENO, b"refused");
-    print_field(number as u64);
-    io::write_all(STDOUT_FILENO, b" at");
-    print_field(place as u64);
-}
+use testing::digest;
+use testing::print_field;
+use testing::print_refusal;
 
 pub fn print_counted(answer: Counted) {
     match answer {
@@ -65,7 +41,7 @@ pub fn print_ran(ran: Ran) {
 }
 
 pub fn print_buffers(output: &[u8], verdicts: &[u8]) {
-    print_field(digest(output));
-    print_field(digest(verdicts));
+    print_field(digest(0, output));
+    print_field(digest(0, verdicts));
     io::write_all(STDOUT_FILENO, b"\n");
 }

@@ -6,10 +6,14 @@ use libc::STDOUT_FILENO;
 use listing::Line;
 use reading::NumberedRule;
 use synthesis::Counted;
-ghost use Prim.Native.Nat.{_≤_, _<_};
+use testing::Head;
+use testing::digest;
+use testing::fill;
+use testing::print_field;
+use testing::print_refusal;
+use testing::read_size;
+ghost use Prim.Native.Nat.{_≤_};
 ghost use Rattle.listing.specs.Positions.{Within};
-
-const PRIME: u64 = 1000000007;
 
 // 2^56: 256 times this is 2^64.
 const WRAPPING: usize = 72057594037927936;
@@ -23,49 +27,6 @@ struct Summary {
     digest: u64,
 }
 
-// What the head of a case says: a number, or that there is no case left.
-enum Head {
-    Number(usize),
-    Ended,
-}
-
-fn wide(x: u8) -> u64
-    ensures { λ r. ⌜ r < 256 ⌝ }
-{
-    x as u64
-}
-
-// Prints a space and a number.
-fn print_field(n: u64) {
-    io::write_all(STDOUT_FILENO, b" ");
-    io::print_decimal(STDOUT_FILENO, n);
-}
-
-// The number that the digits of `high` and then the bytes make in base 256, modulo the prime.
-fn digest(high: u64, bytes: &[u8]) -> u64
-    requires { ⌜ high < 1000000007 ⌝ }
-    ensures { λ r. ⌜ r < 1000000007 ⌝ }
-{
-    let mut sum = high;
-    let mut i = 0;
-    while i < bytes.len() {
-        sum = (sum * 256 + wide(bytes[i])) % PRIME;
-        i += 1;
-    }
-    sum
-}
-
-// The table that is lent: byte i is case + 7 × i, modulo 251.
-fn refresh(table: &mut [u8], case: u64) {
-    let mut byte = case % 251;
-    let mut i = 0;
-    while i < table.len() {
-        table[i] = byte as u8;
-        byte = (byte + 7) % 251;
-        i += 1;
-    }
-}
-
 fn print_counted(answer: Counted) {
     match answer {
         Counted::Equations(n) => {
@@ -73,10 +34,7 @@ fn print_counted(answer: Counted) {
             print_field(n as u64);
         }
         Counted::Refused(number, place) => {
-            io::write_all(STDOUT_FILENO, b"refused");
-            print_field(number as u64);
-            io::write_all(STDOUT_FILENO, b" at");
-            print_field(place as u64);
+            print_refusal(number, place);
         }
     }
 }
@@ -121,9 +79,7 @@ fn line_len(line: Line) -> usize
 
 // The digest that the digits of `high` and then the text of a line make.
 fn line_digest(high: u64, line: Line) -> u64
-    requires { ⌜ high < 1000000007 ⌝ }
     requires { ⌜ Within line ⌝ }
-    ensures { λ r. ⌜ r < 1000000007 ⌝ }
 {
     let bytes = line.bytes;
     let n = line.len;
@@ -210,37 +166,24 @@ fn answer_rule(rule: &[u8], table: &mut [u8]) {
 }
 
 // Fills the space with a rule file, answers it, and says whether the file was whole.
+// Byte i of the table that is lent is case + 7 × i, modulo 251.
 fn answer_file(space: &mut [u8], table: &mut [u8], case: u64) -> bool {
     if io::read_full(STDIN_FILENO, space) < space.len() {
         return false;
     }
-    refresh(table, case);
+    fill(table, case, 7, 250);
     answer_rule(space, table);
     true
 }
 
-fn read_number() -> Head {
-    let mut head = [0u8; 3];
-    if io::read_full(STDIN_FILENO, &mut head) < 3 {
-        return Head::Ended;
-    }
-    Head::Number((wide(head[0]) * 65536 + wide(head[1]) * 256 + wide(head[2])) as usize)
-}
-
 // Answers the next case, and says whether there was one.
 fn answer_case(space: &mut [u8], table: &mut [u8], case: u64) -> bool {
-    let Head::Number(size) = read_number() else {
+    let Head::Number(size) = read_size(table.len()) else {
         return false;
     };
-    let Head::Number(n) = read_number() else {
+    let Head::Number(n) = read_size(space.len()) else {
         return false;
     };
-    if size > table.len() {
-        return false;
-    }
-    if n > space.len() {
-        return false;
-    }
     answer_file(&mut space[..n], &mut table[..size], case)
 }
 

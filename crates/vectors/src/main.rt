@@ -7,25 +7,10 @@ use reading::Extent;
 use reading::NumberedRule;
 use reading::Pattern;
 use reading::Reading;
-ghost use Prim.Native.Nat.{_<_};
-
-// What the head of a case says: the length of its file, or that there is no case left.
-enum Head {
-    Length(usize),
-    Ended,
-}
-
-fn wide(x: u8) -> usize
-    ensures { λ r. ⌜ r < 256 ⌝ }
-{
-    x as usize
-}
-
-// Prints a space and a number.
-fn print_field(n: u64) {
-    io::write_all(STDOUT_FILENO, b" ");
-    io::print_decimal(STDOUT_FILENO, n);
-}
+use testing::Head;
+use testing::print_field;
+use testing::print_refusal;
+use testing::read_size;
 
 // The sum of the codes that a pattern covers.
 fn sum_of_codes(p: Pattern) -> u64 {
@@ -78,13 +63,6 @@ fn print_nodes(rule: NumberedRule) {
     }
 }
 
-fn print_refusal(number: u8, place: usize) {
-    io::write_all(STDOUT_FILENO, b"refused");
-    print_field(number as u64);
-    io::write_all(STDOUT_FILENO, b" at");
-    print_field(place as u64);
-}
-
 fn print_reading(reading: Reading) {
     let answer = reading.answer;
     let rule = reading.rule;
@@ -110,22 +88,11 @@ fn answer_file(space: &mut [u8]) -> bool {
     true
 }
 
-fn read_length() -> Head {
-    let mut head = [0u8; 3];
-    if io::read_full(STDIN_FILENO, &mut head) < 3 {
-        return Head::Ended;
-    }
-    Head::Length(wide(head[0]) * 65536 + wide(head[1]) * 256 + wide(head[2]))
-}
-
 // Answers the next case, and says whether there was one.
 fn answer_case(buf: &mut [u8]) -> bool {
-    let Head::Length(n) = read_length() else {
+    let Head::Number(n) = read_size(buf.len()) else {
         return false;
     };
-    if n > buf.len() {
-        return false;
-    }
     answer_file(&mut buf[..n])
 }
 

@@ -1,83 +1,67 @@
--- `judgments::answer_case` is safe and ends. The parts that are lent on have the lengths that the head of the case gives.
+-- `judgments::answer_case` is safe and ends. The parts that are lent on have the lengths that were read.
 use mathlib.Core.Path.{sym}
 use lib.Seq.{length-take-le}
-use native.Mathlib.Omega.{arith}
-use borrow.Author.Needs.{needs}
 use borrow.Author.Needs.{needs}
 use Rattle.judgments.proofs.answer_case.Statement.{statement}
 use Rattle.judgments.proofs.answer_case.Tie as tie
 
-slice-aggregate-read-full : tie.Need-slice-aggregate-read-full
-slice-aggregate-read-full c = search needs
+read-size-requires : tie.Need-read-size-requires
+read-size-requires c κs = search needs
 
-read-full-requires : tie.Need-read-full-requires
-read-full-requires c κs = search needs
+enum-known-size : tie.Need-enum-known-size
+enum-known-size c = search needs
+
+enum-told : tie.Need-enum-told
+enum-told c = search needs
 
 returns : tie.Need-returns
 returns c = search needs
 
-array-read-size-of : tie.Need-array-read-size-of
-array-read-size-of c = search needs
+read-size-requires-2 : tie.Need-read-size-requires-2
+read-size-requires-2 c κs = search needs
 
-array-read-size-of-2 : tie.Need-array-read-size-of-2
-array-read-size-of-2 c = search needs
+enum-known-n : tie.Need-enum-known-n
+enum-known-n c = search needs
 
-array-read-size-of-3 : tie.Need-array-read-size-of-3
-array-read-size-of-3 c = search needs
-
-size-of-requires : tie.Need-size-of-requires
-size-of-requires c κs = search needs
-
-array-read-size-of-4 : tie.Need-array-read-size-of-4
-array-read-size-of-4 c = search needs
-
-array-read-size-of-5 : tie.Need-array-read-size-of-5
-array-read-size-of-5 c = search needs
-
-array-read-size-of-6 : tie.Need-array-read-size-of-6
-array-read-size-of-6 c = search needs
-
-size-of-requires-2 : tie.Need-size-of-requires-2
-size-of-requires-2 c κs = search needs
-
-array-read-size-of-7 : tie.Need-array-read-size-of-7
-array-read-size-of-7 c = search needs
-
-array-read-size-of-8 : tie.Need-array-read-size-of-8
-array-read-size-of-8 c = search needs
-
-array-read-size-of-9 : tie.Need-array-read-size-of-9
-array-read-size-of-9 c = search needs
-
-size-of-requires-3 : tie.Need-size-of-requires-3
-size-of-requires-3 c κs = search needs
+enum-told-2 : tie.Need-enum-told-2
+enum-told-2 c = search needs
 
 returns-2 : tie.Need-returns-2
 returns-2 c = search needs
 
+read-size-requires-3 : tie.Need-read-size-requires-3
+read-size-requires-3 c κs = search needs
+
+enum-known-m : tie.Need-enum-known-m
+enum-known-m c = search needs
+
+enum-told-3 : tie.Need-enum-told-3
+enum-told-3 c = search needs
+
 returns-3 : tie.Need-returns-3
 returns-3 c = search needs
 
-returns-4 : tie.Need-returns-4
-returns-4 c = search needs
-
 slice-relend-prefix-answer-files : tie.Need-slice-relend-prefix-answer-files
-slice-relend-prefix-answer-files c = search needs
+slice-relend-prefix-answer-files c =
+    let s = c .before .before .before .before .before in
+    rw (s .n .given .1) at (s .before .before .read-size2 .ensures)
 
 slice-aggregate-answer-files : tie.Need-slice-aggregate-answer-files
-slice-aggregate-answer-files c = sym (length-take-le _ _ (omega arith))
+slice-aggregate-answer-files c = sym (length-take-le _ _ (slice-relend-prefix-answer-files (c .before)))
 
 slice-relend-prefix-answer-files-2 : tie.Need-slice-relend-prefix-answer-files-2
-slice-relend-prefix-answer-files-2 c = search needs
+slice-relend-prefix-answer-files-2 c = let s = c .before .before in rw (s .m .given .1) at (s .before .before .read-size3 .ensures)
 
 slice-aggregate-answer-files-2 : tie.Need-slice-aggregate-answer-files-2
-slice-aggregate-answer-files-2 c = sym (length-take-le _ _ (omega arith))
+slice-aggregate-answer-files-2 c = sym (length-take-le _ _ (slice-relend-prefix-answer-files-2 (c .before)))
 
 slice-relend-prefix-answer-files-3 : tie.Need-slice-relend-prefix-answer-files-3
-slice-relend-prefix-answer-files-3 c = search needs
+slice-relend-prefix-answer-files-3 c =
+    let s = c .before .before .before .before .before .before .before .before .before .before .before in
+    rw (s .size .given .1) at (s .before .before .read-size .ensures)
 
 slice-aggregate-answer-files-3 : tie.Need-slice-aggregate-answer-files-3
-slice-aggregate-answer-files-3 c = sym (length-take-le _ _ (omega arith))
+slice-aggregate-answer-files-3 c = sym (length-take-le _ _ (slice-relend-prefix-answer-files-3 (c .before)))
 
 answer-files-requires : tie.Need-answer-files-requires
 answer-files-requires c κs = search needs
@@ -91,31 +75,25 @@ same-length-2 c = search needs
 same-length-3 : tie.Need-same-length-3
 same-length-3 c = search needs
 
-returns-5 : tie.Need-returns-5
-returns-5 c = search needs
+returns-4 : tie.Need-returns-4
+returns-4 c = search needs
 
 pub answer-case-spec : {M : Type 1} → statement M
 answer-case-spec =
     tie.close
     (tie.spec
-    slice-aggregate-read-full
-    read-full-requires
+    read-size-requires
+    enum-known-size
+    enum-told
     returns
-    array-read-size-of
-    array-read-size-of-2
-    array-read-size-of-3
-    size-of-requires
-    array-read-size-of-4
-    array-read-size-of-5
-    array-read-size-of-6
-    size-of-requires-2
-    array-read-size-of-7
-    array-read-size-of-8
-    array-read-size-of-9
-    size-of-requires-3
+    read-size-requires-2
+    enum-known-n
+    enum-told-2
     returns-2
+    read-size-requires-3
+    enum-known-m
+    enum-told-3
     returns-3
-    returns-4
     slice-relend-prefix-answer-files
     slice-aggregate-answer-files
     slice-relend-prefix-answer-files-2
@@ -126,4 +104,4 @@ answer-case-spec =
     same-length
     same-length-2
     same-length-3
-    returns-5)
+    returns-4)

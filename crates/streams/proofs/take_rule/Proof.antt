@@ -1,13 +1,12 @@
 -- `streams::take_rule` is safe and ends. The part that is lent on has the length that was read.
 use mathlib.Core.Path.{sym}
 use lib.Seq.{length-take-le}
-use native.Mathlib.Omega.{arith}
 use borrow.Author.Needs.{needs}
 use Rattle.streams.proofs.take_rule.Statement.{statement}
 use Rattle.streams.proofs.take_rule.Tie as tie
 
-read-number-requires : tie.Need-read-number-requires
-read-number-requires c κs = search needs
+read-size-requires : tie.Need-read-size-requires
+read-size-requires c κs = search needs
 
 enum-known-n : tie.Need-enum-known-n
 enum-known-n c = search needs
@@ -18,14 +17,11 @@ enum-told c = search needs
 returns : tie.Need-returns
 returns c = search needs
 
-returns-2 : tie.Need-returns-2
-returns-2 c = search needs
-
 slice-relend-prefix-read-rule : tie.Need-slice-relend-prefix-read-rule
-slice-relend-prefix-read-rule c = search needs
+slice-relend-prefix-read-rule c = let s = c .before in rw (s .n .given .1) at (s .before .before .read-size .ensures)
 
 slice-aggregate-read-rule : tie.Need-slice-aggregate-read-rule
-slice-aggregate-read-rule c = sym (length-take-le _ _ (omega arith))
+slice-aggregate-read-rule c = sym (length-take-le _ _ (slice-relend-prefix-read-rule (c .before)))
 
 read-rule-requires : tie.Need-read-rule-requires
 read-rule-requires c κs = search needs
@@ -36,21 +32,20 @@ same-length c = search needs
 same-length-2 : tie.Need-same-length-2
 same-length-2 c = search needs
 
-returns-3 : tie.Need-returns-3
-returns-3 c = search needs
+returns-2 : tie.Need-returns-2
+returns-2 c = search needs
 
 pub take-rule-spec : {M : Type 1} → statement M
 take-rule-spec =
     tie.close
     (tie.spec
-    read-number-requires
+    read-size-requires
     enum-known-n
     enum-told
     returns
-    returns-2
     slice-relend-prefix-read-rule
     slice-aggregate-read-rule
     read-rule-requires
     same-length
     same-length-2
-    returns-3)
+    returns-2)

@@ -1,13 +1,12 @@
--- `tables::answer_case` is safe and ends. The parts that are lent on have the lengths that the head of the case gives.
+-- `tables::answer_case` is safe and ends. The parts that are lent on have the lengths that were read.
 use mathlib.Core.Path.{sym}
 use lib.Seq.{length-take-le}
-use native.Mathlib.Omega.{arith}
 use borrow.Author.Needs.{needs}
 use Rattle.tables.proofs.answer_case.Statement.{statement}
 use Rattle.tables.proofs.answer_case.Tie as tie
 
-read-number-requires : tie.Need-read-number-requires
-read-number-requires c κs = search needs
+read-size-requires : tie.Need-read-size-requires
+read-size-requires c κs = search needs
 
 enum-known-size : tie.Need-enum-known-size
 enum-known-size c = search needs
@@ -18,8 +17,8 @@ enum-told c = search needs
 returns : tie.Need-returns
 returns c = search needs
 
-read-number-requires-2 : tie.Need-read-number-requires-2
-read-number-requires-2 c κs = search needs
+read-size-requires-2 : tie.Need-read-size-requires-2
+read-size-requires-2 c κs = search needs
 
 enum-known-n : tie.Need-enum-known-n
 enum-known-n c = search needs
@@ -30,23 +29,19 @@ enum-told-2 c = search needs
 returns-2 : tie.Need-returns-2
 returns-2 c = search needs
 
-returns-3 : tie.Need-returns-3
-returns-3 c = search needs
-
-returns-4 : tie.Need-returns-4
-returns-4 c = search needs
-
 slice-relend-prefix-answer-file : tie.Need-slice-relend-prefix-answer-file
-slice-relend-prefix-answer-file c = search needs
+slice-relend-prefix-answer-file c = let s = c .before in rw (s .n .given .1) at (s .before .before .read-size2 .ensures)
 
 slice-aggregate-answer-file : tie.Need-slice-aggregate-answer-file
-slice-aggregate-answer-file c = sym (length-take-le _ _ (omega arith))
+slice-aggregate-answer-file c = sym (length-take-le _ _ (slice-relend-prefix-answer-file (c .before)))
 
 slice-relend-prefix-answer-file-2 : tie.Need-slice-relend-prefix-answer-file-2
-slice-relend-prefix-answer-file-2 c = search needs
+slice-relend-prefix-answer-file-2 c =
+    let s = c .before .before .before .before .before .before in
+    rw (s .size .given .1) at (s .before .before .read-size .ensures)
 
 slice-aggregate-answer-file-2 : tie.Need-slice-aggregate-answer-file-2
-slice-aggregate-answer-file-2 c = sym (length-take-le _ _ (omega arith))
+slice-aggregate-answer-file-2 c = sym (length-take-le _ _ (slice-relend-prefix-answer-file-2 (c .before)))
 
 answer-file-requires : tie.Need-answer-file-requires
 answer-file-requires c κs = search needs
@@ -57,23 +52,21 @@ same-length c = search needs
 same-length-2 : tie.Need-same-length-2
 same-length-2 c = search needs
 
-returns-5 : tie.Need-returns-5
-returns-5 c = search needs
+returns-3 : tie.Need-returns-3
+returns-3 c = search needs
 
 pub answer-case-spec : {M : Type 1} → statement M
 answer-case-spec =
     tie.close
     (tie.spec
-    read-number-requires
+    read-size-requires
     enum-known-size
     enum-told
     returns
-    read-number-requires-2
+    read-size-requires-2
     enum-known-n
     enum-told-2
     returns-2
-    returns-3
-    returns-4
     slice-relend-prefix-answer-file
     slice-aggregate-answer-file
     slice-relend-prefix-answer-file-2
@@ -81,4 +74,4 @@ answer-case-spec =
     answer-file-requires
     same-length
     same-length-2
-    returns-5)
+    returns-3)

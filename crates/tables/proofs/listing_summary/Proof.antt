@@ -1,11 +1,11 @@
 -- `tables::listing_summary` is safe and ends. The measure is how many lines are left, each of at most 64 bytes.
-use Prim.Native.Nat.{_+_, _*_, _≤_, _<_}
+use Prim.Native.Nat.{_+_, _*_, _≤_}
 use native.Mathlib.Omega.{arith}
 use Rattle.tables.proofs.listing_summary.Statement.{statement}
 use Rattle.tables.proofs.listing_summary.Tie as tie
 
 abbrev Inv-loop : tie.InvT-loop
-Inv-loop rule table count len₀ sum₀ at₀ left₀ len sum at left = (len + 64 * left ≤ 2099328) × (sum < 1000000007)
+Inv-loop rule table count len₀ sum₀ at₀ left₀ len sum at left = len + 64 * left ≤ 2099328
 
 abbrev μ-loop : tie.MeasureT-loop
 μ-loop rule table count len₀ sum₀ at₀ left₀ len sum at left = left
@@ -26,8 +26,7 @@ add-len : tie.Need-add-len Inv-loop μ-loop
 add-len c = omega arith
 
 line-digest-requires : tie.Need-line-digest-requires Inv-loop μ-loop
-line-digest-requires c κs =
-    (c .before .before .before .before .before .before .loop .inv .1, c .before .before .before .before .listing-line .ensures .1)
+line-digest-requires c κs = c .before .before .before .before .listing-line .ensures .1
 
 sub-left : tie.Need-sub-left Inv-loop μ-loop
 sub-left c = omega arith

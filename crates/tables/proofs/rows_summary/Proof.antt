@@ -23,7 +23,7 @@ row-more table k len before within = on (decLt 0 (length (rowOf 256 table k)))
     on (no none) = (omega (arith, none), omega (arith, none))
 
 abbrev Inv-loop : tie.InvT-loop
-Inv-loop table n len₀ sum₀ k₀ len sum k = (k ≤ n) × (len ≤ 256 * k) × (len ≤ length table) × (sum < 1000000007)
+Inv-loop table n len₀ sum₀ k₀ len sum k = (k ≤ n) × (len ≤ 256 * k) × (len ≤ length table)
 
 abbrev μ-loop : tie.MeasureT-loop
 μ-loop table n len₀ sum₀ k₀ len sum k = n - k
@@ -43,7 +43,7 @@ add-len c =
     omega (arith, more, ap length (c .row .ensures))
 
 digest-requires : tie.Need-digest-requires Inv-loop μ-loop
-digest-requires c κs = c .before .before .loop .inv .3
+digest-requires c κs = tt
 
 add-k : tie.Need-add-k Inv-loop μ-loop
 add-k c = search needs
@@ -57,7 +57,7 @@ loop-again c =
     let table = c .before .before .before .before .before .args .table .now in
     let more = row-more table (c .before .before .before .loop .k) (c .before .before .before .loop .len) (inv .1) (inv .2) in
     let row = ap length (c .before .row .ensures) in
-    (search needs, omega (arith, more, row), omega (arith, more, row), search needs)
+    (search needs, omega (arith, more, row), omega (arith, more, row))
 
 returns : tie.Need-returns Inv-loop μ-loop
 returns c = search needs

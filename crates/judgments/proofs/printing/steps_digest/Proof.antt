@@ -1,11 +1,11 @@
 -- `judgments::printing::steps_digest` is safe and ends. The measure is what is left of the 512 steps.
-use Prim.Native.Nat.{_<_, _-_}
+use Prim.Native.Nat.{_-_}
 use borrow.Author.Needs.{needs}
 use Rattle.judgments.proofs.printing.steps_digest.Statement.{statement}
 use Rattle.judgments.proofs.printing.steps_digest.Tie as tie
 
 abbrev Inv-loop : tie.InvT-loop
-Inv-loop steps sum₀ k₀ sum k = sum < 1000000007
+Inv-loop steps sum₀ k₀ sum k = Unit {0}
 
 abbrev μ-loop : tie.MeasureT-loop
 μ-loop steps sum₀ k₀ sum k = 512 - k
@@ -13,20 +13,14 @@ abbrev μ-loop : tie.MeasureT-loop
 loop-holds : tie.Need-loop-holds Inv-loop μ-loop
 loop-holds c = search needs
 
-mul-sum : tie.Need-mul-sum Inv-loop μ-loop
-mul-sum c = search needs
+mul-step-digest : tie.Need-mul-step-digest Inv-loop μ-loop
+mul-step-digest c = search needs
 
-mul-step-number : tie.Need-mul-step-number Inv-loop μ-loop
-mul-step-number c = search needs
+array-copy-out-step-digest : tie.Need-array-copy-out-step-digest Inv-loop μ-loop
+array-copy-out-step-digest c = search needs
 
-array-copy-out-step-number : tie.Need-array-copy-out-step-number Inv-loop μ-loop
-array-copy-out-step-number c = search needs
-
-step-number-requires : tie.Need-step-number-requires Inv-loop μ-loop
-step-number-requires c κs = search needs
-
-add-sum : tie.Need-add-sum Inv-loop μ-loop
-add-sum c = search needs
+step-digest-requires : tie.Need-step-digest-requires Inv-loop μ-loop
+step-digest-requires c κs = search needs
 
 add-k : tie.Need-add-k Inv-loop μ-loop
 add-k c = search needs
@@ -47,11 +41,9 @@ steps-digest-spec =
     Inv-loop
     μ-loop
     loop-holds
-    mul-sum
-    mul-step-number
-    array-copy-out-step-number
-    step-number-requires
-    add-sum
+    mul-step-digest
+    array-copy-out-step-digest
+    step-digest-requires
     add-k
     loop-less
     loop-again

@@ -1,0 +1,26 @@
+-- What responses say of the answers of a monitor, and that suppression passes exactly what the monitor keeps.
+use Prim.Native.Nat.{ℕ}
+use mathlib.Core.Path.{_≡_, refl}
+use native.Mathlib.Omega.{arith}
+use Rattle.synthesis.specs.Monitor.{Answer, dropped, next, cases}
+use Rattle.models.specs.Monitored.{Response, passed, silenced, suppressing, PassesKept}
+
+-- what is silenced is dropped
+pub silenced-dropped : {E : Type 0} (respond : E → ℕ → Response E) (answer : E → ℕ → Answer E) → PassesKept respond answer
+    → (e : E) (c : ℕ) → respond e c ≡ silenced → answer e c ≡ dropped
+silenced-dropped {E} respond answer same e c q = on (answer e c) refl
+  where
+    on : (a : Answer E) → answer e c ≡ a → answer e c ≡ dropped
+    on dropped h = h
+    on (next x) h = let p = same e x c .1 h in absurd (let z : _≡_ {A = ℕ} 0 1 = cc in omega arith)
+
+module _ {E : Type 0} (answer : E → ℕ → Answer E) where
+  pub dropped-silenced : (e : E) (c : ℕ) → answer e c ≡ dropped → suppressing answer e c ≡ silenced
+  dropped-silenced e c q = rw q
+
+  pub suppressing-passes : PassesKept (suppressing answer) answer
+  suppressing-passes e e′ c = (on (answer e c), λ q. rw q)
+    where
+      on : (a : Answer E) → cases a silenced passed ≡ passed e′ → a ≡ next e′
+      on dropped q = absurd (let z : _≡_ {A = ℕ} 0 1 = cc in omega arith)
+      on (next x) q = cc
