@@ -1,12 +1,12 @@
--- The paper's model under the number-pool rule, which it breaks, and one that meets the rule.
-use Prim.Native.Nat.{ℕ, zero, suc, _≤_, _<_}
+-- The paper's model under the number-pool rule, which it breaks, and one that meets the rule; with these, all model examples.
+use Prim.Native.Nat.{ℕ, _≤_}
 use mathlib.Core.Path.{_≡_, refl, sym, _∙_}
 use mathlib.Core.Logic.{inl, inr}
 use mathlib.Core.Bool.{Bool, true, false, true≢false}
 use mathlib.Core.List.{List, [], _∷_}
 use native.Mathlib.Omega.{arith}
 use lib.Dec.{eqb}
-use lib.ListN.{length, getD}
+use lib.ListN.{length}
 use borrow.Author.Tests.{eqb-true}
 use Rattle.reading.specs.Pattern.{bit, covers}
 use Rattle.reading.specs.Formula.{Formula, falsity, both, necessity, variable}
@@ -17,11 +17,10 @@ use Rattle.synthesis.specs.Table.{entry}
 use Rattle.models.specs.Model.{Label, silent, code, Walk, stay, silent-first, code-first, Weak}
 use Rattle.models.specs.Satisfaction.{SatisfiesWith, Satisfies, SatisfiesDecided}
 use Rattle.models.specs.Monitored.{suppressing}
-use Rattle.models.specs.Phone.{Phone, labelOf, noStep, StepIn, modelOf}
+use Rattle.models.specs.Phone.{Phone, StepIn, modelOf}
 use Rattle.models.specs.File.{statesOf, stepsAt, phoneOf}
 use Rattle.models.specs.Judging.{judgingOf, JudgedAs}
 use Rattle.models.specs.Promises.{Enforces, Safe}
-use Rattle.models.specs.declared.Step.{Step}
 use Rattle.models.specs.declared.Judged.the-variants.{Meets, Breaks}
 use Rattle.models.proofs.SatisfactionLaws.{satisfies-safe, decided-safe}
 use Rattle.models.proofs.BisimulationLaws.{bisimilar-alike}
@@ -30,7 +29,10 @@ use Rattle.models.proofs.JudgingLaws.{judging-case}
 use Rattle.examples.specs.Examples.{tableLeft, poolFile, poolRule}
 use Rattle.examples.specs.ModelExamples.{behindPool, JudgesPool, breakingFile, breakingPhone, Breaking}
 use Rattle.examples.specs.ModelExamples.{meetingFile, meetingPhone, Meeting, ModelExamples}
-use Rattle.examples.proofs.NumberPool.{number-pool}
+use Rattle.examples.proofs.NumberPool.{number-pool, pool-table}
+use Rattle.examples.proofs.PhoneSteps.{step-at, every-step}
+use Rattle.examples.proofs.DrawnModel.{drawn-bisimilar}
+use Rattle.examples.proofs.Distinctions.{distinctions}
 
 -- ---- any model file under the number-pool rule
 
@@ -66,11 +68,6 @@ breaking-read : phoneOf breakingFile ≡ accepted breakingPhone
 unfolding phoneOf statesOf stepsAt
 breaking-read = refl
 
--- the step of a place in the list
-step-at : (steps : List Step) (i : ℕ) → i < length steps
-    → StepIn steps (getD steps i noStep .from) (labelOf (getD steps i noStep .label)) (getD steps i noStep .to)
-step-at steps i h = record { place = i; inside = h; from-is = refl; label-is = refl; to-is = refl }
-
 -- number 5 is cancelled, and after a silent step issued
 cancel-issue : ViolatesRule poolRule (37 ∷ 5 ∷ [])
 unfolding bit covers
@@ -95,6 +92,7 @@ breaking = record {
   changed = λ table room alike. breaking-unsatisfied (
       bisimilar-alike (modelOf breakingPhone) (behindPool table (modelOf breakingPhone)) alike poolRule .1
       (pool-enforces breakingFile breakingPhone breaking-read (search arith) table room .satisfies));
+  drawn = λ table room. drawn-bisimilar (tableLeft poolFile table) (pool-table table room .rows);
 }
 
 -- ---- the other meets it
@@ -109,13 +107,7 @@ data MeetingStep : ℕ → Label → ℕ → Type 0 where
   syncs : MeetingStep 1 (code 128) 0
 
 meeting-step : {s t : ℕ} {a : Label} → StepIn (meetingPhone .steps) s a t → MeetingStep s a t
-meeting-step x = rw (← x .from-is, ← x .label-is, ← x .to-is) (on (x .place) (x .inside))
-  where
-    on : (i : ℕ) → i < 2 → MeetingStep (getD (meetingPhone .steps) i noStep .from) (labelOf (getD (meetingPhone .steps) i noStep .label))
-        (getD (meetingPhone .steps) i noStep .to)
-    on zero h = cancels
-    on (suc zero) h = syncs
-    on (suc (suc i)) h = absurd (omega (arith, h))
+meeting-step = every-step MeetingStep (meetingPhone .steps) (cancels, (syncs, tt))
 
 -- none is silent
 no-silent : {s t : ℕ} → MeetingStep s silent t → ⊥
@@ -163,4 +155,4 @@ meeting = record {
     satisfied = meeting-holds (ℕ → Type 0) (λ X s. X s) (λ s. s ≡ 0) (λ s h. h) refl
 
 pub model-examples : ModelExamples
-model-examples = record { breaking = breaking; meeting = meeting }
+model-examples = record { breaking = breaking; meeting = meeting; distinctions = distinctions }

@@ -1,11 +1,13 @@
--- The paper's model under the number-pool rule, which it breaks, and one that meets the rule.
-use Prim.Native.Nat.{ℕ, _≤_}
+-- The paper's model under the number-pool rule, which it breaks; one that meets the rule; and what tells some definitions from others.
+use Prim.Native.Nat.{ℕ, suc, _≤_}
 use mathlib.Core.Path.{_≡_}
+use mathlib.Core.Logic.{_↔_}
 use mathlib.Core.List.{List, [], _∷_}
 use lib.ListN.{length}
+use Rattle.reading.specs.Rule.{Rule}
 use Rattle.reading.specs.Outcome.{accepted}
 use Rattle.synthesis.specs.Table.{entry}
-use Rattle.models.specs.Model.{Model}
+use Rattle.models.specs.Model.{code, Model, Finite}
 use Rattle.models.specs.Satisfaction.{Satisfies}
 use Rattle.models.specs.Bisimulation.{Bisimilar}
 use Rattle.models.specs.Monitored.{suppressing, monitored}
@@ -37,12 +39,20 @@ breakingFile = 16 ∷ 3 ∷ 17 ∷ 0 ∷ 37 ∷ 1 ∷ 18 ∷ 1 ∷ 2 ∷ 17 ∷ 
 abbrev pub breakingPhone : Phone
 breakingPhone = record { states = 3; steps = step 0 37 1 ∷ step 1 256 2 ∷ step 2 5 0 ∷ [] }
 
--- Behind the monitor it is another: no strong bisimulation has the two starts.
+-- the same phone behind the monitor, drawn out: the issue after the first cancel is silent, and after the second cancel everything passes
+abbrev pub drawnPhone : Phone
+drawnPhone = record {
+  states = 7;
+  steps = step 0 37 1 ∷ step 1 256 2 ∷ step 2 256 3 ∷ step 3 37 4 ∷ step 4 256 5 ∷ step 5 5 6 ∷ step 6 37 4 ∷ [];
+}
+
+-- Behind the monitor it is another: no strong bisimulation has the two starts. It is the one that is drawn.
 pub record Breaking : Type 1 where
   pub file : phoneOf breakingFile ≡ accepted breakingPhone
   pub unsatisfied : Satisfies (modelOf breakingPhone) poolRule → ⊥
   pub judged : JudgesPool breakingFile Breaks
   pub changed : (table : List ℕ) → 32768 ≤ length table → Bisimilar (modelOf breakingPhone) (behindPool table (modelOf breakingPhone)) → ⊥
+  pub drawn : (table : List ℕ) → 32768 ≤ length table → Bisimilar (behindPool table (modelOf breakingPhone)) (modelOf drawnPhone)
 
 -- Not in the paper: a phone that cancels number 5 and syncs, again and again, meets the rule. The monitor doesn't change it.
 abbrev pub meetingFile : List ℕ
@@ -57,6 +67,25 @@ pub record Meeting : Type 1 where
   pub judged : JudgesPool meetingFile Meets
   pub unchanged : (table : List ℕ) → 32768 ≤ length table → Bisimilar (modelOf meetingPhone) (behindPool table (modelOf meetingPhone))
 
+-- Not in the paper: what isn't finite, and what isn't strongly bisimilar.
+
+-- a model that counts: code 0 leads from each number to the next
+abbrev pub counting : Model
+counting = record { State = ℕ; start = 0; Step = λ s a t. (a ≡ code 0) × (t ≡ suc s) }
+
+-- a phone that does nothing, and one whose only step is silent and leads back
+abbrev pub stillPhone : Phone
+stillPhone = record { states = 1; steps = [] }
+
+abbrev pub idlePhone : Phone
+idlePhone = record { states = 1; steps = step 0 256 0 ∷ [] }
+
+pub record Distinctions : Type 1 where
+  pub endless : Finite counting → ⊥
+  pub same-rules : (r : Rule) → Satisfies (modelOf stillPhone) r ↔ Satisfies (modelOf idlePhone) r
+  pub not-bisimilar : Bisimilar (modelOf stillPhone) (modelOf idlePhone) → ⊥
+
 pub record ModelExamples : Type 1 where
   pub breaking : Breaking
   pub meeting : Meeting
+  pub distinctions : Distinctions

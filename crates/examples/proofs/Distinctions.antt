@@ -1,0 +1,78 @@
+-- A model that isn't finite, and two that satisfy the same rules and aren't strongly bisimilar.
+use Prim.Native.Nat.{ℕ, zero, suc, _+_, _≤_}
+use mathlib.Core.Path.{_≡_, refl}
+use mathlib.Core.Logic.{_↔_}
+use mathlib.Core.List.{List, [], _∷_}
+use native.Mathlib.Omega.{arith}
+use lib.ListN.{getD}
+use Rattle.reading.specs.Rule.{Rule}
+use Rattle.synthesis.specs.Violation.{ViolatesRule}
+use Rattle.models.specs.Model.{Label, silent, code, Model, Walk, stay, silent-first, code-first, Finite}
+use Rattle.models.specs.Satisfaction.{Satisfies}
+use Rattle.models.specs.Bisimulation.{Bisimilar}
+use Rattle.models.specs.Phone.{modelOf}
+use Rattle.models.proofs.Walks.{walk-append}
+use Rattle.models.proofs.SatisfactionLaws.{satisfies-safe}
+use Rattle.examples.specs.ModelExamples.{counting, stillPhone, idlePhone, Distinctions}
+use Rattle.examples.proofs.PhoneSteps.{step-at, every-step}
+
+-- ---- counting leads past the total of every list
+
+abbrev total : List ℕ → ℕ
+total [] = 0
+total (x ∷ l) = x + total l
+
+at-most-total : (l : List ℕ) (i : ℕ) → getD l i 0 ≤ total l
+at-most-total [] i = omega arith
+at-most-total (x ∷ l) zero = let h : x ≤ x + total l = omega arith in h
+at-most-total (x ∷ l) (suc i) = let h = at-most-total l i in let k : getD l i 0 ≤ x + total l = omega (arith, h) in k
+
+counts : (n : ℕ) → (w : List ℕ) × Walk counting 0 w n
+counts zero = ([], stay)
+counts (suc n) = let (w, k) = counts n in (_, walk-append counting k (code-first (refl, refl) stay))
+
+endless : Finite counting → ⊥
+endless finite =
+    let past = suc (total (finite .states)) in
+    let (w, k) = counts past in
+    let (i, h, e) = finite .listed w past k in
+    let small = at-most-total (finite .states) i in
+    omega (arith, e, small)
+
+-- ---- models whose steps are all silent satisfy the same rules
+
+abbrev Quiet : Label → Type 0
+Quiet silent = Unit
+Quiet (code c) = ⊥
+
+module _ (m : Model) (quiet : (s t : m .State) (a : Label) → m .Step s a t → Quiet a) where
+  no-trace : {s t : m .State} {w : List ℕ} → Walk m s w t → w ≡ []
+  no-trace stay = refl
+  no-trace (silent-first h k) = no-trace k
+  no-trace (code-first {s} {t} {c = c} h k) = absurd (quiet s t (code c) h)
+
+  quiet-satisfies : (r : Rule) → Satisfies m r ↔ (ViolatesRule r [] → ⊥)
+  quiet-satisfies r = (
+    λ sat. satisfies-safe m r .0 sat [] (m .start) stay,
+    λ fine. satisfies-safe m r .1 (λ w t k v. fine (rw (no-trace k) at v)),
+  )
+
+still-satisfies : (r : Rule) → Satisfies (modelOf stillPhone) r ↔ (ViolatesRule r [] → ⊥)
+still-satisfies = quiet-satisfies (modelOf stillPhone) (λ s t a. every-step (λ s a t. Quiet a) (stillPhone .steps) tt)
+
+idle-satisfies : (r : Rule) → Satisfies (modelOf idlePhone) r ↔ (ViolatesRule r [] → ⊥)
+idle-satisfies = quiet-satisfies (modelOf idlePhone) (λ s t a. every-step (λ s a t. Quiet a) (idlePhone .steps) (tt, tt))
+
+-- ---- the still phone has no silent step
+
+not-bisimilar : Bisimilar (modelOf stillPhone) (modelOf idlePhone) → ⊥
+not-bisimilar (R, b, x) =
+    let (s, h, y) = b .back 0 0 0 silent x (step-at (idlePhone .steps) 0 (omega arith)) in
+    every-step (λ s a t. ⊥) (stillPhone .steps) tt h
+
+pub distinctions : Distinctions
+distinctions = record {
+  endless = endless;
+  same-rules = λ r. (λ sat. idle-satisfies r .1 (still-satisfies r .0 sat), λ sat. still-satisfies r .1 (idle-satisfies r .0 sat));
+  not-bisimilar = not-bisimilar;
+}
