@@ -13,7 +13,7 @@ ghost use Rattle.models.specs.Judging.{judgingOf, JudgedAs};
 ghost use Rattle.commands.specs.Printing.{judgedText};
 
 // The line of an answer.
-fn judged_line(answer: Judged) -> Line
+fn answer_line(answer: Judged) -> Line
     ensures { λ r. ⌜ r ≡ lineOf (judgedText answer) ⌝ }
     ensures { λ r. ⌜ Within r ⌝ }
 {
@@ -30,7 +30,7 @@ fn print_judged(rule: &[u8], model: &[u8], table: &mut [u8]) -> Judged
     ensures { λ r. ⌜ JudgedAs (judgingOf 128 (now (rule .entry)) (length (now (table .entry))) (now (model .entry))) r ⌝ }
 {
     let answer = models::judge(rule, model, table);
-    print_line(judged_line(answer));
+    print_line(answer_line(answer));
     answer
 }
 

@@ -12,12 +12,12 @@ use Rattle.reading.specs.Outcome.{Outcome, accepted, refused}
 use Rattle.reading.specs.declared.Answer.the-variants.{Accepted}
 use Rattle.reading.proofs.AllLaws.{all-append}
 use Rattle.reading.proofs.Outcomes.{accepted-is, accepted-by, then-accepts, passes}
-use Rattle.models.specs.Phone.{Phone, WellFormedStep, WellFormedPhone, encodeStep, encodeSteps, encodePhone}
+use Rattle.models.specs.Phone.{Phone, WellFormedStep, WellFormedPhone, recordBytes, encodeStep, encodeSteps, encodePhone}
 use Rattle.models.specs.File.{statesOf, stepsAt, phoneOf}
 use Rattle.models.specs.Judging.{stored, modelReadingOf}
 use Rattle.models.specs.Promises.{AcceptsPhones, OnePhone, AnswersAccepted}
 use Rattle.models.specs.declared.Step.{Step}
-use Rattle.models.proofs.StepBytes.{from-here, recordBytes, StepsStand, steps-read, steps-stand}
+use Rattle.models.proofs.StepBytes.{from-here, StepsStand, steps-read, steps-stand}
 
 -- ---- the whole file
 

@@ -3,7 +3,7 @@ use Prim.Native.Nat.{ℕ}
 use mathlib.Core.Path.{_≡_, refl}
 use mathlib.Core.List.{List, _∷_}
 use Rattle.synthesis.specs.Monitor.{Answer, dropped, next, Loses, now, later}
-use Rattle.synthesis.proofs.MonitorLaws.{loses-nothing, loses-rest}
+use Rattle.synthesis.proofs.MonitorLaws.{kept-loses}
 use Rattle.models.specs.Model.{Label, silent, code, Model, Walk, stay, silent-first, code-first, ByteCodes}
 use Rattle.models.specs.Bisimulation.{Bisimulation}
 use Rattle.models.specs.Monitored.{Response, PassesKept, silent-step, passed-step, silenced-step, monitored}
@@ -11,6 +11,7 @@ use Rattle.models.specs.Promises.{MonitorsEnforce, SoundSatisfies}
 use Rattle.models.proofs.Walks.{walk-bytes}
 use Rattle.models.proofs.SatisfactionLaws.{satisfies-safe}
 use Rattle.models.proofs.Responses.{silenced-dropped}
+use Rattle.models.proofs.Suppressing.{back}
 use Rattle.models.proofs.Passing.{Passes, passes-silent, passes-code, passes-drop, safe-passes}
 
 module _ {E : Type 0} (answer : E → ℕ → Answer E) (respond : E → ℕ → Response E) (same : PassesKept respond answer) where
@@ -21,10 +22,7 @@ module _ {E : Type 0} (answer : E → ℕ → Answer E) (respond : E → ℕ →
     -- ---- behind the monitor nothing is dropped
 
     behind-loses : {x y : behind .State} {w : List ℕ} → Walk behind x w y → Loses answer (x .1) w → ⊥
-    behind-loses stay l = loses-nothing answer l
-    behind-loses (silent-first (silent-step h) k) l = behind-loses k l
-    behind-loses (silent-first (silenced-step h q) k) l = behind-loses k l
-    behind-loses (code-first (passed-step {c = c} {e} {e′} h q) k) l = behind-loses k (loses-rest answer (same e e′ c .0 q) l)
+    behind-loses {x} k l = let o = back answer respond same first m k in kept-loses answer (x .1) (o .trace) (rw (← o .kept-is) at l)
 
     behind-codes : ByteCodes m → ByteCodes behind
     behind-codes codes x y c (passed-step {s} {t} h q) = codes s t c h

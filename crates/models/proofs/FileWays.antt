@@ -1,20 +1,17 @@
 -- The loop over the steps of a model file: what is read so far, and what each way out of `read_model` returns.
 use mathlib.Core.Path.{_≡_, refl, sym, ap, _∙_}
-use mathlib.Core.Bool.{Bool, true, false, not, _||_, cond}
 use mathlib.Core.List.{List, [], _∷_, _++_, append-nil, append-assoc}
 use Prim.Native.Nat.{ℕ, suc, _+_, _-_, _≤_, _<_}
 use native.Mathlib.Omega.{arith}
-use lib.ListN.{length, getD, set, length-append}
-use lib.Dec.{eqb, leb}
-use borrow.Author.Tests.{leb-false, eqb-false}
+use lib.ListN.{length, set, length-append}
+use Rattle.reading.specs.Rule.{Bytes}
 use Rattle.reading.specs.Outcome.{Outcome, accepted, refused, andThen}
 use Rattle.reading.specs.Numbered.{padded}
 use Rattle.reading.specs.declared.Answer.{Answer}
 use Rattle.reading.specs.declared.Answer.the-variants.{Accepted}
-use Rattle.reading.proofs.Outcomes.{passes}
 use Rattle.reading.proofs.Heads.{set-padded}
 use Rattle.models.specs.Phone.{noStep}
-use Rattle.models.specs.File.{statesOf, codeStepAt, silentStepAt, stepAt, recordLength, withStep, stepsAt, phoneOf}
+use Rattle.models.specs.File.{statesOf, stepAt, recordLength, withStep, stepsAt, phoneOf}
 use Rattle.models.specs.Judging.{blank, modelReadingOf}
 use Rattle.models.specs.Readings.{statesRead, stepRead, statesAnswer, stepAnswer}
 use Rattle.models.specs.declared.Step.{Step}
@@ -23,7 +20,8 @@ use Rattle.models.specs.declared.records.StatesRead.{StatesRead}
 use Rattle.models.specs.declared.records.StatesRead.the-variants as StatesRead′
 use Rattle.models.specs.declared.records.StepRead.{StepRead}
 use Rattle.models.specs.declared.records.StepRead.the-variants as StepRead′
-use Rattle.models.proofs.StepLaws.{among-is, record-bounds, steps-end, one-more, one-refused}
+use Rattle.models.proofs.StepLaws.{steps-end, one-more, one-refused}
+use Rattle.models.proofs.StepBytes.{step-fits}
 
 -- ---- what the readers of records found
 
@@ -42,35 +40,6 @@ step-found (refused number place) e = let z : _≡_ {A = ℕ} 0 1 = cc in absurd
 no-step-found : (o : Outcome Step) {number place : ℕ} → StepRead′.Refused number place ≡ stepRead o → o ≡ refused number place
 no-step-found (accepted x) e = let z : _≡_ {A = ℕ} 0 1 = cc in absurd (omega arith)
 no-step-found (refused number place) e = cc
-
--- ---- a step that is accepted
-
--- One was left, and its record ends in the file.
-pub record Fits (f : List ℕ) (at left : ℕ) (x : Step) : Type 0 where
-  pub some-left : 0 < left
-  pub whole : at + recordLength x ≤ length f
-
-module _ (f : List ℕ) (states at : ℕ) (x : Step) where
-  code-step-ends : codeStepAt f states at ≡ accepted x → at + recordLength x ≤ length f
-  code-step-ends e =
-      let inside = passes (leb (length f) (at + 3)) 11 (length f) _ e in
-      omega (arith, leb-false (length f) (at + 3) (inside .0), record-bounds x .1)
-
-  silent-step-ends : silentStepAt f states at ≡ accepted x → at + recordLength x ≤ length f
-  silent-step-ends e =
-      let inside = passes (leb (length f) (at + 2)) 11 (length f) _ e in
-      let is = among-is states at (record { from = getD f (at + 1) 0; label = 256; to = getD f (at + 2) 0 }) x (inside .1) .2 in
-      rw (← is) (omega (arith, leb-false (length f) (at + 2) (inside .0)))
-
-  pub step-fits : (left : ℕ) → stepAt f states at left ≡ accepted x → Fits f at left x
-  step-fits left e =
-      let kind = passes (not (eqb (getD f at 0) 17 || eqb (getD f at 0) 18)) 12 at _ e in
-      let one = passes (eqb left 0) 14 at _ (kind .1) in
-      record { some-left = omega (arith, eqb-false left 0 (one .0)); whole = on (eqb (getD f at 0) 17) (one .1) }
-    where
-      on : (code : Bool) → cond code (codeStepAt f states at) (silentStepAt f states at) ≡ accepted x → at + recordLength x ≤ length f
-      on true h = code-step-ends h
-      on false h = silent-step-ends h
 
 -- ---- the rest of the steps, after some
 
@@ -105,17 +74,19 @@ pub record Begun (f : List ℕ) (states : ℕ) (steps : List Step) (n at : ℕ) 
   pub counted : length done ≡ n
   pub few : n ≤ 512
   pub stored : steps ≡ padded 512 noStep done
+  pub are-bytes : Bytes f
   pub states-are : statesOf f ≡ accepted states
   pub rest : stepsAt 512 f states 2 ≡ prepend done (stepsAt (512 - n) f states at)
 
-pub none-begun : (f : List ℕ) (states : ℕ) → statesOf f ≡ accepted states → Begun f states (blank .steps) 0 2
-none-begun f states e = record { done = []; counted = refl; few = omega arith; stored = refl; states-are = e; rest = prepend-none _ }
+pub none-begun : (f : List ℕ) (states : ℕ) → Bytes f → statesOf f ≡ accepted states → Begun f states (blank .steps) 0 2
+none-begun f states bytes e =
+    record { done = []; counted = refl; few = omega arith; stored = refl; are-bytes = bytes; states-are = e; rest = prepend-none _ }
 
 module _ {f : List ℕ} {states : ℕ} {steps : List Step} {n at : ℕ} (b : Begun f states steps n at) where
   pub one-begun : (x : Step) → at < length f → stepAt f states at (512 - n) ≡ accepted x
       → Begun f states (set steps n x) (n + 1) (at + recordLength x)
   one-begun x inside e =
-      let some-left = step-fits f states at x (512 - n) e .some-left in
+      let some-left = step-fits f states at (512 - n) x (b .are-bytes) inside e .some-left in
       let left : 512 - n ≡ suc (512 - (n + 1)) = omega arith in
       let more = stepsAt (512 - (n + 1)) f states (at + recordLength x) in
       record {
@@ -123,6 +94,7 @@ module _ {f : List ℕ} {states : ℕ} {steps : List Step} {n at : ℕ} (b : Beg
         counted = length-append (b .done) (x ∷ []) ∙ omega (arith, b .counted);
         few = omega arith;
         stored = rw (b .stored) (set-padded 512 n noStep x (b .done) (b .counted) (omega arith));
+        are-bytes = b .are-bytes;
         states-are = b .states-are;
         rest = b .rest
             ∙ rw left (ap (prepend (b .done)) (one-more f states at (512 - (n + 1)) inside (rw left at e)) ∙ prepend-one (b .done) x more);

@@ -21,13 +21,13 @@ Within P X = (v : ℕ) → P v → X v ≡ true
 
 module _ (test : (ℕ → Bool) → ℕ → Bool) where
   -- Wherever P is within a set, the numbers with P pass the test about that set.
-  abbrev pub Passes : (ℕ → Type 0) → Type 0
-  Passes P = (X : ℕ → Bool) → Within P X → Within P (test X)
+  abbrev pub Consistent : (ℕ → Type 0) → Type 0
+  Consistent P = (X : ℕ → Bool) → Within P X → Within P (test X)
 
   pub record Greatest (l : List ℕ) : Type 1 where
     pub set : ℕ → Bool
     pub passes : (v : ℕ) → set v ≡ true → test set v ≡ true
-    pub contains : (P : ℕ → Type 0) → Passes P → Within P (listed l) → Within P set
+    pub contains : (P : ℕ → Type 0) → Consistent P → Within P (listed l) → Within P set
 
   -- the listed numbers, or what there is without one that fails
   shrunk : (l : List ℕ) → ((e : ℕ) → Member e l → Greatest (without e l)) → Greatest l

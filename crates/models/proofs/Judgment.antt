@@ -141,14 +141,14 @@ module _ (s table f : List ℕ) where
         (λ never. decided .1 (satisfies .1 (safe .0 never)), λ sat. safe .1 (satisfies .0 (decided .0 sat)))
 
     module _ {links : Links} {r : Bool}
-        (linked : (y : Phone) → WellFormedPhone y → model ≡ stored y → Linked (y .steps) links)
+        (linked : (y : Phone) → model ≡ stored y → Linked (y .steps) links)
         (never : (y : Phone) → Linked (y .steps) links → (r ≡ true) ↔ NeverDrops (entry 256 255 after) 0 (modelOf y)) where
       case : judgingOf 128 s (length table) f ≡ accepted (record { rule = a .rule; phone = a .phone })
       case = judging-case 128 s f (length table) (a .rule) (a .count) (a .phone) (a .rule-is) (a .counted) (a .phone-is)
 
       -- the answer of the search
       searched : (r ≡ true) ↔ NeverDrops (entry 256 255 after) 0 (modelOf (a .phone))
-      searched = never (a .phone) (linked (a .phone) (a .well-formed) (a .is-stored))
+      searched = never (a .phone) (linked (a .phone) (a .is-stored))
 
       pub judges-meets : r ≡ true → Judges Judged′.the-variants.Meets after
       judges-meets e = rw case (inl (refl, never-drops-satisfies .0 (searched .0 e)), a .left)

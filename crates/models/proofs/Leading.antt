@@ -17,22 +17,9 @@ use Rattle.running.proofs.Tables.{getD-inside, row-at}
 use Rattle.models.specs.Model.{silent, code, Model}
 use Rattle.models.specs.Phone.{labelOf}
 use Rattle.models.specs.Exploring.{Reached, silently, keeping, NeverDrops, leadsTo}
+use Rattle.models.proofs.PhoneCodes.{label-silent, label-code}
 
--- ---- labels and entries
-
-label-silent : (x : ℕ) → labelOf x ≡ silent → x ≡ 256
-label-silent x h = on (eqb x 256) refl
-  where
-    on : (b : Bool) → eqb x 256 ≡ b → x ≡ 256
-    on true q = eqb-true x 256 q
-    on false q = let e : code x ≡ silent = rw q at h in absurd (let z : _≡_ {A = ℕ} 0 1 = cc in omega arith)
-
-label-code : (x c : ℕ) → labelOf x ≡ code c → (x ≡ c) × (x ≡ 256 → ⊥)
-label-code x c h = on (eqb x 256) refl
-  where
-    on : (b : Bool) → eqb x 256 ≡ b → (x ≡ c) × (x ≡ 256 → ⊥)
-    on true q = let e : silent ≡ code c = rw q at h in absurd (let z : _≡_ {A = ℕ} 0 1 = cc in omega arith)
-    on false q = let e : code x ≡ code c = rw q at h in (cc, eqb-false x 256 q)
+-- ---- entries
 
 meaning-dropped : (mark x : ℕ) → meaning mark x ≡ dropped → x ≡ mark
 meaning-dropped mark x h = on (eqb x mark) refl

@@ -9,8 +9,8 @@ pub mod Suppressing
 pub mod Enforcing
 pub mod StepLaws
 pub mod RecordChecks
-pub mod FileWays
 pub mod StepBytes
+pub mod FileWays
 pub mod Encoding
 pub mod Settled
 pub mod PhoneCodes
@@ -23,6 +23,7 @@ pub mod Necessities
 pub mod DecidedSets
 pub mod Acceptance
 pub mod JudgingLaws
+pub mod Occurrences
 pub mod FoundPairs
 pub mod Chains
 pub mod Leading

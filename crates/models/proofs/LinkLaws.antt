@@ -10,9 +10,9 @@ use lib.ListN.{length, getD, set, replicate, length-set}
 use lib.Seq.{getD-set-same, getD-set-other}
 use borrow.Author.Tests.{eqb-true, eqb-false, eq-eqb, ne-eqb}
 use Rattle.reading.proofs.NumberedLaws.{repeated-at, padded-at}
-use Rattle.models.specs.Phone.{Phone, noStep, WellFormedStep, WellFormedPhone}
+use Rattle.models.specs.Phone.{Phone, noStep, WellFormedStep}
 use Rattle.models.specs.Judging.{stored}
-use Rattle.models.specs.Exploring.{HasPhone, lastFrom, Linked, LinksInRange}
+use Rattle.models.specs.Exploring.{HasPhone, lastFrom, LinkedFirst, Linked, LinksInRange, linksOf}
 use Rattle.models.specs.declared.Step.{Step}
 use Rattle.models.specs.declared.PhoneModel.{PhoneModel}
 use Rattle.models.specs.declared.links.Links.{Links}
@@ -62,13 +62,10 @@ last-alike xs ys alike s (suc n) = rw (alike n, last-alike xs ys alike s n)
 
 -- ---- one step after the other
 
--- The arrays link the first i steps.
-pub record LinkedFirst (steps : List Step) (i : ℕ) (l : Links) : Type 0 where
+-- The arrays link the first i steps, and are in range.
+pub record LinkedSoFar (steps : List Step) (i : ℕ) (l : Links) : Type 0 where
   pub ranges : LinksInRange l
-  pub last-is : (s : ℕ) → s < 64 → getD (l .last) s 0 ≡ lastFrom steps s i
-  pub earlier-is : (j : ℕ) → j < i → getD (l .earlier) j 0 ≡ lastFrom steps (getD steps j noStep .from) j
-  pub labels-are : (j : ℕ) → j < i → getD (l .labels) j 0 ≡ getD steps j noStep .label
-  pub targets-are : (j : ℕ) → j < i → getD (l .targets) j 0 ≡ getD steps j noStep .to
+  pub links : LinkedFirst steps i l
 
 -- What holds at the place of a write and at all others, holds at each.
 after-write : (P : (i x : ℕ) → Type 0) (l : List ℕ) (k x : ℕ) → k < length l → P k x → ((i : ℕ) → (i ≡ k → ⊥) → P i (getD l i 0))
@@ -80,12 +77,8 @@ after-write P l k x h here there i = on (eqb i k) refl
         subst (λ (j : ℕ). P j (getD (set l k x) j 0)) (sym (eqb-true i k e)) (subst (P k) (sym (getD-set-same l k x 0 h)) here)
     on false e = let d = eqb-false i k e in subst (P i) (sym (getD-set-other l k i x 0 d)) (there i d)
 
-pub linked-none : (steps : List Step) → LinkedFirst steps 0 (record {
-  last = replicate 64 0;
-  earlier = replicate 512 0;
-  labels = replicate 512 0;
-  targets = replicate 512 0;
-})
+pub linked-none : (steps : List Step)
+    → LinkedSoFar steps 0 (linksOf (replicate 64 0) (replicate 512 0) (replicate 512 0) (replicate 512 0))
 linked-none steps = record {
   ranges = record {
     last-length = refl;
@@ -97,21 +90,20 @@ linked-none steps = record {
     labels-range = λ j. omega (arith, repeated-at {A = ℕ} 0 512 j);
     targets-range = λ j. omega (arith, repeated-at {A = ℕ} 0 512 j);
   };
-  last-is = λ s h. repeated-at {A = ℕ} 0 64 s ∙ sym (last-zero steps s);
-  earlier-is = λ j h. absurd (omega arith);
-  labels-are = λ j h. absurd (omega arith);
-  targets-are = λ j h. absurd (omega arith);
+  links = record {
+    last-is = λ s h. repeated-at {A = ℕ} 0 64 s ∙ sym (last-zero steps s);
+    earlier-is = λ j h. absurd (omega arith);
+    labels-are = λ j h. absurd (omega arith);
+    targets-are = λ j h. absurd (omega arith);
+  };
 }
 
 pub linked-next : {steps : List Step} {i : ℕ} {last earlier labels targets : List ℕ}
-    → LinkedFirst steps i (record { last = last; earlier = earlier; labels = labels; targets = targets })
+    → LinkedSoFar steps i (linksOf last earlier labels targets)
     → WellFormedStep 64 (getD steps i noStep) → i < 512
-    → LinkedFirst steps (i + 1) (record {
-      last = set last (getD steps i noStep .from) (i + 1);
-      earlier = set earlier i (getD last (getD steps i noStep .from) 0);
-      labels = set labels i (getD steps i noStep .label);
-      targets = set targets i (getD steps i noStep .to);
-    })
+    → LinkedSoFar steps (i + 1) (linksOf
+    (set last (getD steps i noStep .from) (i + 1)) (set earlier i (getD last (getD steps i noStep .from) 0))
+    (set labels i (getD steps i noStep .label)) (set targets i (getD steps i noStep .to)))
 linked-next {steps} {i} {last} {earlier} {labels} {targets} l w h =
     let step = getD steps i noStep in
     let r = l .ranges in
@@ -119,7 +111,7 @@ linked-next {steps} {i} {last} {earlier} {labels} {targets} l w h =
     let in-earlier : i < length earlier = omega (arith, h, r .earlier-length) in
     let in-labels : i < length labels = omega (arith, h, r .labels-length) in
     let in-targets : i < length targets = omega (arith, h, r .targets-length) in
-    let before = l .last-is (step .from) (w .from) in
+    let before = l .links .last-is (step .from) (w .from) in
     record {
       ranges = record {
         last-length = simp length-set (r .last-length);
@@ -132,20 +124,22 @@ linked-next {steps} {i} {last} {earlier} {labels} {targets} l w h =
         labels-range = after-write (λ j x. x ≤ 256) labels _ _ in-labels (w .label) (λ j d. r .labels-range j);
         targets-range = after-write (λ j x. x < 64) targets _ _ in-targets (w .to) (λ j d. r .targets-range j);
       };
-      last-is = after-write (λ s x. s < 64 → x ≡ lastFrom steps s (i + 1)) last _ _ in-last (λ b. sym (last-here steps (step .from) i refl))
-          (λ s d b. l .last-is s b ∙ sym (last-before steps s i (λ e. d (sym e))));
-      earlier-is = after-write (λ j x. j < i + 1 → x ≡ lastFrom steps (getD steps j noStep .from) j) earlier _ _ in-earlier (λ b. before)
-          (λ j d b. l .earlier-is j (omega (arith, d, b)));
-      labels-are = after-write (λ j x. j < i + 1 → x ≡ getD steps j noStep .label) labels _ _ in-labels (λ b. refl)
-          (λ j d b. l .labels-are j (omega (arith, d, b)));
-      targets-are = after-write (λ j x. j < i + 1 → x ≡ getD steps j noStep .to) targets _ _ in-targets (λ b. refl)
-          (λ j d b. l .targets-are j (omega (arith, d, b)));
+      links = record {
+        last-is = after-write (λ s x. s < 64 → x ≡ lastFrom steps s (i + 1)) last _ _ in-last (λ b. sym (last-here steps (step .from) i refl))
+            (λ s d b. l .links .last-is s b ∙ sym (last-before steps s i (λ e. d (sym e))));
+        earlier-is = after-write (λ j x. j < i + 1 → x ≡ lastFrom steps (getD steps j noStep .from) j) earlier _ _ in-earlier (λ b. before)
+            (λ j d b. l .links .earlier-is j (omega (arith, d, b)));
+        labels-are = after-write (λ j x. j < i + 1 → x ≡ getD steps j noStep .label) labels _ _ in-labels (λ b. refl)
+            (λ j d b. l .links .labels-are j (omega (arith, d, b)));
+        targets-are = after-write (λ j x. j < i + 1 → x ≡ getD steps j noStep .to) targets _ _ in-targets (λ b. refl)
+            (λ j d b. l .links .targets-are j (omega (arith, d, b)));
+      };
     }
 
 -- The array of a stored model is linked, so its steps are.
 pub linked-stored : {m : PhoneModel} {i : ℕ} {l : Links} → LinkedFirst (m .steps) i l → i ≡ m .nsteps
-    → (y : Phone) → WellFormedPhone y → m ≡ stored y → Linked (y .steps) l
-linked-stored {m} {i} {l} f all y w e =
+    → (y : Phone) → m ≡ stored y → Linked (y .steps) l
+linked-stored {m} {i} {l} f all y e =
     let count : i ≡ length (y .steps) = all ∙ ap (λ (m : PhoneModel). m .nsteps) e in
     let alike = stored-alike y e in
     record {
@@ -154,5 +148,4 @@ linked-stored {m} {i} {l} f all y w e =
           ∙ ap (λ (x : Step). lastFrom (y .steps) (x .from) j) (alike j);
       labels-are = λ j b. f .labels-are j (omega (arith, b, count)) ∙ ap (λ (x : Step). x .label) (alike j);
       targets-are = λ j b. f .targets-are j (omega (arith, b, count)) ∙ ap (λ (x : Step). x .to) (alike j);
-      sources = λ j b. step-among y w j .from;
     }

@@ -62,7 +62,7 @@ module _ (y : Phone) (covered : ℕ → Bool) (X : ℕ → Bool) where
   abbrev pub necessary : ℕ → Bool
   necessary = always y afterCode .set
 
-  abbrev pub Necessary : ℕ → Type 0
+  abbrev Necessary : ℕ → Type 0
   Necessary s = (c t : ℕ) → covered c ≡ true → Weak (modelOf y) s c t → X t ≡ true
 
   pub necessary-leads : (s : ℕ) → necessary s ≡ true → Necessary s

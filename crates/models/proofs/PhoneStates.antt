@@ -26,7 +26,7 @@ module _ (y : Phone) where
       member-at t (statesIn y) (suc (x .place)) (omega (arith, x .inside, length-map (y .steps) (λ (x : Step). x .to)))
       (List·getD-map (λ (x : Step). x .to) (y .steps) (x .place) noStep ∙ x .to-is)
 
-  pub walk-listed : {s t : ℕ} {w : List ℕ} → Walk (modelOf y) s w t → Listed s → Listed t
+  walk-listed : {s t : ℕ} {w : List ℕ} → Walk (modelOf y) s w t → Listed s → Listed t
   walk-listed stay h = h
   walk-listed (silent-first x walk) h = walk-listed walk (step-listed x)
   walk-listed (code-first x walk) h = walk-listed walk (step-listed x)

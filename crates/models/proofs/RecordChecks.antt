@@ -3,11 +3,11 @@
 use mathlib.Core.Path.{_≡_}
 use mathlib.Core.Bool.{true, _||_}
 use mathlib.Core.List.{List}
-use Prim.Native.Nat.{ℕ, _+_, _≤_, _<_}
+use Prim.Native.Nat.{ℕ, _≤_, _<_}
 use lib.ListN.{length, getD}
 use lib.Dec.{eqb}
 use borrow.Author.Tests.{le-leb, lt-leb, le-ltb, lt-ltb, eq-eqb, ne-eqb}
-use Rattle.models.specs.File.{statesOf, among, codeStepAt, silentStepAt, stepAt}
+use Rattle.models.specs.File.{statesOf, among, endingAt, codeStepAt, silentStepAt, stepAt}
 use Rattle.models.specs.Readings.{statesRead, stepRead}
 use Rattle.models.specs.declared.Step.{Step}
 use Rattle.models.specs.declared.records.StatesRead.the-variants as StatesRead′
@@ -41,9 +41,9 @@ module _ (f : List ℕ) where
           unfolding statesOf
           states-over h = simp (ne-eqb _ _ b, eq-eqb _ _ k, ne-eqb _ _ w, ne-eqb _ _ s, lt-ltb _ _ h)
 
-          pub states-read : getD f 1 0 ≤ 64 → StatesRead′.Read (getD f 1 0) ≡ statesRead (statesOf f)
+          pub states-whole : getD f 1 0 ≤ 64 → StatesRead′.Read (getD f 1 0) ≡ statesRead (statesOf f)
           unfolding statesOf
-          states-read h = simp (ne-eqb _ _ b, eq-eqb _ _ k, ne-eqb _ _ w, ne-eqb _ _ s, le-ltb _ _ h)
+          states-whole h = simp (ne-eqb _ _ b, eq-eqb _ _ k, ne-eqb _ _ w, ne-eqb _ _ s, le-ltb _ _ h)
 
 -- ---- a step among the states
 
@@ -67,21 +67,12 @@ pub a-silent-step : (kind : ℕ) → kind ≡ 18 → (eqb kind 17 || eqb kind 18
 a-silent-step kind e = rw e
 
 module _ (f : List ℕ) (states at : ℕ) where
-  pub code-step-cut : length f ≤ at + 3 → StepRead′.Refused 11 (length f) ≡ stepRead (codeStepAt f states at)
-  code-step-cut h = simp (le-leb _ _ h)
+  module _ (last : ℕ) (x : Step) where
+    pub step-cut : length f ≤ last → StepRead′.Refused 11 (length f) ≡ stepRead (endingAt f states at last x)
+    step-cut h = simp (le-leb _ _ h)
 
-  pub code-step-whole : at + 3 < length f → (r : StepRead)
-      → r ≡ stepRead (among states at (record { from = getD f (at + 1) 0; label = getD f (at + 2) 0; to = getD f (at + 3) 0 }))
-      → r ≡ stepRead (codeStepAt f states at)
-  code-step-whole h r e = simp (lt-leb _ _ h) e
-
-  pub silent-step-cut : length f ≤ at + 2 → StepRead′.Refused 11 (length f) ≡ stepRead (silentStepAt f states at)
-  silent-step-cut h = simp (le-leb _ _ h)
-
-  pub silent-step-whole : at + 2 < length f → (r : StepRead)
-      → r ≡ stepRead (among states at (record { from = getD f (at + 1) 0; label = 256; to = getD f (at + 2) 0 }))
-      → r ≡ stepRead (silentStepAt f states at)
-  silent-step-whole h r e = simp (lt-leb _ _ h) e
+    pub step-whole : last < length f → (r : StepRead) → r ≡ stepRead (among states at x) → r ≡ stepRead (endingAt f states at last x)
+    step-whole h r e = simp (lt-leb _ _ h) e
 
   module _ (left : ℕ) where
     pub no-step : (getD f at 0 ≡ 17 → ⊥) → (getD f at 0 ≡ 18 → ⊥) → StepRead′.Refused 12 at ≡ stepRead (stepAt f states at left)

@@ -14,13 +14,13 @@ silenced-dropped {E} respond answer same e c q = on (answer e c) refl
     on dropped h = h
     on (next x) h = let p = same e x c .1 h in absurd (let z : _≡_ {A = ℕ} 0 1 = cc in omega arith)
 
-module _ {E : Type 0} (answer : E → ℕ → Answer E) where
-  pub dropped-silenced : (e : E) (c : ℕ) → answer e c ≡ dropped → suppressing answer e c ≡ silenced
-  dropped-silenced e c q = rw q
+-- what is dropped is silenced by suppression
+pub dropped-silenced : {E : Type 0} (answer : E → ℕ → Answer E) (e : E) (c : ℕ) → answer e c ≡ dropped → suppressing answer e c ≡ silenced
+dropped-silenced answer e c q = rw q
 
-  pub suppressing-passes : PassesKept (suppressing answer) answer
-  suppressing-passes e e′ c = (on (answer e c), λ q. rw q)
-    where
-      on : (a : Answer E) → cases a silenced passed ≡ passed e′ → a ≡ next e′
-      on dropped q = absurd (let z : _≡_ {A = ℕ} 0 1 = cc in omega arith)
-      on (next x) q = cc
+pub suppressing-passes : {E : Type 0} (answer : E → ℕ → Answer E) → PassesKept (suppressing answer) answer
+suppressing-passes {E} answer e e′ c = (on (answer e c), λ q. rw q)
+  where
+    on : (a : Answer E) → cases a silenced passed ≡ passed e′ → a ≡ next e′
+    on dropped q = absurd (let z : _≡_ {A = ℕ} 0 1 = cc in omega arith)
+    on (next x) q = cc

@@ -18,18 +18,18 @@ use Rattle.models.proofs.Walks.{walk-append, weak-walk, weak-first}
 
 module _ {ℓ} (m : Model) (covered : ℕ → ℕ → Bool) (Sets : Type ℓ) (Has : Sets → m .State → Type 0) where
   -- the states of each set satisfy the body of its max
-  data Fits : (bodies : List Formula) → (sets : List Sets) → Type ℓ where
-    no-max : Fits [] []
+  data PostFixed : (bodies : List Formula) → (sets : List Sets) → Type ℓ where
+    no-max : PostFixed [] []
     one-max : {f : Formula} {bodies : List Formula} {X : Sets} {Xs : List Sets}
-        → ((t : m .State) → Has X t → SatisfiesWith m covered Sets Has (X ∷ Xs) f t) → Fits bodies Xs → Fits (f ∷ bodies) (X ∷ Xs)
+        → ((t : m .State) → Has X t → SatisfiesWith m covered Sets Has (X ∷ Xs) f t) → PostFixed bodies Xs → PostFixed (f ∷ bodies) (X ∷ Xs)
 
   -- a state in the set of a variable satisfies the body of its max
   record Bound (f : Formula) (outer : List Formula) (s : m .State) : Type ℓ where
     sets : List Sets
-    fits : Fits (f ∷ outer) sets
+    fits : PostFixed (f ∷ outer) sets
     satisfied : SatisfiesWith m covered Sets Has sets f s
 
-  bound : {bodies outer : List Formula} {Xs : List Sets} {f : Formula} (d : ℕ) (s : m .State) → Fits bodies Xs → drop d bodies ≡ f ∷ outer
+  bound : {bodies outer : List Formula} {Xs : List Sets} {f : Formula} (d : ℕ) (s : m .State) → PostFixed bodies Xs → drop d bodies ≡ f ∷ outer
       → InVariable m covered Sets Has Xs d s → Bound f outer s
   bound d s no-max q h = absurd (let e = drop-nil {A = Formula} d in let z : _≡_ {A = ℕ} 0 1 = cc in omega arith)
   bound {bodies} {outer} {Xs} {f} zero s (one-max {f = g} {bodies = around} body fits) q h =
@@ -39,7 +39,7 @@ module _ {ℓ} (m : Model) (covered : ℕ → ℕ → Bool) (Sets : Type ℓ) (H
   bound (suc d) s (one-max body fits) q h = bound d s fits q h
 
   satisfies-never : {bodies : List Formula} {Xs : List Sets} {f : Formula} {w : List ℕ} {s t : m .State} → Violates covered bodies f w
-      → Fits bodies Xs → SatisfiesWith m covered Sets Has Xs f s → Walk m s w t → ⊥
+      → PostFixed bodies Xs → SatisfiesWith m covered Sets Has Xs f s → Walk m s w t → ⊥
   satisfies-never by-falsity fits sat k = sat .lower
   satisfies-never (by-first v) fits sat k = satisfies-never v fits (sat .0) k
   satisfies-never (by-second v) fits sat k = satisfies-never v fits (sat .1) k
@@ -59,20 +59,20 @@ module _ (m : Model) (covered : ℕ → ℕ → Bool) where
   abbrev Set : Type 1
   Set = m .State → Type 0
 
-  -- the greatest sets for the variables
-  abbrev greatest : List Formula → List Set
-  greatest [] = []
-  greatest (f ∷ bodies) = Never (f ∷ bodies) f ∷ greatest bodies
+  -- the greatestSets sets for the variables
+  abbrev greatestSets : List Formula → List Set
+  greatestSets [] = []
+  greatestSets (f ∷ bodies) = Never (f ∷ bodies) f ∷ greatestSets bodies
 
   abbrev Satisfied : (bodies : List Formula) → Formula → m .State → Type 1
-  Satisfied bodies = SatisfiesWith m covered Set (λ X s. X s) (greatest bodies)
+  Satisfied bodies = SatisfiesWith m covered Set (λ X s. X s) (greatestSets bodies)
 
   outward : {bodies : List Formula} {f : Formula} {d : ℕ} {w : List ℕ} → Violates covered bodies (variable d) w
       → Violates covered (f ∷ bodies) (variable (suc d)) w
   outward (by-variable q v) = by-variable q v
 
   in-greatest : (bodies : List Formula) (d : ℕ) (s : m .State) → Never bodies (variable d) s
-      → InVariable m covered Set (λ X s. X s) (greatest bodies) d s
+      → InVariable m covered Set (λ X s. X s) (greatestSets bodies) d s
   in-greatest [] d s never = tt
   in-greatest (f ∷ bodies) zero s never = λ w t k v. never w t k (by-variable refl v)
   in-greatest (f ∷ bodies) (suc d) s never = in-greatest bodies d s (λ w t k v. never w t k (outward v))

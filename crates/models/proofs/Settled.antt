@@ -1,16 +1,15 @@
 -- Two files that agree in 2,051 bytes say the same, and 2,050 aren't enough.
 use mathlib.Core.Path.{_≡_, refl, _∙_}
-use mathlib.Core.Bool.{Bool, true, false}
 use mathlib.Core.List.{List, [], _∷_, _++_}
 use Prim.Native.Nat.{ℕ, zero, suc, _+_, _*_, _≤_, _<_}
 use native.Mathlib.Omega.{arith}
-use lib.ListN.{length, getD, take, replicate, length-replicate}
-use lib.Seq.{take-all, getD-take, length-take-le, take-at}
-use lib.Dec.{ltb, leb}
-use borrow.Author.Tests.{lt-ltb, lt-leb, ltb-true, ltb-false, ne-eqb}
+use lib.ListN.{length, replicate, length-replicate}
+use lib.Seq.{take-at}
+use borrow.Author.Tests.{lt-ltb, ne-eqb}
 use Rattle.reading.specs.Rule.{All}
 use Rattle.reading.proofs.AllLaws.{all-append}
 use Rattle.reading.specs.Outcome.{accepted, refused}
+use Rattle.reading.proofs.Agreement.{Agree, inside, settled}
 use Rattle.reading.proofs.Outcomes.{then-agree, both-agree}
 use Rattle.models.specs.Phone.{Phone, WellFormedStep, WellFormedPhone, encodeSteps, encodePhone}
 use Rattle.models.specs.File.{statesOf, stepAt, recordLength, stepsAt, phoneOf}
@@ -20,24 +19,15 @@ use Rattle.models.proofs.StepLaws.{record-bounds}
 use Rattle.models.proofs.StepBytes.{steps-full}
 use Rattle.models.proofs.Encoding.{states-read, phone-reads, encode-bytes}
 
--- two files of at least 2,051 bytes, of which the first 2,051 are the same
-record Agree (f g : List ℕ) : Type 0 where
-  long : 2050 < length f
-  long′ : 2050 < length g
-  same : (i : ℕ) → i < 2051 → getD f i 0 ≡ getD g i 0
-
-module _ (f g : List ℕ) (a : Agree f g) where
-  inside : (i : ℕ) → i < 2051 → (leb (length f) i ≡ false) × (leb (length g) i ≡ false)
-  inside i h = (lt-leb (length f) i (omega arith), lt-leb (length g) i (omega arith))
-
+module _ (f g : List ℕ) (a : Agree 2051 f g) where
   states-agree : statesOf f ≡ statesOf g
   unfolding statesOf
   states-agree =
       rw (
-        ne-eqb (length f) 0 (λ z. omega arith),
-        ne-eqb (length g) 0 (λ z. omega arith),
-        ne-eqb (length f) 1 (λ z. omega arith),
-        ne-eqb (length g) 1 (λ z. omega arith),
+        ne-eqb (length f) 0 (λ z. omega (arith, a .long)),
+        ne-eqb (length g) 0 (λ z. omega (arith, a .long′)),
+        ne-eqb (length f) 1 (λ z. omega (arith, a .long)),
+        ne-eqb (length g) 1 (λ z. omega (arith, a .long′)),
         a .same 0 (omega arith),
         a .same 1 (omega arith),
       )
@@ -46,8 +36,8 @@ module _ (f g : List ℕ) (a : Agree f g) where
   step-agrees : (states at left : ℕ) → at + 4 * left ≤ 2050 → stepAt f states at left ≡ stepAt g states at left
   step-agrees states at zero h = rw (a .same at (omega arith))
   step-agrees states at (suc left) h =
-      let three = inside (at + 3) (omega arith) in
-      let two = inside (at + 2) (omega arith) in
+      let three = inside 2051 f g a (at + 3) (omega arith) in
+      let two = inside 2051 f g a (at + 2) (omega arith) in
       rw (
         a .same at (omega arith),
         three .0,
@@ -62,9 +52,9 @@ module _ (f g : List ℕ) (a : Agree f g) where
   steps-agree : (left states at : ℕ) → at + 4 * left ≤ 2050 → stepsAt left f states at ≡ stepsAt left g states at
   unfolding stepsAt
   steps-agree zero states at h =
-      rw (lt-ltb at (length f) (omega arith), lt-ltb at (length g) (omega arith), step-agrees states at zero h)
+      rw (lt-ltb at (length f) (omega (arith, a .long)), lt-ltb at (length g) (omega (arith, a .long′)), step-agrees states at zero h)
   steps-agree (suc left) states at h =
-      rw (lt-ltb at (length f) (omega arith), lt-ltb at (length g) (omega arith))
+      rw (lt-ltb at (length f) (omega (arith, a .long)), lt-ltb at (length g) (omega (arith, a .long′)))
       (both-agree (stepAt f states at (suc left)) (stepAt g states at (suc left)) _ _ (step-agrees states at (suc left) h) (λ x e.
       rw (steps-agree left states (at + recordLength x) (omega (arith, record-bounds x .1)))))
 
@@ -73,14 +63,7 @@ module _ (f g : List ℕ) (a : Agree f g) where
   phone-agrees = rw states-agree (then-agree (statesOf g) _ _ (λ states e. rw (steps-agree 512 states 2 (omega arith))))
 
 pub settled-by-first-bytes : SettledByFirstBytes
-settled-by-first-bytes f n h = on (ltb n (length f)) refl
-  where
-    on : (b : Bool) → ltb n (length f) ≡ b → phoneOf (take n f) ≡ phoneOf f
-    on true e =
-        let shorter : n < length f = ltb-true n (length f) e in
-        let whole : length (take n f) ≡ n = length-take-le n f (omega arith) in
-        phone-agrees (take n f) f (record { long = omega arith; long′ = omega arith; same = λ i l. getD-take n f i 0 (omega arith) })
-    on false e = rw (take-all n f (ltb-false n (length f) e))
+settled-by-first-bytes = settled phoneOf 2051 phone-agrees
 
 -- ---- fewer are too few
 

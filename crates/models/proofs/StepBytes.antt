@@ -12,7 +12,7 @@ use Rattle.reading.specs.Outcome.{Outcome, accepted, refused, andThen}
 use Rattle.reading.proofs.AllLaws.{all-getD}
 use Rattle.reading.proofs.Outcomes.{accepted-is, accepted-by, then-accepts, passes}
 use Rattle.reading.proofs.Places.{Byte, from-byte, byte-of, first-byte, rest-after}
-use Rattle.models.specs.Phone.{WellFormedStep, encodeStep, encodeSteps}
+use Rattle.models.specs.Phone.{WellFormedStep, recordBytes, encodeStep, encodeSteps}
 use Rattle.models.specs.File.{codeStepAt, silentStepAt, stepAt, recordLength, withStep, stepsAt}
 use Rattle.models.specs.declared.Step.{Step}
 use Rattle.models.proofs.StepLaws.{among-is, record-bounds, steps-end, one-more}
@@ -23,9 +23,17 @@ use Rattle.models.proofs.StepLaws.{among-is, record-bounds, steps-end, 
 pub from-here : (f : List ℕ) (at next : ℕ) → at < length f → at + 1 ≡ next → drop at f ≡ getD f at 0 ∷ drop next f
 from-here f at next inside e = from-byte next (record { inside = inside; is = refl }) e
 
--- the bytes of a silent step or of one with a code; with `eqb (x .label) 256` these are `encodeStep x`
-abbrev pub recordBytes : Bool → Step → List ℕ
-recordBytes silent x = cond silent (18 ∷ x .from ∷ x .to ∷ []) (17 ∷ x .from ∷ x .label ∷ x .to ∷ [])
+length-step : (x : Step) → length (encodeStep x) ≡ recordLength x
+length-step x = on (eqb (x .label) 256)
+  where
+    on : (b : Bool) → length (recordBytes b x) ≡ cond b 3 4
+    on true = refl
+    on false = refl
+
+-- One was left, and its record ends in the file.
+pub record Fits (f : List ℕ) (at left : ℕ) (x : Step) : Type 0 where
+  pub some-left : 0 < left
+  pub whole : at + recordLength x ≤ length f
 
 -- The record of x stands at `at`, with `left` steps left.
 record StepStands (f : List ℕ) (states at left : ℕ) (x : Step) : Type 0 where
@@ -76,6 +84,16 @@ module _ (f : List ℕ) (states at left : ℕ) (x : Step) where
           code-stands (record { inside = inside; is = eqb-true _ _ is }) (all-getD (λ b. b < 256) f (at + 2) 0 bytes (omega arith)) some e′
       on false is k some e′ = silent-stands (record { inside = inside; is = eqb-true _ _ (not-false _ k) }) some e′
 
+  pub step-fits : Bytes f → at < length f → stepAt f states at left ≡ accepted x → Fits f at left x
+  step-fits bytes inside e =
+      let stands = step-stands bytes inside e in
+      let rest = drop (at + recordLength x) f in
+      let long = ap length (stands .bytes) ∙ length-append (encodeStep x) rest in
+      record {
+        some-left = stands .some-left;
+        whole = omega (arith, long, length-step x, record-bounds x .0, length-drop at f, length-drop (at + recordLength x) f);
+      }
+
   step-reads : WellFormedStep states x → 0 < left → (rest : List ℕ) → drop at f ≡ encodeStep x ++ rest → stepAt f states at left ≡ accepted x
   step-reads w some rest e = on (eqb (x .label) 256) refl e
     where
@@ -107,13 +125,6 @@ module _ (f : List ℕ) (states at left : ℕ) (x : Step) where
           )
 
 -- ---- the steps
-
-length-step : (x : Step) → length (encodeStep x) ≡ recordLength x
-length-step x = on (eqb (x .label) 256)
-  where
-    on : (b : Bool) → length (recordBytes b x) ≡ cond b 3 4
-    on true = refl
-    on false = refl
 
 -- Steps stand from `at` to the end of the file, no more than `left`.
 pub record StepsStand (f : List ℕ) (states at left : ℕ) (xs : List Step) : Type 0 where

@@ -1,8 +1,8 @@
 -- Strong bisimulation.
 use Rattle.models.specs.Model.{Label, Model}
 
--- A set R of pairs of states, one of each model, is a strong bisimulation: for every pair in it and every step from either state, the
--- other has a step with the same label, and the states reached are a pair in R.
+-- R relates states of m to states of n by a strong bisimulation: where two states are related, each step of one has a partner among the steps of
+-- the other, with its label, and their ends are related again.
 pub record Bisimulation (m n : Model) (R : m .State → n .State → Type 0) : Type 0 where
   pub forth : (s s′ : m .State) (t : n .State) (a : Label) → R s t → m .Step s a s′ → (t′ : n .State) × n .Step t a t′ × R s′ t′
   pub back : (s : m .State) (t t′ : n .State) (a : Label) → R s t → n .Step t a t′ → (s′ : m .State) × m .Step s a s′ × R s′ t′

@@ -44,13 +44,16 @@ unfoldable pub lastFrom : List Step → (s n : ℕ) → ℕ
 lastFrom steps s zero = 0
 lastFrom steps s (suc n) = cond (eqb (getD steps n noStep .from) s) (suc n) (lastFrom steps s n)
 
--- The arrays link these steps.
-pub record Linked (steps : List Step) (l : Links) : Type 0 where
-  pub last-is : (s : ℕ) → s < 64 → getD (l .last) s 0 ≡ lastFrom steps s (length steps)
-  pub earlier-is : (i : ℕ) → i < length steps → getD (l .earlier) i 0 ≡ lastFrom steps (getD steps i noStep .from) i
-  pub labels-are : (i : ℕ) → i < length steps → getD (l .labels) i 0 ≡ getD steps i noStep .label
-  pub targets-are : (i : ℕ) → i < length steps → getD (l .targets) i 0 ≡ getD steps i noStep .to
-  pub sources : (i : ℕ) → i < length steps → getD steps i noStep .from < 64
+-- The arrays link the first n of these steps.
+pub record LinkedFirst (steps : List Step) (n : ℕ) (l : Links) : Type 0 where
+  pub last-is : (s : ℕ) → s < 64 → getD (l .last) s 0 ≡ lastFrom steps s n
+  pub earlier-is : (i : ℕ) → i < n → getD (l .earlier) i 0 ≡ lastFrom steps (getD steps i noStep .from) i
+  pub labels-are : (i : ℕ) → i < n → getD (l .labels) i 0 ≡ getD steps i noStep .label
+  pub targets-are : (i : ℕ) → i < n → getD (l .targets) i 0 ≡ getD steps i noStep .to
+
+-- They link all of them.
+abbrev pub Linked : List Step → Links → Type 0
+Linked steps l = LinkedFirst steps (length steps) l
 
 -- Their lengths and ranges, whatever they link.
 pub record LinksInRange (l : Links) : Type 0 where

@@ -27,17 +27,21 @@ among states at x =
     (refuse (leb states (x .to)) 13 at
     (accepted x))
 
+-- a step whose record ends with the byte at `last`
+abbrev pub endingAt : List ℕ → (states at last : ℕ) → Step → Outcome Step
+endingAt f states at last x =
+    refuse (leb (length f) last) 11 (length f)
+    (among states at x)
+
 -- a kind 17 record
 abbrev pub codeStepAt : List ℕ → (states at : ℕ) → Outcome Step
 codeStepAt f states at =
-    refuse (leb (length f) (at + 3)) 11 (length f)
-    (among states at (record { from = getD f (at + 1) 0; label = getD f (at + 2) 0; to = getD f (at + 3) 0 }))
+    endingAt f states at (at + 3) (record { from = getD f (at + 1) 0; label = getD f (at + 2) 0; to = getD f (at + 3) 0 })
 
 -- a kind 18 record
 abbrev pub silentStepAt : List ℕ → (states at : ℕ) → Outcome Step
 silentStepAt f states at =
-    refuse (leb (length f) (at + 2)) 11 (length f)
-    (among states at (record { from = getD f (at + 1) 0; label = 256; to = getD f (at + 2) 0 }))
+    endingAt f states at (at + 2) (record { from = getD f (at + 1) 0; label = 256; to = getD f (at + 2) 0 })
 
 -- The record of a step at `at`, with `left` of the 512 steps left.
 abbrev pub stepAt : List ℕ → (states at left : ℕ) → Outcome Step

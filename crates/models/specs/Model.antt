@@ -14,7 +14,7 @@ pub record Model : Type 1 where
   pub Step : State → Label → State → Type 0
 
 module _ (m : Model) where
-  -- A walk from one state to another: any number of steps, also none. Its trace is the list of its codes; silent steps leave none.
+  -- A walk from one state to another: any number of steps, also none. The trace has the codes in order, and nothing of silent steps.
   pub data Walk : m .State → (trace : List ℕ) → m .State → Type 0 where
     stay : {s : m .State} → Walk s [] s
     silent-first : {s t u : m .State} {w : List ℕ} → m .Step s silent t → Walk t w u → Walk s w u

@@ -1,7 +1,7 @@
 -- Phone models: a count of states and a list of steps. Which are well formed, and their encoding as the bytes of a file.
 use Prim.Native.Nat.{ℕ, _≤_, _<_}
 use mathlib.Core.Path.{_≡_}
-use mathlib.Core.Bool.{cond}
+use mathlib.Core.Bool.{Bool, true, false, cond}
 use mathlib.Core.List.{List, [], _∷_, _++_}
 use lib.Dec.{eqb}
 use lib.ListN.{length, getD}
@@ -46,9 +46,13 @@ pub record WellFormedPhone (y : Phone) : Type 0 where
   pub few-steps : length (y .steps) ≤ 512
   pub steps : All (WellFormedStep (y .states)) (y .steps)
 
--- kind 17 with from, code and to; kind 18, silent, with from and to
+-- the record of a step, silent or with a code
+abbrev pub recordBytes : (silent : Bool) → Step → List ℕ
+recordBytes true x = 18 ∷ x .from ∷ x .to ∷ []
+recordBytes false x = 17 ∷ x .from ∷ x .label ∷ x .to ∷ []
+
 abbrev pub encodeStep : Step → List ℕ
-encodeStep x = cond (eqb (x .label) 256) (18 ∷ x .from ∷ x .to ∷ []) (17 ∷ x .from ∷ x .label ∷ x .to ∷ [])
+encodeStep x = recordBytes (eqb (x .label) 256) x
 
 abbrev pub encodeSteps : List Step → List ℕ
 encodeSteps [] = []

@@ -35,7 +35,7 @@ fn note(seen: &mut [u8], pairs: &mut [u16], found: usize, pair: usize) -> usize
 }
 
 // The equation to which a step with this label leads; DROPPED where it is dropped.
-fn after(row: &[u8], equation: usize, label: u16) -> usize
+fn equation_after(row: &[u8], equation: usize, label: u16) -> usize
     requires { ⌜ (length (now row) ≡ 256) × (label ≤ 256) ⌝ }
     ensures { λ r. ⌜ r ≡ leadsTo (now (row .entry)) equation label ⌝ }
 {
@@ -66,7 +66,7 @@ fn expand(
     let equation = pair / 64;
     let mut step = last[pair % 64] as usize;
     while 0 < step {
-        let next = after(row, equation, labels[step - 1]);
+        let next = equation_after(row, equation, labels[step - 1]);
         if next == DROPPED as usize {
             return Expanded::Dropped;
         }

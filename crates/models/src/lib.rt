@@ -77,6 +77,7 @@ pub fn read_model(bytes: &[u8]) -> ModelReading
     let StatesRead::Read(states) = first else {
         return refused(records::states_answer(first));
     };
+    // blank steps, to be overwritten one by one
     let mut steps = blank_model().steps;
     let mut n = 0;
     let mut at = 2;

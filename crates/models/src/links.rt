@@ -1,7 +1,7 @@
 // The steps of a model, linked by the state from which they go.
 use crate::PhoneModel;
 ghost use mathlib.Core.Path.{_≡_};
-ghost use Rattle.models.specs.Phone.{Phone, WellFormedPhone};
+ghost use Rattle.models.specs.Phone.{Phone};
 ghost use Rattle.models.specs.Judging.{stored};
 ghost use Rattle.models.specs.Exploring.{HasPhone, Linked, LinksInRange};
 
@@ -17,7 +17,7 @@ pub(crate) struct Links {
 // The links of a model.
 pub(crate) fn of_model(model: PhoneModel) -> Links
     requires { ⌜ HasPhone model ⌝ }
-    ensures { λ r. ⌜ ((y : Phone) → WellFormedPhone y → model ≡ stored y → Linked (y .steps) r) ⌝ }
+    ensures { λ r. ⌜ ((y : Phone) → model ≡ stored y → Linked (y .steps) r) ⌝ }
     ensures { λ r. ⌜ LinksInRange r ⌝ }
 {
     let steps = model.steps;

@@ -15,6 +15,7 @@ pub mod FormulaBytes
 pub mod PatternBytes
 pub mod Encoding
 pub mod Accepted
+pub mod Agreement
 pub mod Prefix
 pub mod NodeLaws
 pub mod Listings

@@ -4,27 +4,20 @@ use mathlib.Core.Bool.{Bool, true, false, cond}
 use mathlib.Core.List.{List, [], _∷_, _++_}
 use Prim.Native.Nat.{ℕ, zero, suc, _+_, _-_, _*_, _≤_, _<_}
 use native.Mathlib.Omega.{arith}
-use lib.ListN.{length, getD, take}
-use lib.Seq.{take-all, getD-take, length-take-le}
-use lib.Dec.{ltb, leb}
-use borrow.Author.Tests.{lt-ltb, lt-leb, ltb-true, ltb-false}
+use lib.ListN.{length}
+use borrow.Author.Tests.{lt-ltb}
 use Rattle.reading.specs.Formula.{Guards}
 use Rattle.reading.specs.Outcome.{Outcome, accepted, andThen}
 use Rattle.reading.specs.File.{patternAt, isPattern, Patterns, patternsAt}
 use Rattle.reading.specs.File.{NodeRecord, necessityAt, variableAt, nodeAt, Parsed, formulaAt, formulaOf, ended, ruleOf}
 use Rattle.reading.specs.Promises.{SettledByFirstBytes, NotByFewer}
 use Rattle.reading.specs.declared.Pattern.{Pattern}
+use Rattle.reading.proofs.Agreement.{Agree, inside, settled}
 use Rattle.reading.proofs.Outcomes.{accepted-is, never-accepted, accepted-by, both-agree}
 use Rattle.reading.proofs.Encoding.{length-formula}
 use Rattle.reading.proofs.NodeBytes.{NodeStands, bare, of-necessity, of-variable, node-accepts}
 use Rattle.reading.proofs.Sound.{FormulaStands}
 use Rattle.reading.proofs.Steps.{parts-same, formula-step, formula-sound}
-
--- two files of at least 257 bytes, of which the first 257 are the same
-record Agree (s t : List ℕ) : Type 0 where
-  long : 256 < length s
-  long′ : 256 < length t
-  same : (i : ℕ) → i < 257 → getD s i 0 ≡ getD t i 0
 
 -- ---- how far a file is read
 
@@ -69,29 +62,26 @@ module _ (bound : ℕ) (s : List ℕ) (n at left : ℕ) (g : Guards) where
     omega (arith, stands .nodes, stands .ends, length-formula (f .formula)),
   )
 
-module _ (s t : List ℕ) (a : Agree s t) where
-  inside : (i : ℕ) → i < 257 → (leb (length s) i ≡ false) × (leb (length t) i ≡ false)
-  inside i h = (lt-leb (length s) i (omega arith), lt-leb (length t) i (omega arith))
-
+module _ (s t : List ℕ) (a : Agree 257 s t) where
   pattern-agrees : (at left : ℕ) → at + 3 < 257 → patternAt s at left ≡ patternAt t at left
   pattern-agrees at left h =
-      rw (inside (at + 3) h .0, inside (at + 3) h .1, a .same (at + 1) (omega arith), a .same (at + 2) (omega arith), a .same (at + 3) h)
+      rw (inside 257 s t a (at + 3) h .0, inside 257 s t a (at + 3) h .1, a .same (at + 1) (omega arith), a .same (at + 2) (omega arith), a .same (at + 3) h)
 
   is-pattern-agrees : (at : ℕ) → at < 257 → isPattern s at ≡ isPattern t at
-  is-pattern-agrees at h = rw (lt-ltb at (length s) (omega arith), lt-ltb at (length t) (omega arith), a .same at h)
+  is-pattern-agrees at h = rw (lt-ltb at (length s) (omega (arith, a .long)), lt-ltb at (length t) (omega (arith, a .long′)), a .same at h)
 
   necessity-agrees : (n at : ℕ) → at + 1 < 257 → necessityAt s n at ≡ necessityAt t n at
-  necessity-agrees n at h = rw (inside (at + 1) h .0, inside (at + 1) h .1, a .same (at + 1) h)
+  necessity-agrees n at h = rw (inside 257 s t a (at + 1) h .0, inside 257 s t a (at + 1) h .1, a .same (at + 1) h)
 
   variable-agrees : (g : Guards) (at : ℕ) → at + 1 < 257 → variableAt s g at ≡ variableAt t g at
-  variable-agrees g at h = rw (inside (at + 1) h .0, inside (at + 1) h .1, a .same (at + 1) h)
+  variable-agrees g at h = rw (inside 257 s t a (at + 1) h .0, inside 257 s t a (at + 1) h .1, a .same (at + 1) h)
 
   node-agrees : (n at left : ℕ) (g : Guards) → at + 2 * left ≤ 256 → nodeAt s n at left g ≡ nodeAt t n at left g
   node-agrees n at zero g h =
-      let here = inside at (omega arith) in
+      let here = inside 257 s t a at (omega arith) in
       rw (here .0, here .1, a .same at (omega arith))
   node-agrees n at (suc left) g h =
-      let here = inside at (omega arith) in
+      let here = inside 257 s t a at (omega arith) in
       rw (here .0, here .1, a .same at (omega arith), necessity-agrees n at (omega arith), variable-agrees g at (omega arith))
 
   formula-agrees : (bound n at left : ℕ) (g : Guards) → Room bound at left → formulaOf s n at left g ≡ formulaOf t n at left g
@@ -110,7 +100,7 @@ module _ (s t : List ℕ) (a : Agree s t) where
       rw (is-pattern-agrees at (omega arith), pattern-agrees at (suc left) (omega arith), patterns-agree left (at + 4) (omega arith))
 
   ended-agrees : (ps : List Pattern) (f : Parsed) → f .next < 257 → ended s ps f ≡ ended t ps f
-  ended-agrees ps f h = rw (lt-ltb (f .next) (length s) (omega arith), lt-ltb (f .next) (length t) (omega arith))
+  ended-agrees ps f h = rw (lt-ltb (f .next) (length s) (omega (arith, a .long)), lt-ltb (f .next) (length t) (omega (arith, a .long′)))
 
   formula-ends : (ps : List Pattern) (n at : ℕ) → at ≤ 128
       → andThen (formulaOf s n at 64 []) (ended s ps) ≡ andThen (formulaOf t n at 64 []) (ended t ps)
@@ -127,14 +117,7 @@ module _ (s t : List ℕ) (a : Agree s t) where
       formula-ends (ps .list) (length (ps .list)) (ps .next) (patterns-next 32 s 0 ps (omega arith) e))
 
 pub first-bytes : SettledByFirstBytes
-first-bytes s n h = on (ltb n (length s)) refl
-  where
-    on : (b : Bool) → ltb n (length s) ≡ b → ruleOf (take n s) ≡ ruleOf s
-    on true e =
-        let shorter : n < length s = ltb-true n (length s) e in
-        let whole : length (take n s) ≡ n = length-take-le n s (omega arith) in
-        rule-agrees (take n s) s (record { long = omega arith; long′ = omega arith; same = λ i l. getD-take n s i 0 (omega arith) })
-    on false e = rw (take-all n s (ltb-false n (length s) e))
+first-bytes = settled ruleOf 257 rule-agrees
 
 -- ---- fewer are too few
 

@@ -1,14 +1,16 @@
 -- `read_model` meets its contract. The loop keeps what is read so far; the measure is how many steps are left.
 use mathlib.Core.Path.{_≡_, sym, _∙_, subst}
 use mathlib.Core.List.{List}
-use Prim.Native.Nat.{ℕ, _-_}
+use Prim.Native.Nat.{ℕ, _-_, _<_}
 use native.Mathlib.Omega.{arith}
 use borrow.Author.Needs.{needs}
 use Rattle.reading.specs.Outcome.{accepted}
+use Rattle.reading.proofs.AllLaws.{all-of}
 use Rattle.models.specs.File.{statesOf, stepAt}
 use Rattle.models.specs.declared.PhoneModel.{PhoneModel}
 use Rattle.models.specs.declared.Step.{Step}
-use Rattle.models.proofs.FileWays.{states-found, step-found, Fits, step-fits}
+use Rattle.models.proofs.FileWays.{states-found, step-found}
+use Rattle.models.proofs.StepBytes.{Fits, step-fits}
 use Rattle.models.proofs.FileWays.{Begun, none-begun, one-begun, states-refused, step-refused, all-read}
 use Rattle.models.proofs.read_model.Statement.{statement}
 use Rattle.models.proofs.read_model.Tie as tie
@@ -40,7 +42,9 @@ module _ (c : tie.After-known-told2 Inv-loop μ-loop) where
   is-read = step-found (stepAt f states place left) (sym (c .before .found .given .1) ∙ c .before .before .before .read-step .ensures)
 
   fits : Fits f place left step
-  fits = step-fits f states place step left is-read
+  fits =
+      let l = c .before .before .before .before in
+      step-fits f states place left step (l .before .loop .inv .are-bytes) (l .loop-test .taken) is-read
 
 read-states-requires : tie.Need-read-states-requires Inv-loop μ-loop
 read-states-requires c κs = search needs
@@ -71,9 +75,10 @@ loop-holds c =
     let first = c .before .before .before in
     let r = first .before .before in
     let file = r .before .before .args .bytes .now in
+    let bytes = all-of (λ b. b < 256) file 0 (λ i h. omega (arith, r .before .shared-slice-known .given i)) in
     let states-are = states-found (statesOf file) (sym (first .first .given .1) ∙ r .read-states .ensures) in
     subst (λ (b : PhoneModel). Begun file (first .first .given .0 .0) (b .steps) 0 2) (sym (c .before .blank-model .ensures))
-    (none-begun file _ states-are)
+    (none-begun file _ bytes states-are)
 
 sub-read-step : tie.Need-sub-read-step Inv-loop μ-loop
 sub-read-step c = omega (arith, c .before .loop .inv .few)

@@ -9,8 +9,8 @@ use Rattle.commands.proofs.judging.print_judged.Tie as tie
 judge-requires : tie.Need-judge-requires
 judge-requires c κs = search needs
 
-judged-line-requires : tie.Need-judged-line-requires
-judged-line-requires c κs = search needs
+answer-line-requires : tie.Need-answer-line-requires
+answer-line-requires c κs = search needs
 
 print-line-requires : tie.Need-print-line-requires
 print-line-requires c κs = search needs
@@ -32,4 +32,4 @@ returns c =
 pub print-judged-spec : {M : Type 1} → statement M
 print-judged-spec =
     tie.close
-    (tie.spec judge-requires judged-line-requires print-line-requires same-length returns)
+    (tie.spec judge-requires answer-line-requires print-line-requires same-length returns)

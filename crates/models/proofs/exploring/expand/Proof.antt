@@ -30,14 +30,14 @@ abbrev turn : tie.After-shared-slice-known9 Inv-loop μ-loop → tie.In-loop Inv
 turn c = c .before .before .before .before .before .before .before .before .before .before .before .before
 
 -- a step that isn't dropped leads to an equation
-inside : (c : tie.Else1 Inv-loop μ-loop) → c .before .after .result < 128
+inside : (c : tie.Else1 Inv-loop μ-loop) → c .before .equation-after .result < 128
 inside c =
     let a = c .before in
     let l = a .before .before .before in
     let x = start l in
-    rw (a .after .ensures)
+    rw (a .equation-after .ensures)
     (leads-inside (x .args .row .now) (x .args .pair / 64) _ 128 (x .pre .1) (omega arith) (x .pre .0 .labels-range (l .loop .step - 1))
-    (λ e. c .if1 .left (a .after .ensures ∙ e)))
+    (λ e. c .if1 .left (a .equation-after .ensures ∙ e)))
 
 -- and to a state
 target : (c : tie.At-loop Inv-loop μ-loop) → getD (start c .args .targets .now) (c .loop .step - 1) 0 < 64
@@ -64,17 +64,17 @@ loop-holds c =
     let x = first c in
     (x .pre .0 .last-range (x .args .pair % 64), none-expanded _ (x .args .row .now) (x .args .pair) _ _ _ (x .pre .3))
 
-sub-after : tie.Need-sub-after Inv-loop μ-loop
-sub-after c = search needs
+sub-equation-after : tie.Need-sub-equation-after Inv-loop μ-loop
+sub-equation-after c = search needs
 
-mul-after : tie.Need-mul-after Inv-loop μ-loop
-mul-after c = search needs
+mul-equation-after : tie.Need-mul-equation-after Inv-loop μ-loop
+mul-equation-after c = search needs
 
-shared-slice-read-after : tie.Need-shared-slice-read-after Inv-loop μ-loop
-shared-slice-read-after c = search needs
+shared-slice-read-equation-after : tie.Need-shared-slice-read-equation-after Inv-loop μ-loop
+shared-slice-read-equation-after c = search needs
 
-after-requires : tie.Need-after-requires Inv-loop μ-loop
-after-requires c κs =
+equation-after-requires : tie.Need-equation-after-requires Inv-loop μ-loop
+equation-after-requires c κs =
     let l = c .before .before in
     (start l .pre .1 .whole, start l .pre .0 .labels-range (l .loop .step - 1))
 
@@ -94,7 +94,7 @@ returns c =
     let x = start l .args in (
       l .loop .step - 1,
       next-leaves _ (x .row .now) (x .pair) _ _ _ _ _ (omega arith) _ _ _ (l .loop .inv .1),
-      sym (a .after .ensures) ∙ c .if1 .taken,
+      sym (a .equation-after .ensures) ∙ c .if1 .taken,
     )
 
 mul-note : tie.Need-mul-note Inv-loop μ-loop
@@ -144,7 +144,7 @@ loop-again c =
     let l = turn c .before in
     let x = start l .args in (
       omega (arith, lower c, l .loop .inv .0),
-      one-expanded _ (x .row .now) (x .pair) _ _ _ _ _ (omega arith) _ _ _ (l .loop .inv .1) _ _ _ _ (e .before .after .ensures)
+      one-expanded _ (x .row .now) (x .pair) _ _ _ _ _ (omega arith) _ _ _ (l .loop .inv .1) _ _ _ _ (e .before .equation-after .ensures)
           (e .if1 .left) (n .note .ensures),
     )
 
@@ -170,10 +170,10 @@ expand-spec =
     shared-slice-read-step
     cast-step
     loop-holds
-    sub-after
-    mul-after
-    shared-slice-read-after
-    after-requires
+    sub-equation-after
+    mul-equation-after
+    shared-slice-read-equation-after
+    equation-after-requires
     cast-if1
     same-length
     same-length-2

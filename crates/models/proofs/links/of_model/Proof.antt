@@ -4,13 +4,14 @@ use native.Mathlib.Omega.{arith}
 use lib.ListN.{getD}
 use borrow.Author.Needs.{needs}
 use Rattle.models.specs.Phone.{noStep, WellFormedStep}
-use Rattle.models.proofs.LinkLaws.{stored-step, stored-few, LinkedFirst, linked-none, linked-next, linked-stored}
+use Rattle.models.specs.Exploring.{linksOf}
+use Rattle.models.proofs.LinkLaws.{stored-step, stored-few, LinkedSoFar, linked-none, linked-next, linked-stored}
 use Rattle.models.proofs.links.of_model.Statement.{statement}
 use Rattle.models.proofs.links.of_model.Tie as tie
 
 abbrev Inv-loop : tie.InvT-loop
 Inv-loop steps n last₀ earlier₀ labels₀ targets₀ i₀ last earlier labels targets i =
-    (i ≤ n) × (n ≤ 512) × LinkedFirst steps i (record { last = last; earlier = earlier; labels = labels; targets = targets })
+    (i ≤ n) × (n ≤ 512) × LinkedSoFar steps i (linksOf last earlier labels targets)
 
 abbrev μ-loop : tie.MeasureT-loop
 μ-loop steps n last₀ earlier₀ labels₀ targets₀ i₀ last earlier labels targets i = n - i
@@ -77,7 +78,7 @@ loop-again c = let l = c .before .before .before in (search needs, search needs,
 returns : tie.Need-returns Inv-loop μ-loop
 returns c =
     let l = c .before in
-    (linked-stored (l .loop .inv .2) (omega (arith, l .loop .inv .0, c .loop-test .left)), l .loop .inv .2 .ranges)
+    (linked-stored (l .loop .inv .2 .links) (omega (arith, l .loop .inv .0, c .loop-test .left)), l .loop .inv .2 .ranges)
 
 pub of-model-spec : {M : Type 1} → statement M
 of-model-spec =

@@ -1,7 +1,7 @@
 -- `records::read_code_step` meets its contract: a cut record is refused, and else `among` answers.
 use Prim.Native.Nat.{_+_}
 use native.Mathlib.Omega.{arith}
-use Rattle.models.proofs.RecordChecks.{code-step-cut, code-step-whole}
+use Rattle.models.proofs.RecordChecks.{step-cut, step-whole}
 use borrow.Author.Needs.{needs}
 use Rattle.models.proofs.records.read_code_step.Statement.{statement}
 use Rattle.models.proofs.records.read_code_step.Tie as tie
@@ -10,7 +10,7 @@ add-if1 : tie.Need-add-if1
 add-if1 c = search needs
 
 returns : tie.Need-returns
-returns c = search code-step-cut
+returns c = search step-cut
 
 add-t5 : tie.Need-add-t5
 add-t5 c = search needs
@@ -37,7 +37,7 @@ among-requires : tie.Need-among-requires
 among-requires c κs = search needs
 
 returns-2 : tie.Need-returns-2
-returns-2 c = search code-step-whole
+returns-2 c = search step-whole
 
 pub read-code-step-spec : {M : Type 1} → statement M
 read-code-step-spec =

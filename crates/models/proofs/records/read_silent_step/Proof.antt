@@ -1,5 +1,5 @@
 -- `records::read_silent_step` meets its contract: a cut record is refused, and else `among` answers.
-use Rattle.models.proofs.RecordChecks.{silent-step-cut, silent-step-whole}
+use Rattle.models.proofs.RecordChecks.{step-cut, step-whole}
 use borrow.Author.Needs.{needs}
 use Rattle.models.proofs.records.read_silent_step.Statement.{statement}
 use Rattle.models.proofs.records.read_silent_step.Tie as tie
@@ -8,7 +8,7 @@ add-if1 : tie.Need-add-if1
 add-if1 c = search needs
 
 returns : tie.Need-returns
-returns c = search silent-step-cut
+returns c = search step-cut
 
 add-t5 : tie.Need-add-t5
 add-t5 c = search needs
@@ -26,7 +26,7 @@ among-requires : tie.Need-among-requires
 among-requires c κs = search needs
 
 returns-2 : tie.Need-returns-2
-returns-2 c = search silent-step-whole
+returns-2 c = search step-whole
 
 pub read-silent-step-spec : {M : Type 1} → statement M
 read-silent-step-spec =

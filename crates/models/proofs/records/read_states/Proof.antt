@@ -1,6 +1,6 @@
 -- `records::read_states` meets its contract: each return is a row of the table.
 use native.Mathlib.Omega.{arith}
-use Rattle.models.proofs.RecordChecks.{file-empty, other-kind, states-cut, no-states, states-over, states-read}
+use Rattle.models.proofs.RecordChecks.{file-empty, other-kind, states-cut, no-states, states-over, states-whole}
 use borrow.Author.Needs.{needs}
 use Rattle.models.proofs.records.read_states.Statement.{statement}
 use Rattle.models.proofs.records.read_states.Tie as tie
@@ -30,7 +30,7 @@ returns-5 : tie.Need-returns-5
 returns-5 c = search states-over
 
 returns-6 : tie.Need-returns-6
-returns-6 c = search states-read
+returns-6 c = search states-whole
 
 pub read-states-spec : {M : Type 1} → statement M
 read-states-spec =

@@ -1,7 +1,7 @@
--- `judged_line` meets its contract: the line of each case.
+-- `answer_line` meets its contract: the line of each case.
 use borrow.Author.Needs.{needs}
-use Rattle.commands.proofs.judging.judged_line.Statement.{statement}
-use Rattle.commands.proofs.judging.judged_line.Tie as tie
+use Rattle.commands.proofs.judging.answer_line.Statement.{statement}
+use Rattle.commands.proofs.judging.answer_line.Tie as tie
 
 enum-told : tie.Need-enum-told
 enum-told c = search needs
@@ -30,8 +30,8 @@ returns-2 c = rw (c .before .enum-told2 .given .1) (c .judgment-line2 .ensures)
 returns-3 : tie.Need-returns-3
 returns-3 c = rw (c .before .before .answer .given .1) (c .refusal-line .ensures)
 
-pub judged-line-spec : {M : Type 1} → statement M
-judged-line-spec =
+pub answer-line-spec : {M : Type 1} → statement M
+answer-line-spec =
     tie.close
     (tie.spec
     enum-told

@@ -1,11 +1,11 @@
--- `exploring::after` meets its contract.
+-- `exploring::equation_after` meets its contract.
 use mathlib.Core.Path.{sym, _∙_}
 use native.Mathlib.Omega.{arith}
 use borrow.Author.Needs.{needs}
 use Rattle.running.proofs.Tables.{getD-inside}
 use Rattle.models.proofs.Leading.{leads-silently, leads-by-code}
-use Rattle.models.proofs.exploring.after.Statement.{statement}
-use Rattle.models.proofs.exploring.after.Tie as tie
+use Rattle.models.proofs.exploring.equation_after.Statement.{statement}
+use Rattle.models.proofs.exploring.equation_after.Tie as tie
 
 returns : tie.Need-returns
 returns c = sym (leads-silently (c .before .args .row .now) _ _ (c .if1 .taken))
@@ -22,5 +22,5 @@ returns-2 c =
     let other = c .before .if1 .left in
     getD-inside (x .row .now) (x .label) 0 255 (omega arith) ∙ sym (leads-by-code (x .row .now) (x .equation) (x .label) other)
 
-pub after-spec : {M : Type 1} → statement M
-after-spec = tie.close (tie.spec returns shared-slice-read-result cast-result returns-2)
+pub equation-after-spec : {M : Type 1} → statement M
+equation-after-spec = tie.close (tie.spec returns shared-slice-read-result cast-result returns-2)
