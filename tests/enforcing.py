@@ -1,5 +1,6 @@
-"""Brute force on demand 3: the model behind the monitor, satisfaction, strong bisimilarity, and walks one by one."""
-import violation
+"""Brute force on demand 3: the model behind the monitor, strong bisimilarity, walks one by one, and the first drop."""
+from dataclasses import dataclass
+
 from equations import DROPPED_ENTRY
 from models import SILENT, Model, Step
 
@@ -50,22 +51,51 @@ def walk_ends(model, length, most):
     return levels
 
 
-def first_drop(model, table):
-    """The trace of a shortest walk whose last step the monitor drops, and how many steps it has, or None."""
-    steps, found, before = outgoing(model), [(0, 0)], {(0, 0): ((), 0)}
+def met_steps(model, table):
+    """The steps that the monitor meets, breadth first from the start, on walks of which it has dropped no step before:
+    the state and the equation where it meets them, their label and target, and the entry."""
+    steps, found = outgoing(model), [(0, 0)]
+    seen = set(found)
     for state, equation in found:
-        trace, length = before[state, equation]
-        for label, to in steps[state]:
+        for label, target in steps[state]:
             entry = equation if label == SILENT else table[equation][label]
-            longer = trace if label == SILENT else trace + (label,)
-            if entry == DROPPED_ENTRY:
-                return longer, length + 1
-            if (to, entry) not in before:
-                before[to, entry] = longer, length + 1
-                found.append((to, entry))
+            yield state, equation, label, target, entry
+            if entry != DROPPED_ENTRY and (target, entry) not in seen:
+                seen.add((target, entry))
+                found.append((target, entry))
+
+
+@dataclass(frozen=True)
+class Drop:
+    """A shortest walk whose last step the monitor drops: its trace, and how many steps it has. The place is that of the
+    pair of state and equation before the last step, among all pairs in the order in which they are found, from 1.
+    Nearer says how many pairs are fewer steps away: in any order of the steps they are found before it."""
+
+    trace: tuple
+    length: int
+    place: int
+    nearer: int
+
+
+def labels_to(pair, before):
+    """The labels on the way to a pair, given the pair before each and the label between the two."""
+    labels = []
+    while pair in before:
+        pair, label = before[pair]
+        labels.append(label)
+    return labels[::-1]
+
+
+def first_drop(model, table):
+    """The drop that is met first, or None."""
+    lengths, before = {(0, 0): 0}, {}
+    for state, equation, label, target, entry in met_steps(model, table):
+        pair, then = (state, equation), (target, entry)
+        if entry == DROPPED_ENTRY:
+            labels = labels_to(pair, before) + [label]
+            trace = tuple(label for label in labels if label != SILENT)
+            nearer = sum(length < lengths[pair] for length in lengths.values())
+            return Drop(trace, len(labels), list(lengths).index(pair) + 1, nearer)
+        if then not in lengths:
+            lengths[then], before[then] = lengths[pair] + 1, (pair, label)
     return None
-
-
-def violating(rule, traces):
-    """Those of the traces that violate a rule."""
-    return {trace for trace in traces if violation.violates(rule, trace)}

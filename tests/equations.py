@@ -98,6 +98,11 @@ def rows(data):
     return rule if isinstance(rule, Refusal) else rows_of(Equations(rule))
 
 
+def can_drop(built):
+    """Whether a code is dropped somewhere in the rows."""
+    return any(DROPPED_ENTRY in entries for entries in built)
+
+
 def build(data, table):
     """The rows with which building begins the lent table, or its refusal. The table is changed in place."""
     if len(table) < LEAST_TABLE:

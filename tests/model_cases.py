@@ -4,8 +4,9 @@ from random import Random
 import known_models
 import model_faults
 import model_limits
+import model_silence
 import stream_cases
-from equations import LEAST_TABLE, rows
+from equations import LEAST_TABLE, can_drop, rows
 from judging import refusal_of
 from known import POOL, bytes_of
 from models import MOST_STATES, SILENT
@@ -69,6 +70,17 @@ def drawn_cases(random):
     return cases
 
 
+def silent_cases(random):
+    """Models in which silent steps decide, for the rules that can drop a scan."""
+    cases = []
+    for number, data in enumerate(stream_cases.rule_files()):
+        if can_drop(rows(data)):
+            most = random.choice([3, 6, 40])
+            models = model_silence.models_for(random, number, read_rule(data), rows(data), most)
+            cases += [(LEAST_TABLE, data, model) for model in models]
+    return cases
+
+
 def spoiled_cases(random, judged):
     """The models, of which some break their rule, with a fault at their end."""
     return [(size, rule, model_faults.spoiled(random, model)) for size, rule, model in judged]
@@ -81,5 +93,6 @@ def cases():
     every = typed_cases() + model_faults.grid()
     every += [(LEAST_TABLE, pool, model) for model in model_faults.files(random)]
     some = drawn_cases(random) + [(LEAST_TABLE, rule, model) for rule, model in model_limits.pairs(random)]
+    some += silent_cases(random)
     every += some + spoiled_cases(random, [case for case in some[::25] if refusal_of(*case) is None])
     return list(dict.fromkeys(every))

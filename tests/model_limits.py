@@ -1,11 +1,13 @@
 """Rules and models at the limits: late breaks, all pairs of state and equation, the last step, the last code, and rules
 of about 128 equations."""
+from compare import expect
+from enforcing import first_drop
 from equation_shapes import counters, drawn, limit_rules
-from equations import rows
+from equations import MOST_EQUATIONS, rows
 from known import ANY, ONE, bytes_of, counted
 from known_equations import SIX, late
 from known_models import NEVER, PAPER
-from models import MOST_STATES, MOST_STEPS, SILENT, file_of
+from models import MOST_STATES, MOST_STEPS, SILENT, file_of, read_model
 from model_shapes import drawn_models, renumbered
 from rules import Refusal, read_rule
 from shapes import BOTH, FALSITY, MAX, after, pattern, variable
@@ -55,16 +57,39 @@ REGISTER = bytes_of(ANY + ONE + SIX + "6 4 5 0 7 0 4 5 1 " + "5 0 " * 7 + "2 " +
 
 def register_models(random):
     """A cycle of 64 states, from each of which a 9 and a 5 lead on: every pair of a state and an equation of the rule
-    above is reached. Under equation 127 state 6 is reached last, and so its 6 is what breaks the rule latest. Where
-    every seventh state has no 5, no 6 breaks it."""
-    after_state = [(state + 1) % MOST_STATES for state in range(MOST_STATES)]
-    cycle = [(state, code, to) for state, to in enumerate(after_state) for code in (9, 5)]
-    sparse = [step for step in cycle if step[0] % 7 > 0 or step[1] == 9]
-    many = [(state, 6, 0) for state in range(MOST_STATES)]
-    several = [cycle, sparse, sparse + many, cycle + many]
-    several += [cycle + [(at, 6, 0)] for at in (0, 5, 6, 7, 63)]
+    above is reached. Under equation 127 state 6 is among the last, and so its 6 breaks the rule late. Where every
+    seventh state has no 5, no 6 breaks it."""
+    several = []
+    for codes in ((9, 5), (5, 9)):
+        cycle = [(state, code, (state + 1) % MOST_STATES) for state in range(MOST_STATES) for code in codes]
+        sparse = [step for step in cycle if step[0] % 7 > 0 or step[1] == 9]
+        many = [(state, 6, 0) for state in range(MOST_STATES)]
+        several += [cycle, sparse, sparse + many, cycle + many]
+        several += [cycle + [(at, 6, 0)] for at in (0, 5, 6, 7, 63)]
+    return files_of(random, several, 2)
+
+
+def stair_models(random):
+    """64 states in a row, from each of which a 9 leads to the next and a 5 back to itself. Again every pair is reached.
+    The last state with equation 127 is further away than any other pair, and only there a 6 is dropped: whatever order
+    the steps are taken in, the last pair of all is the first that shows the break."""
+    last = MOST_STATES - 1
+    stairs = [(0, 9, 0)] + [(state, 5, state) for state in range(MOST_STATES)]
+    stairs += [(state, 9, state + 1) for state in range(last)]
+    both = stairs + [(state, SILENT, state + 1) for state in range(last)]
+    breaking = [steps + [(last, 6, last)] for steps in (stairs, both, stairs[::-1], both[::-1])]
+    files = files_of(random, breaking, 3)
+    for file in files:
+        drop = first_drop(read_model(file), rows(REGISTER))
+        expect(drop.nearer + 1 == drop.place == MOST_STATES * MOST_EQUATIONS, "the last pair", drop)
+    return files + files_of(random, [stairs, both], 0)
+
+
+def files_of(random, several, times):
+    """The files of models of 64 states: as their steps stand, and so many times each renumbered, in other orders."""
     files = [file_of(MOST_STATES, steps) for steps in several]
-    return files + [file_of(MOST_STATES, renumbered(random, MOST_STATES, steps)) for steps in several for _ in range(3)]
+    others = [renumbered(random, MOST_STATES, steps) for steps in several for _ in range(times)]
+    return files + [file_of(MOST_STATES, steps) for steps in others]
 
 
 def last_step_pairs():
@@ -112,5 +137,6 @@ def large_pairs(random):
 
 def pairs(random):
     """Each rule file with a model file."""
-    found = cycle_pairs() + ladder_pairs() + [(REGISTER, model) for model in register_models(random)]
+    found = cycle_pairs() + ladder_pairs()
+    found += [(REGISTER, model) for model in register_models(random) + stair_models(random)]
     return found + last_step_pairs() + code_pairs() + large_pairs(random)

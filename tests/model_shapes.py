@@ -1,5 +1,5 @@
 """Phone models for a rule, as a number of states and a list of steps: at random, as chains of scans, and changed."""
-from enforcing import outgoing
+from enforcing import met_steps
 from equations import DROPPED_ENTRY
 from models import MOST_STATES, MOST_STEPS, SILENT, Model, Step, file_of
 from sifting import Sifting
@@ -28,17 +28,8 @@ def random_steps(random, labels, states, count):
 
 def dropped_steps(states, steps, table):
     """The steps that the monitor drops first on some walk."""
-    found, dropped = [(0, 0)], set()
-    seen, out = set(found), outgoing(Model(states, [Step(*step) for step in steps]))
-    for state, equation in found:
-        for label, target in out[state]:
-            entry = equation if label == SILENT else table[equation][label]
-            if entry == DROPPED_ENTRY:
-                dropped.add((state, label, target))
-            elif (target, entry) not in seen:
-                seen.add((target, entry))
-                found.append((target, entry))
-    return dropped
+    met = met_steps(Model(states, [Step(*step) for step in steps]), table)
+    return {(state, label, target) for state, _, label, target, entry in met if entry == DROPPED_ENTRY}
 
 
 def mended(states, steps, table):
@@ -72,9 +63,10 @@ def chain(random, scans, silent):
     return len(labels) + 1, [(state, label, state + 1) for state, label in enumerate(labels)]
 
 
-def up_to_drop(random, rule, length):
-    """Scans up to the first that the rule drops, or so many that it keeps where none of them is dropped."""
-    scans = steered(random, rule, length, 0.3)
+def up_to_drop(random, rule, length, rate=0.3):
+    """Scans up to the first that the rule drops, or so many that it keeps where none of them is dropped. The higher the
+    rate, the straighter they lead there."""
+    scans = steered(random, rule, length, rate)
     verdicts = Sifting(rule).sift(scans)
     return scans[: verdicts.index(1) + 1] if 1 in verdicts else scans
 

@@ -31,6 +31,11 @@ class Sifting:
         return bytes(verdicts)
 
 
+def kept(scans, verdicts):
+    """The scans with verdict 0."""
+    return [scan for scan, verdict in zip(scans, verdicts) if verdict == 0]
+
+
 def settled(part, maxes):
     """The ffs and the necessities that the violation of a part comes down to before any code is looked at."""
     if part.kind == 4:

@@ -4,7 +4,7 @@ from random import Random
 import known_runs
 import table_cases
 from compare import Disagreement, expect
-from equations import DROPPED_ENTRY, rows
+from equations import can_drop, rows
 from known import ANY, ONE, POOL, bytes_of, counted
 from known_equations import BRANCHES
 from rules import Refusal
@@ -25,8 +25,8 @@ def rule_files():
     """The rules that are accepted: those that can drop a scan, and some that can't."""
     built = [(data, rows(data)) for data in table_cases.files()]
     accepted = [(data, table) for data, table in built if not isinstance(table, Refusal)]
-    dropping = [data for data, table in accepted if any(DROPPED_ENTRY in row for row in table)]
-    others = [data for data, table in accepted if not any(DROPPED_ENTRY in row for row in table)]
+    dropping = [data for data, table in accepted if can_drop(table)]
+    others = [data for data, table in accepted if not can_drop(table)]
     return dropping + others[::8]
 
 

@@ -10,11 +10,16 @@ from collections import Counter
 import compare_models
 import model_cases
 import stream_cases
+from compare import expect
+from compare_models import BY_SILENCE
 from expected import digest, is_check, settle, three_bytes
 from judging import judge
 from models import MOST_STEPS, Model, read_model
 from rules import Refusal
 from write_tables import fresh_table
+
+# In so many cases at least silent steps have to decide.
+LEAST_BY_SILENCE = 800
 
 
 def reading_of(data):
@@ -25,28 +30,36 @@ def reading_of(data):
     is_refused = isinstance(answer, Refusal)
     model = Model(0, ()) if is_refused else answer
     steps = b"".join(bytes([step.source, *divmod(step.label, 256), step.target]) for step in model.steps)
-    told = str(answer) if is_refused else "accepted"
-    return f"{told} {model.states} {len(model.steps)} {digest(steps.ljust(4 * MOST_STEPS, bytes(1)))}"
+    said = str(answer) if is_refused else "accepted"
+    return f"{said} {model.states} {len(model.steps)} {digest(steps.ljust(4 * MOST_STEPS, bytes(1)))}"
 
 
 def input_of(size, rule, model):
     return three_bytes(size) + three_bytes(len(rule)) + three_bytes(len(model)) + rule + model
 
 
+def told(tally):
+    return ", ".join(f"{number} {what}" for what, number in sorted(tally.items()))
+
+
 def main():
     checks = is_check(__doc__)
-    pairs, met = compare_models.check(stream_cases.rule_files())
+    compared = compare_models.check(stream_cases.rule_files())
     cases = model_cases.cases()
-    lines, tally = [], Counter()
+    lines, tally, latest = [], Counter(), 0
     for case, (size, rule, model) in enumerate(cases):
         table = fresh_table(size, case)
         answer = judge(rule, model, table)
-        compare_models.check_answer(rule, model, answer)
         lines.append(f"{reading_of(model)} {answer} {digest(table)}")
         tally[answer.split(" at ")[0]] += 1
+        drop = compare_models.check_answer(rule, model, answer)
+        if drop is not None:
+            tally[BY_SILENCE] += compare_models.is_by_silence(rule, model)
+            latest = max(latest, drop.place)
+    expect(tally[BY_SILENCE] >= LEAST_BY_SILENCE, told(tally))
     settle("judgments", b"".join(input_of(*case) for case in cases), lines, checks)
-    print(f"{pairs} pairs compared, {met} of which meet, {len(cases)} cases:")
-    print(", ".join(f"{number} {what}" for what, number in sorted(tally.items())))
+    print(f"small models compared: {told(compared)}")
+    print(f"{len(cases)} cases: {told(tally)}; the latest break is at pair {latest}")
 
 
 if __name__ == "__main__":

@@ -16,25 +16,24 @@ REFUSED = file_of(2, [(0, 37, 1), (1, 128, 0)] * (MOST_STEPS + 50))
 
 
 def programs():
-    """Each crate with its rule, its model, if it has one, and the line that it prints."""
+    """Each crate with its rule and its model, if it has them, and the line that it prints."""
     paper = bytes_of(POOL)
     return [
         ("meets", paper, bytes_of(PAPER), "breaks"),
         ("meets_met", paper, bytes_of(MEETING), "meets"),
         ("meets_missing", paper, None, "refused 11 at 0"),
         ("meets_refused", paper, REFUSED, "refused 14 at 2050"),
+        ("meets_bare", None, None, "refused 1 at 0"),
     ]
 
 
 def main():
     checks = is_check(__doc__)
     for crate, rule, model, line in programs():
-        answer = judge(rule, model or b"", bytearray(LEAST_TABLE))
+        answer = judge(rule or b"", model or b"", bytearray(LEAST_TABLE))
         expect(answer == line, crate, answer)
-        contents = {"data/rule.bin": rule, "stdin": b"", "stdout": f"{line}\n".encode()}
-        if model is not None:
-            contents["data/model.bin"] = model
-        settle_files(crate, contents, checks)
+        files = {"data/rule.bin": rule, "data/model.bin": model, "stdin": b"", "stdout": f"{line}\n".encode()}
+        settle_files(crate, {name: content for name, content in files.items() if content is not None}, checks)
     print(f"{len(programs())} programs")
 
 

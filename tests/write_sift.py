@@ -10,7 +10,7 @@ from expected import is_check, settle_files
 from known import POOL, bytes_of
 from rules import read_rule
 from shapes import BOTH, FALSITY, MAX, after, pattern, variable
-from sifting import Sifting
+from sifting import Sifting, kept
 
 # How many scans sift reads at most in one turn.
 BLOCK = 65536
@@ -45,7 +45,7 @@ def long_stream(random):
 def sifted(rule, scans):
     """The kept scans, and the verdicts."""
     verdicts = Sifting(read_rule(rule)).sift(scans)
-    return bytes(scan for scan, verdict in zip(scans, verdicts) if verdict == 0), verdicts
+    return bytes(kept(scans, verdicts)), verdicts
 
 
 def check_long(scans, verdicts):

@@ -1,0 +1,4 @@
+// The program `meets` with neither file.
+fn main() {
+    commands::meets();
+}
