@@ -77,7 +77,7 @@ def play_every_way(random, script, data):
 
 
 def play_refused_rule(random, script, data, refused):
-    """A file that is refused leaves the table alone: the stream goes on over it, once count and state are set again."""
+    """A refused file changes no byte of the table: the stream goes on over it, once count and state are set again."""
     rule = read_rule(data)
     script.build(data)
     count, sifting = script.count, Sifting(rule)

@@ -23,7 +23,7 @@ pub struct ListingLine {
     pub next: usize,
 }
 
-// The line that says that a rule is refused, and where.
+// The line that says why a file is refused, and where.
 pub fn refusal_line(number: u8, place: usize) -> Line
     ensures { λ r. ⌜ r ≡ lineOf (refusalLine number place) ⌝ }
     ensures { λ r. ⌜ Within r ⌝ }
