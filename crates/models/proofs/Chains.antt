@@ -58,24 +58,13 @@ module _ (steps : List Step) (l : Links) (linked : Linked steps l) where
 
   module _ (s : ℕ) (inside : s < 64) where
     -- a step on the chain of a state is one of the model
-    pub step-of : (i : ℕ) → OnChain l (getD (l .last) s 0) i → StepIn steps s (labelOf (getD (l .labels) i 0)) (getD (l .targets) i 0)
+    pub step-of : (i : ℕ) → OnChain l (getD (l .last) s 0) i
+        → StepIn steps s (labelOf (getD steps i noStep .label)) (getD steps i noStep .to)
     step-of i o =
         let a = chain-inside s (length steps) i (omega arith) (rw (linked .last-is s inside) at o) in
-        record {
-          place = i;
-          inside = a .0;
-          from-is = a .1;
-          label-is = rw (linked .labels-are i (a .0));
-          to-is = sym (linked .targets-are i (a .0));
-        }
+        record { place = i; inside = a .0; from-is = a .1; label-is = refl; to-is = refl }
 
     -- and each of them from that state is on the chain
-    pub of-step : (a : Label) (t : ℕ) → StepIn steps s a t
-        → (i : ℕ) × OnChain l (getD (l .last) s 0) i × (labelOf (getD (l .labels) i 0) ≡ a) × (getD (l .targets) i 0 ≡ t)
+    pub of-step : (a : Label) (t : ℕ) (h : StepIn steps s a t) → OnChain l (getD (l .last) s 0) (h .place)
     of-step a t h =
-        let i = h .place in (
-          i,
-          rw (linked .last-is s inside) (chain-has s (length steps) i (omega arith) (h .inside) (h .from-is)),
-          rw (linked .labels-are i (h .inside)) (h .label-is),
-          linked .targets-are i (h .inside) ∙ h .to-is,
-        )
+        rw (linked .last-is s inside) (chain-has s (length steps) (h .place) (omega arith) (h .inside) (h .from-is))

@@ -23,12 +23,11 @@ use Rattle.models.specs.Phone.{Phone, modelOf, WellFormedPhone}
 use Rattle.models.specs.File.{phoneOf}
 use Rattle.models.specs.Judging.{stored, modelReadingOf, judgingOf, JudgedAs, tableJudged}
 use Rattle.models.specs.Readings.{ruleRefusal, refusalBefore}
-use Rattle.models.specs.Exploring.{NeverDrops, HasPhone, Linked}
+use Rattle.models.specs.Exploring.{NeverDrops, HasPhone}
 use Rattle.models.specs.declared.PhoneModel.{PhoneModel}
 use Rattle.models.specs.declared.ModelReading.{ModelReading}
 use Rattle.models.specs.declared.Judged.{Judged}
 use Rattle.models.specs.declared.Judged as Judged′
-use Rattle.models.specs.declared.links.Links.{Links}
 use Rattle.models.proofs.SatisfactionLaws.{satisfies-safe}
 use Rattle.models.proofs.NeverDropping.{never-drops-safe}
 use Rattle.models.proofs.Encoding.{phone-accepted, phone-well-formed}
@@ -140,15 +139,14 @@ module _ (s table f : List ℕ) where
         let decided = decided-satisfies (a .phone) (a .rule) in
         (λ never. decided .1 (satisfies .1 (safe .0 never)), λ sat. safe .1 (satisfies .0 (decided .0 sat)))
 
-    module _ {links : Links} {r : Bool}
-        (linked : (y : Phone) → model ≡ stored y → Linked (y .steps) links)
-        (never : (y : Phone) → Linked (y .steps) links → (r ≡ true) ↔ NeverDrops (entry 256 255 after) 0 (modelOf y)) where
+    module _ {r : Bool}
+        (never : (y : Phone) → model ≡ stored y → (r ≡ true) ↔ NeverDrops (entry 256 255 after) 0 (modelOf y)) where
       case : judgingOf 128 s (length table) f ≡ accepted (record { rule = a .rule; phone = a .phone })
       case = judging-case 128 s f (length table) (a .rule) (a .count) (a .phone) (a .rule-is) (a .counted) (a .phone-is)
 
       -- the answer of the search
       searched : (r ≡ true) ↔ NeverDrops (entry 256 255 after) 0 (modelOf (a .phone))
-      searched = never (a .phone) (linked (a .phone) (a .is-stored))
+      searched = never (a .phone) (a .is-stored)
 
       pub judges-meets : r ≡ true → Judges Judged′.the-variants.Meets after
       judges-meets e = rw case (inl (refl, never-drops-satisfies .0 (searched .0 e)), a .left)

@@ -30,5 +30,12 @@ pub mod Leading
 pub mod Expanding
 pub mod Exploration
 pub mod LinkLaws
+pub mod Searches
 pub mod Refusing
 pub mod Judgment
+pub mod StepRows
+pub mod LentAgain
+pub mod Loop
+pub mod Exits
+pub mod NextRow
+pub mod ReaderSlices

@@ -9,7 +9,7 @@ use lib.Dec.{eqb}
 use lib.ListN.{length, getD, set, replicate, length-set}
 use lib.Seq.{getD-set-same, getD-set-other}
 use borrow.Author.Tests.{eqb-true, eqb-false, eq-eqb, ne-eqb}
-use Rattle.reading.proofs.NumberedLaws.{repeated-at, padded-at}
+use Rattle.reading.proofs.NumberedLaws.{repeated-at, padded-at, padded-long}
 use Rattle.models.specs.Phone.{Phone, noStep, WellFormedStep}
 use Rattle.models.specs.Judging.{stored}
 use Rattle.models.specs.Exploring.{HasPhone, lastFrom, LinkedFirst, Linked, LinksInRange, linksOf}
@@ -20,7 +20,7 @@ use Rattle.models.proofs.PhoneCodes.{step-among}
 
 -- ---- the steps of a stored model
 
-stored-alike : {m : PhoneModel} (y : Phone) → m ≡ stored y → (i : ℕ) → getD (m .steps) i noStep ≡ getD (y .steps) i noStep
+pub stored-alike : {m : PhoneModel} (y : Phone) → m ≡ stored y → (i : ℕ) → getD (m .steps) i noStep ≡ getD (y .steps) i noStep
 stored-alike y e i = ap (λ (m : PhoneModel). getD (m .steps) i noStep) e ∙ padded-at noStep 512 (y .steps) i
 
 pub stored-step : {m : PhoneModel} → HasPhone m → (i : ℕ) → WellFormedStep 64 (getD (m .steps) i noStep)
@@ -29,6 +29,10 @@ stored-step h i =
 
 pub stored-few : {m : PhoneModel} → HasPhone m → m .nsteps ≤ 512
 stored-few h = omega (arith, h .well-formed .few-steps, ap (λ (m : PhoneModel). m .nsteps) (h .is-stored))
+
+pub stored-length : {m : PhoneModel} → HasPhone m → length (m .steps) ≡ 512
+stored-length h =
+    ap (λ (m : PhoneModel). length (m .steps)) (h .is-stored) ∙ padded-long noStep 512 (h .phone .steps) (h .well-formed .few-steps)
 
 -- ---- the last step from a state
 
@@ -78,61 +82,43 @@ after-write P l k x h here there i = on (eqb i k) refl
     on false e = let d = eqb-false i k e in subst (P i) (sym (getD-set-other l k i x 0 d)) (there i d)
 
 pub linked-none : (steps : List Step)
-    → LinkedSoFar steps 0 (linksOf (replicate 64 0) (replicate 512 0) (replicate 512 0) (replicate 512 0))
+    → LinkedSoFar steps 0 (linksOf (replicate 64 0) (replicate 512 0))
 linked-none steps = record {
   ranges = record {
     last-length = refl;
     earlier-length = refl;
-    labels-length = refl;
-    targets-length = refl;
     last-range = λ s. omega (arith, repeated-at {A = ℕ} 0 64 s);
     earlier-range = λ j. omega (arith, repeated-at {A = ℕ} 0 512 j);
-    labels-range = λ j. omega (arith, repeated-at {A = ℕ} 0 512 j);
-    targets-range = λ j. omega (arith, repeated-at {A = ℕ} 0 512 j);
   };
   links = record {
     last-is = λ s h. repeated-at {A = ℕ} 0 64 s ∙ sym (last-zero steps s);
     earlier-is = λ j h. absurd (omega arith);
-    labels-are = λ j h. absurd (omega arith);
-    targets-are = λ j h. absurd (omega arith);
   };
 }
 
-pub linked-next : {steps : List Step} {i : ℕ} {last earlier labels targets : List ℕ}
-    → LinkedSoFar steps i (linksOf last earlier labels targets)
-    → WellFormedStep 64 (getD steps i noStep) → i < 512
-    → LinkedSoFar steps (i + 1) (linksOf
-    (set last (getD steps i noStep .from) (i + 1)) (set earlier i (getD last (getD steps i noStep .from) 0))
-    (set labels i (getD steps i noStep .label)) (set targets i (getD steps i noStep .to)))
-linked-next {steps} {i} {last} {earlier} {labels} {targets} l w h =
+pub linked-next : {steps : List Step} {i : ℕ} {last earlier : List ℕ}
+    → LinkedSoFar steps i (linksOf last earlier) → WellFormedStep 64 (getD steps i noStep) → i < 512
+    → LinkedSoFar steps (i + 1)
+    (linksOf (set last (getD steps i noStep .from) (i + 1)) (set earlier i (getD last (getD steps i noStep .from) 0)))
+linked-next {steps} {i} {last} {earlier} l w h =
     let step = getD steps i noStep in
     let r = l .ranges in
     let in-last : step .from < length last = omega (arith, w .from, r .last-length) in
     let in-earlier : i < length earlier = omega (arith, h, r .earlier-length) in
-    let in-labels : i < length labels = omega (arith, h, r .labels-length) in
-    let in-targets : i < length targets = omega (arith, h, r .targets-length) in
     let before = l .links .last-is (step .from) (w .from) in
     record {
       ranges = record {
         last-length = simp length-set (r .last-length);
         earlier-length = simp length-set (r .earlier-length);
-        labels-length = simp length-set (r .labels-length);
-        targets-length = simp length-set (r .targets-length);
         last-range = after-write (λ s x. x ≤ 512) last _ _ in-last (omega arith) (λ s d. r .last-range s);
         earlier-range = after-write (λ j x. x ≤ j) earlier _ _ in-earlier (omega (arith, before, last-most steps (step .from) i))
             (λ j d. r .earlier-range j);
-        labels-range = after-write (λ j x. x ≤ 256) labels _ _ in-labels (w .label) (λ j d. r .labels-range j);
-        targets-range = after-write (λ j x. x < 64) targets _ _ in-targets (w .to) (λ j d. r .targets-range j);
       };
       links = record {
         last-is = after-write (λ s x. s < 64 → x ≡ lastFrom steps s (i + 1)) last _ _ in-last (λ b. sym (last-here steps (step .from) i refl))
             (λ s d b. l .links .last-is s b ∙ sym (last-before steps s i (λ e. d (sym e))));
         earlier-is = after-write (λ j x. j < i + 1 → x ≡ lastFrom steps (getD steps j noStep .from) j) earlier _ _ in-earlier (λ b. before)
             (λ j d b. l .links .earlier-is j (omega (arith, d, b)));
-        labels-are = after-write (λ j x. j < i + 1 → x ≡ getD steps j noStep .label) labels _ _ in-labels (λ b. refl)
-            (λ j d b. l .links .labels-are j (omega (arith, d, b)));
-        targets-are = after-write (λ j x. j < i + 1 → x ≡ getD steps j noStep .to) targets _ _ in-targets (λ b. refl)
-            (λ j d b. l .links .targets-are j (omega (arith, d, b)));
       };
     }
 
@@ -146,6 +132,4 @@ linked-stored {m} {i} {l} f all y e =
       last-is = λ s b. f .last-is s b ∙ last-alike (m .steps) (y .steps) alike s i ∙ ap (lastFrom (y .steps) s) count;
       earlier-is = λ j b. f .earlier-is j (omega (arith, b, count)) ∙ last-alike (m .steps) (y .steps) alike _ j
           ∙ ap (λ (x : Step). lastFrom (y .steps) (x .from) j) (alike j);
-      labels-are = λ j b. f .labels-are j (omega (arith, b, count)) ∙ ap (λ (x : Step). x .label) (alike j);
-      targets-are = λ j b. f .targets-are j (omega (arith, b, count)) ∙ ap (λ (x : Step). x .to) (alike j);
     }

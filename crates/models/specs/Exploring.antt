@@ -1,5 +1,5 @@
--- What judging goes by: the pairs of a state and an equation that are reached while nothing is dropped, and the arrays that link the steps
--- of a model. No public contract cites these.
+-- What judging goes by: the pairs of a state and an equation that are reached while nothing is dropped, the arrays that link the steps of
+-- a model, and the list of the pairs found. No public contract cites these.
 use Prim.Native.Nat.{ℕ, zero, suc, _+_, _*_, _/_, _%_, _≤_, _<_}
 use mathlib.Core.Path.{_≡_}
 use mathlib.Core.Logic.{_⊎_}
@@ -15,8 +15,6 @@ use Rattle.models.specs.Judging.{stored}
 use Rattle.models.specs.declared.Step.{Step}
 use Rattle.models.specs.declared.PhoneModel.{PhoneModel}
 use Rattle.models.specs.declared.links.Links.{Links}
-use Rattle.models.specs.declared.exploring.Expanded.{Expanded}
-use Rattle.models.specs.declared.exploring.Expanded.the-variants.{Dropped, Found}
 
 -- ---- the pairs
 
@@ -48,8 +46,6 @@ lastFrom steps s (suc n) = cond (eqb (getD steps n noStep .from) s) (suc n) (las
 pub record LinkedFirst (steps : List Step) (n : ℕ) (l : Links) : Type 0 where
   pub last-is : (s : ℕ) → s < 64 → getD (l .last) s 0 ≡ lastFrom steps s n
   pub earlier-is : (i : ℕ) → i < n → getD (l .earlier) i 0 ≡ lastFrom steps (getD steps i noStep .from) i
-  pub labels-are : (i : ℕ) → i < n → getD (l .labels) i 0 ≡ getD steps i noStep .label
-  pub targets-are : (i : ℕ) → i < n → getD (l .targets) i 0 ≡ getD steps i noStep .to
 
 -- They link all of them.
 abbrev pub Linked : List Step → Links → Type 0
@@ -59,16 +55,12 @@ Linked steps l = LinkedFirst steps (length steps) l
 pub record LinksInRange (l : Links) : Type 0 where
   pub last-length : length (l .last) ≡ 64
   pub earlier-length : length (l .earlier) ≡ 512
-  pub labels-length : length (l .labels) ≡ 512
-  pub targets-length : length (l .targets) ≡ 512
   pub last-range : (s : ℕ) → getD (l .last) s 0 ≤ 512
   pub earlier-range : (i : ℕ) → getD (l .earlier) i 0 ≤ i
-  pub labels-range : (i : ℕ) → getD (l .labels) i 0 ≤ 256
-  pub targets-range : (i : ℕ) → getD (l .targets) i 0 < 64
 
--- the links that four arrays are
-abbrev pub linksOf : (last earlier labels targets : List ℕ) → Links
-linksOf last earlier labels targets = record { last = last; earlier = earlier; labels = labels; targets = targets }
+-- the links that two arrays are
+abbrev pub linksOf : (last earlier : List ℕ) → Links
+linksOf last earlier = record { last = last; earlier = earlier }
 
 -- Step i is on the chain that begins with the step before `step`; with 0 the chain is empty.
 pub data OnChain (l : Links) : (step i : ℕ) → Type 0 where
@@ -110,13 +102,13 @@ leadsTo row equation label = cond (eqb label 256) equation (getD row label 255)
 abbrev pub Leaves : Links → (pair i : ℕ) → Type 0
 Leaves l pair i = OnChain l (getD (l .last) (pair % 64) 0) i
 
-module _ (l : Links) (row : List ℕ) (pair : ℕ) where
+module _ (steps : List Step) (l : Links) (row : List ℕ) (pair : ℕ) where
   -- the equation and the pair to which step i leads
   abbrev pub equationAfter : ℕ → ℕ
-  equationAfter i = leadsTo row (pair / 64) (getD (l .labels) i 0)
+  equationAfter i = leadsTo row (pair / 64) (getD steps i noStep .label)
 
   abbrev pub pairAfter : ℕ → ℕ
-  pairAfter i = 64 * equationAfter i + getD (l .targets) i 0
+  pairAfter i = 64 * equationAfter i + getD steps i noStep .to
 
   -- a step leads from the pair to the pair p
   pub record LeadsOn (p : ℕ) : Type 0 where
@@ -130,14 +122,8 @@ module _ (l : Links) (row : List ℕ) (pair : ℕ) where
     pub kept : equationAfter i ≡ 255 → ⊥
     pub is-seen : Seen seen (pairAfter i)
 
-  module _ (seen pairs : List ℕ) (found : ℕ) where
-    -- what has been done when the steps on the chain from `step` on are left
-    pub record ExpandedTo (step : ℕ) (seen′ pairs′ : List ℕ) (found′ : ℕ) : Type 0 where
-      pub grown : Grown LeadsOn seen pairs found seen′ pairs′ found′
-      pub done : (i : ℕ) → Leaves l pair i → Done seen′ i ⊎ OnChain l step i
-      pub left : (i : ℕ) → OnChain l step i → Leaves l pair i
-
-    -- what expanding a pair comes to
-    abbrev pub ExpandedAs : Expanded → (seen′ pairs′ : List ℕ) → Type 0
-    ExpandedAs Dropped seen′ pairs′ = (i : ℕ) × Leaves l pair i × (equationAfter i ≡ 255)
-    ExpandedAs (Found n) seen′ pairs′ = ExpandedTo 0 seen′ pairs′ n
+  -- what has been done when the steps on the chain from `step` on are left
+  pub record ExpandedTo (seen pairs : List ℕ) (found step : ℕ) (seen′ pairs′ : List ℕ) (found′ : ℕ) : Type 0 where
+    pub grown : Grown LeadsOn seen pairs found seen′ pairs′ found′
+    pub done : (i : ℕ) → Leaves l pair i → Done seen′ i ⊎ OnChain l step i
+    pub left : (i : ℕ) → OnChain l step i → Leaves l pair i

@@ -1,4 +1,4 @@
--- In the order in which to read them. `Exploring` and `Readings` serve the crate's own functions alone.
+-- In the order in which to read them. `Readings`, `Loading`, `Exploring` and `Searching` serve the crate's own functions alone.
 pub mod Model
 pub mod Satisfaction
 pub mod Bisimulation
@@ -8,4 +8,6 @@ pub mod File
 pub mod Judging
 pub mod Promises
 pub mod Readings
+pub mod Loading
 pub mod Exploring
+pub mod Searching

@@ -1,24 +1,31 @@
 // The search for a step that is dropped, over the pairs of a state and an equation. State s beside equation e is pair 64 × e + s.
+use crate::PhoneModel;
 use crate::SILENT;
-use crate::links::Links;
+use crate::Step;
+use crate::links;
+use crate::steps::step_at;
 use synthesis::DROPPED;
-use synthesis::row;
 ghost use mathlib.Core.Path.{_≡_};
 ghost use mathlib.Core.Logic.{_↔_};
 ghost use mathlib.Core.Bool.{true};
-ghost use Prim.Native.Nat.{ℕ, _≤_, _<_};
-ghost use lib.ListN.{length};
-ghost use Rattle.synthesis.specs.Table.{entry};
-ghost use Rattle.synthesis.specs.Promises.{RowInRange};
+ghost use mathlib.Core.List.{List};
+ghost use Prim.Native.Nat.{ℕ, _+_, _*_, _-_, _≤_, _<_};
+ghost use lib.ListN.{length, getD};
+ghost use Rattle.synthesis.specs.Table.{rowOf, entry};
 ghost use Rattle.running.specs.Running.{WellFormedTable};
-ghost use Rattle.models.specs.Phone.{Phone, modelOf};
-ghost use Rattle.models.specs.Exploring.{NeverDrops, Linked, LinksInRange, linksOf};
-ghost use Rattle.models.specs.Exploring.{Worklist, Noted, leadsTo, ExpandedAs};
+ghost use Rattle.models.specs.Phone.{Phone, noStep, modelOf};
+ghost use Rattle.models.specs.Judging.{stored};
+ghost use Rattle.models.specs.Exploring.{NeverDrops, HasPhone, LinksInRange, linksOf, Worklist, Noted, leadsTo};
+ghost use Rattle.models.specs.Searching.{Searching, Searched, remaining, NextPair};
 
-// What expanding a pair comes to: a step is dropped, or so many pairs have been found.
-enum Expanded {
-    Dropped,
-    Found(usize),
+// Where the search is: how many pairs have been found, the place and the pair that is being expanded, one more than the number of the step
+// of it that comes next, or 0 at the end, and whether a step was dropped.
+struct Cursor {
+    found: usize,
+    turn: usize,
+    pair: usize,
+    step: usize,
+    dropped: bool,
 }
 
 // Notes a pair as the next one found, unless it was found before, and says how many there are.
@@ -35,80 +42,147 @@ fn note(seen: &mut [u8], pairs: &mut [u16], found: usize, pair: usize) -> usize
 }
 
 // The equation to which a step with this label leads; DROPPED where it is dropped.
-fn equation_after(row: &[u8], equation: usize, label: u16) -> usize
-    requires { ⌜ (length (now row) ≡ 256) × (label ≤ 256) ⌝ }
-    ensures { λ r. ⌜ r ≡ leadsTo (now (row .entry)) equation label ⌝ }
+fn equation_after(table: &[u8], equation: usize, label: u16) -> usize
+    requires { ⌜ (256 * equation + 256 ≤ length (now table)) × (label ≤ 256) ⌝ }
+    ensures { λ r. ⌜ r ≡ leadsTo (rowOf 256 (now (table .entry)) equation) equation label ⌝ }
 {
     if label == SILENT {
         return equation;
     }
-    row[label as usize] as usize
+    table[256 * equation + label as usize] as usize
 }
 
-// Notes the pairs to which the steps of a state lead, beside an equation and its row.
-fn expand(
+// The first pair from `turn` on that has a step.
+fn next_pair(last: &[u16], pairs: &[u16], turn: usize, found: usize) -> Cursor
+    requires { ⌜ (length (now last) ≡ 64) × (length (now pairs) ≡ 8192) × (turn ≤ found) × (found ≤ 8192) ⌝ }
+    ensures { λ r. ⌜ NextPair (now (last .entry)) (now (pairs .entry)) turn found r ⌝ }
+{
+    let mut turn = turn;
+    while turn < found {
+        let pair = pairs[turn] as usize;
+        let step = last[pair % 64] as usize;
+        if 0 < step {
+            return Cursor {
+                found,
+                turn,
+                pair,
+                step,
+                dropped: false,
+            };
+        }
+        turn += 1;
+    }
+    Cursor {
+        found,
+        turn,
+        pair: 0,
+        step: 0,
+        dropped: false,
+    }
+}
+
+// Follows the step that comes next, beside the equation of its pair, and says where the search is then.
+fn follow(
+    at: Cursor,
+    step: Step,
     last: &[u16],
     earlier: &[u16],
-    labels: &[u16],
-    targets: &[u8],
-    row: &[u8],
-    pair: usize,
+    table: &[u8],
     seen: &mut [u8],
     pairs: &mut [u16],
-    found: usize,
-) -> Expanded
-    requires { ⌜ LinksInRange (linksOf (now last) (now earlier) (now labels) (now targets))
-        × RowInRange 255 128 (now row) × (pair < 8192) × Worklist (now seen) (now pairs) found ⌝ }
-    ensures { λ r. ⌜ ExpandedAs (linksOf (now (last .entry)) (now (earlier .entry)) (now (labels .entry)) (now (targets .entry)))
-        (now (row .entry)) pair (now (seen .entry)) (now (pairs .entry)) found r (now (seen .exit)) (now (pairs .exit)) ⌝ }
+) -> Cursor
+    requires { ⌜ ((steps : List Step) × Searching steps (linksOf (now last) (now earlier)) (now table) (now seen) (now pairs) at
+        × (0 < at .step) × (step ≡ getD steps (at .step - 1) noStep)) ⌝ }
+    ensures { λ r. ⌜ ((steps : List Step)
+        → Searching steps (linksOf (now (last .entry)) (now (earlier .entry))) (now (table .entry)) (now (seen .entry)) (now (pairs .entry)) at
+        → step ≡ getD steps (at .step - 1) noStep
+        → Searching steps (linksOf (now (last .entry)) (now (earlier .entry))) (now (table .entry)) (now (seen .exit)) (now (pairs .exit)) r) ⌝ }
+    ensures { λ r. ⌜ remaining r < remaining at ⌝ }
 {
-    let mut found = found;
+    let turn = at.turn;
+    let pair = at.pair;
     let equation = pair / 64;
-    let mut step = last[pair % 64] as usize;
-    while 0 < step {
-        let next = equation_after(row, equation, labels[step - 1]);
-        if next == DROPPED as usize {
-            return Expanded::Dropped;
-        }
-        found = note(seen, pairs, found, 64 * next + targets[step - 1] as usize);
-        step = earlier[step - 1] as usize;
+    let next = equation_after(table, equation, step.label);
+    if next == DROPPED as usize {
+        return Cursor {
+            found: at.found,
+            turn,
+            pair,
+            step: 0,
+            dropped: true,
+        };
     }
-    Expanded::Found(found)
+    let found = note(seen, pairs, at.found, 64 * next + step.to as usize);
+    let here = at.step - 1;
+    let left = earlier[here] as usize;
+    if 0 < left {
+        return Cursor {
+            found,
+            turn,
+            pair,
+            step: left,
+            dropped: false,
+        };
+    }
+    next_pair(last, pairs, turn + 1, found)
+}
+
+// Follows steps until one is dropped or none is left, and says whether one was.
+fn search(
+    steps: &[Step],
+    from: Cursor,
+    last: &[u16],
+    earlier: &[u16],
+    table: &[u8],
+    seen: &mut [u8],
+    pairs: &mut [u16],
+) -> bool
+    requires { ⌜ Searching (now steps) (linksOf (now last) (now earlier)) (now table) (now seen) (now pairs) from ⌝ }
+    ensures { λ r. ⌜ Searched (now (steps .entry)) (linksOf (now (last .entry)) (now (earlier .entry))) (now (table .entry)) r ⌝ }
+{
+    let mut at = from;
+    while 0 < at.step {
+        at = follow(
+            at,
+            step_at(steps, at.step - 1),
+            last,
+            earlier,
+            table,
+            seen,
+            pairs,
+        );
+    }
+    at.dropped
+}
+
+// The same over an array of steps, which it lends once.
+fn search_list(
+    list: [Step; 512],
+    from: Cursor,
+    last: &[u16],
+    earlier: &[u16],
+    table: &[u8],
+    seen: &mut [u8],
+    pairs: &mut [u16],
+) -> bool
+    requires { ⌜ Searching list (linksOf (now last) (now earlier)) (now table) (now seen) (now pairs) from ⌝ }
+    ensures { λ r. ⌜ Searched list (linksOf (now (last .entry)) (now (earlier .entry))) (now (table .entry)) r ⌝ }
+{
+    search(&list, from, last, earlier, table, seen, pairs)
 }
 
 // Whether no pair that is reached has a step that is dropped. Each pair is expanded once.
-pub(crate) fn never_drops(links: Links, table: &[u8]) -> bool
-    requires { ⌜ LinksInRange links × ((count : ℕ) × WellFormedTable 128 255 count (now table)) ⌝ }
-    ensures { λ r. ⌜ ((y : Phone) → Linked (y .steps) links
-        → (r ≡ true) ↔ NeverDrops (entry 256 255 (now (table .entry))) 0 (modelOf y)) ⌝ }
+pub(crate) fn never_drops(model: PhoneModel, table: &[u8]) -> bool
+    requires { ⌜ HasPhone model × ((count : ℕ) × WellFormedTable 128 255 count (now table)) ⌝ }
+    ensures { λ r. ⌜ ((y : Phone) → model ≡ stored y → (r ≡ true) ↔ NeverDrops (entry 256 255 (now (table .entry))) 0 (modelOf y)) ⌝ }
 {
+    let links = links::of_model(model);
+    let steps = model.steps;
     let last = links.last;
     let earlier = links.earlier;
-    let labels = links.labels;
-    let targets = links.targets;
     let mut seen = [0u8; 8192];
     let mut pairs = [0u16; 8192];
-    let mut found = note(&mut seen, &mut pairs, 0, 0);
-    let mut i = 0;
-    while i < found {
-        let pair = pairs[i] as usize;
-        let entries = row(table, pair / 64);
-        let expanded = expand(
-            &last,
-            &earlier,
-            &labels,
-            &targets,
-            entries,
-            pair,
-            &mut seen,
-            &mut pairs,
-            found,
-        );
-        let Expanded::Found(n) = expanded else {
-            return false;
-        };
-        found = n;
-        i += 1;
-    }
-    true
+    let found = note(&mut seen, &mut pairs, 0, 0);
+    let from = next_pair(&last, &pairs, 0, found);
+    !search_list(steps, from, &last, &earlier, table, &mut seen, &mut pairs)
 }

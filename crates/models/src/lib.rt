@@ -1,11 +1,12 @@
 // Reads phone models, and judges whether they satisfy a rule. The definitions that the contracts cite stand in specs/.
 mod exploring;
 mod links;
+mod loading;
 mod records;
+mod steps;
 
 use reading::Answer;
 use records::StatesRead;
-use records::StepRead;
 use synthesis::Counted;
 ghost use mathlib.Core.Path.{_≡_};
 ghost use lib.ListN.{length};
@@ -77,28 +78,19 @@ pub fn read_model(bytes: &[u8]) -> ModelReading
     let StatesRead::Read(states) = first else {
         return refused(records::states_answer(first));
     };
-    // blank steps, to be overwritten one by one
-    let mut steps = blank_model().steps;
-    let mut n = 0;
-    let mut at = 2;
-    while at < bytes.len() {
-        let found = records::read_step(bytes, states, at, 512 - n);
-        let StepRead::Read(step) = found else {
-            return refused(records::step_answer(found));
-        };
-        steps[n] = step;
-        n += 1;
-        at += records::record_length(step);
-    }
+    let blank = blank_model().steps;
+    let listed = loading::read_list(bytes, states, blank);
+    let answer = listed.answer;
+    let Answer::Accepted = answer else {
+        return refused(answer);
+    };
+    let steps = listed.steps;
     let model = PhoneModel {
         states,
         steps,
-        nsteps: n,
+        nsteps: listed.nsteps,
     };
-    ModelReading {
-        answer: Answer::Accepted,
-        model,
-    }
+    ModelReading { answer, model }
 }
 
 // The refusal of a rule file.
@@ -153,8 +145,7 @@ pub fn judge(rule: &[u8], model: &[u8], table: &mut [u8]) -> Judged
     let Counted::Equations(_) = built else {
         return refuse_rule(built);
     };
-    let links = links::of_model(reading.model);
-    if exploring::never_drops(links, table) {
+    if exploring::never_drops(reading.model, table) {
         return Judged::Meets;
     }
     Judged::Breaks

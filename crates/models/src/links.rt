@@ -5,13 +5,11 @@ ghost use Rattle.models.specs.Phone.{Phone};
 ghost use Rattle.models.specs.Judging.{stored};
 ghost use Rattle.models.specs.Exploring.{HasPhone, Linked, LinksInRange};
 
-// For each state, one more than the number of the last step from it, or 0 where there is none; for each step, the same among the steps
-// before it; and the label and the target of each step.
+// For each state, one more than the number of the last step from it, or 0 where there is none; and for each step, the same among the steps
+// before it.
 pub(crate) struct Links {
     pub(crate) last: [u16; 64],
     pub(crate) earlier: [u16; 512],
-    pub(crate) labels: [u16; 512],
-    pub(crate) targets: [u8; 512],
 }
 
 // The links of a model.
@@ -24,22 +22,13 @@ pub(crate) fn of_model(model: PhoneModel) -> Links
     let n = model.nsteps;
     let mut last = [0u16; 64];
     let mut earlier = [0u16; 512];
-    let mut labels = [0u16; 512];
-    let mut targets = [0u8; 512];
     let mut i = 0;
     while i < n {
         let step = steps[i];
         let from = step.from as usize;
         earlier[i] = last[from];
-        labels[i] = step.label;
-        targets[i] = step.to;
         last[from] = (i + 1) as u16;
         i += 1;
     }
-    Links {
-        last,
-        earlier,
-        labels,
-        targets,
-    }
+    Links { last, earlier }
 }

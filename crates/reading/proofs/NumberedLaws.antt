@@ -1,9 +1,9 @@
 -- The arrays of a numbered rule: by a node's number its kind and its argument, and by a pattern's number the pattern and its extent.
 use mathlib.Core.Path.{_≡_, refl, _∙_}
 use mathlib.Core.List.{List, [], _∷_, _++_, map}
-use Prim.Native.Nat.{ℕ, zero, suc, _-_, _<_}
+use Prim.Native.Nat.{ℕ, zero, suc, _-_, _≤_, _<_}
 use native.Mathlib.Omega.{arith}
-use lib.ListN.{length, getD, replicate, List·getD-map}
+use lib.ListN.{length, getD, replicate, length-append, length-replicate, List·getD-map}
 use Rattle.reading.specs.Pattern.{extentOf}
 use Rattle.reading.specs.Formula.{Formula, truth, falsity, both, necessity, max, variable, size, WellFormed}
 use Rattle.reading.specs.Rule.{Rule}
@@ -29,6 +29,9 @@ module _ {A : Type 0} (x : A) where
 
   pub padded-at : (n : ℕ) (l : List A) (i : ℕ) → getD (padded n x l) i x ≡ getD l i x
   padded-at n l i = filled-at l (n - length l) i
+
+  pub padded-long : (n : ℕ) (l : List A) → length l ≤ n → length (padded n x l) ≡ n
+  padded-long n l h = length-append l (replicate (n - length l) x) ∙ rw (length-replicate (n - length l) x) (omega arith)
 
 -- ---- kinds and arguments
 

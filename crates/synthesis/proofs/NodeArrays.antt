@@ -1,20 +1,17 @@
 -- What the arrays of kinds and arguments say of the nodes of their rule.
-use Prim.Native.Nat.{ℕ, _-_, _≤_, _<_}
+use Prim.Native.Nat.{ℕ, _≤_, _<_}
 use mathlib.Core.Path.{_≡_, _∙_}
 use mathlib.Core.List.{List, [], map}
 use native.Mathlib.Omega.{arith}
-use lib.ListN.{length, getD, replicate, length-append, length-replicate}
+use lib.ListN.{length, getD}
 use Rattle.reading.specs.Formula.{Formula, size}
 use Rattle.reading.specs.Rule.{Rule}
 use Rattle.reading.specs.Nodes.{EnclosingMax, Node, Resolves}
-use Rattle.reading.specs.Numbered.{kind, argument, numberOf, kinds, args, padded}
+use Rattle.reading.specs.Numbered.{kind, argument, numberOf, kinds, args}
 use Rattle.reading.proofs.NodeLaws.{node-fits}
 use Rattle.reading.proofs.Listings.{size-positive}
-use Rattle.reading.proofs.NumberedLaws.{kinds-size, args-size, numbers-nodes}
+use Rattle.reading.proofs.NumberedLaws.{padded-long, kinds-size, args-size, numbers-nodes}
 use Rattle.synthesis.specs.Arrays.{IsRule}
-
-padded-long : {A : Type 0} (n : ℕ) (x : A) (l : List A) → length l ≤ n → length (padded n x l) ≡ n
-padded-long n x l h = length-append l (replicate (n - length l) x) ∙ rw (length-replicate (n - length l) x) (omega arith)
 
 pub node-below : {root : Formula} {k : ℕ} {ms : List EnclosingMax} {f : Formula} → Node root k ms f → k < size root
 node-below {f = f} n = omega (arith, node-fits n, size-positive f)
@@ -26,10 +23,10 @@ module _ {r : Rule} {ks xs : List ℕ} (ir : IsRule r ks xs) where
   few = ir .well-formed .few-nodes
 
   pub kinds-long : length ks ≡ 64
-  kinds-long = rw (ir .kinds-are) (padded-long 64 0 (kinds 0 [] (r .formula)) (rw (kinds-size 0 [] (r .formula)) few))
+  kinds-long = rw (ir .kinds-are) (padded-long 0 64 (kinds 0 [] (r .formula)) (rw (kinds-size 0 [] (r .formula)) few))
 
   pub args-long : length xs ≡ 64
-  args-long = rw (ir .args-are) (padded-long 64 0 (args 0 [] (r .formula)) (rw (args-size 0 [] (r .formula)) few))
+  args-long = rw (ir .args-are) (padded-long 0 64 (args 0 [] (r .formula)) (rw (args-size 0 [] (r .formula)) few))
 
   module _ {k : ℕ} {ms : List EnclosingMax} {f : Formula} (n : Node (r .formula) k ms f) where
     pub kind-at : getD ks k 0 ≡ kind f

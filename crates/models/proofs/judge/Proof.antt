@@ -68,27 +68,20 @@ returns-2 c =
     judges-rule-refused (x .rule .now) (x .table .now) (x .model .now) (b .build .ensures .0) (b .build .ensures .1) (told .enum-told4 .given .1)
     (c .refuse-rule .ensures)
 
-of-model-requires : tie.Need-of-model-requires
-of-model-requires c κs = model-has-phone _ _ _ (accepts c)
-
 never-drops-requires : tie.Need-never-drops-requires
-never-drops-requires c κs = (c .before .of-model .ensures .1, table-well-formed _ _ _ (accepts (c .before .before)))
+never-drops-requires c κs = let a = accepts (c .before) in (model-has-phone _ _ _ a, table-well-formed _ _ _ a)
 
 same-length-2 : tie.Need-same-length-2
 same-length-2 c = search needs
 
 returns-3 : tie.Need-returns-3
-returns-3 c =
-    let a = c .before .before .before in
-    judges-meets _ _ _ (accepts (a .before)) (a .of-model .ensures .0) (c .before .never-drops .ensures) (c .if1 .taken)
+returns-3 c = judges-meets _ _ _ (accepts (c .before .before .before)) (c .before .never-drops .ensures) (c .if1 .taken)
 
 same-length-3 : tie.Need-same-length-3
 same-length-3 c = search needs
 
 returns-4 : tie.Need-returns-4
-returns-4 c =
-    let a = c .before .before .before in
-    judges-breaks _ _ _ (accepts (a .before)) (a .of-model .ensures .0) (c .before .never-drops .ensures) (c .if1 .left)
+returns-4 c = judges-breaks _ _ _ (accepts (c .before .before .before)) (c .before .never-drops .ensures) (c .if1 .left)
 
 pub judge-spec : {M : Type 1} → statement M
 judge-spec =
@@ -105,7 +98,6 @@ judge-spec =
     refuse-rule-requires
     same-length
     returns-2
-    of-model-requires
     never-drops-requires
     same-length-2
     returns-3

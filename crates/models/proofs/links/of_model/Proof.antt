@@ -10,11 +10,10 @@ use Rattle.models.proofs.links.of_model.Statement.{statement}
 use Rattle.models.proofs.links.of_model.Tie as tie
 
 abbrev Inv-loop : tie.InvT-loop
-Inv-loop steps n last₀ earlier₀ labels₀ targets₀ i₀ last earlier labels targets i =
-    (i ≤ n) × (n ≤ 512) × LinkedSoFar steps i (linksOf last earlier labels targets)
+Inv-loop steps n last₀ earlier₀ i₀ last earlier i = (i ≤ n) × (n ≤ 512) × LinkedSoFar steps i (linksOf last earlier)
 
 abbrev μ-loop : tie.MeasureT-loop
-μ-loop steps n last₀ earlier₀ labels₀ targets₀ i₀ last earlier labels targets i = n - i
+μ-loop steps n last₀ earlier₀ i₀ last earlier i = n - i
 
 -- the step that a turn links
 step-taken : (c : tie.After-struct-known Inv-loop μ-loop) → let l = c .before .before .before in
@@ -44,15 +43,6 @@ mul-earlier-2 c = search needs
 
 array-write-earlier : tie.Need-array-write-earlier Inv-loop μ-loop
 array-write-earlier c = search needs
-
-mul-labels : tie.Need-mul-labels Inv-loop μ-loop
-mul-labels c = search needs
-
-array-write-labels : tie.Need-array-write-labels Inv-loop μ-loop
-array-write-labels c = search needs
-
-array-write-targets : tie.Need-array-write-targets Inv-loop μ-loop
-array-write-targets c = search needs
 
 add-last : tie.Need-add-last Inv-loop μ-loop
 add-last c = search needs
@@ -94,9 +84,6 @@ of-model-spec =
     array-read-earlier
     mul-earlier-2
     array-write-earlier
-    mul-labels
-    array-write-labels
-    array-write-targets
     add-last
     cast-last
     mul-last
