@@ -93,12 +93,12 @@ module _ (κ : Lft) (b o : ℕ) (γ : GName) (f : List ℕ) (states n at : ℕ) 
         split ! $ keep ! (0 ∷ []) $ done !)))
 
 -- ---- put_step
-module _ (ν : Lft) (b o : ℕ) (δ : GName) (ys : List Step) (i : ℕ) (s : Step) where
+module _ (ν : Lft) (b o : ℕ) (δ : GName) (count : ℕ) (ys : List Step) (i : ℕ) (s : Step) where
   abbrev steps : RefT (List Step)
   steps = lent b o δ ys
 
   abbrev steps-val : Val
-  steps-val = sliceVal (b, o) (length ys)
+  steps-val = sliceVal (b, o) count
 
   module _ {M : Type 1} (𝓤 : URA M) (H : Heap 𝓤) (A : Atoms 𝓤) (W : Given 𝓤 H A) (mem : Memory → SProp 𝓤) (run : Routine → Fun 𝓤) where
     abbrev pub to-put : PutStep 𝓤 H A mem run .Ghost

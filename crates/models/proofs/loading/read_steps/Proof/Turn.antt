@@ -32,7 +32,7 @@ use Rattle.models.specs.declared.loading.Next.{Next}
 use Rattle.models.proofs.StepRows.{R, behindTy}
 use Rattle.models.proofs.NextRow.{nextTy, next-low, IsNext, next-typed, step-is, n-fits, at-fits}
 use Rattle.models.proofs.ReaderSlices.{file-val, File, lent, Lent}
-use Rattle.models.proofs.LentAgain.{OnLoan, lends-again, comes-back}
+use Rattle.models.proofs.LentAgain.{OnLoan, lends-again-at, comes-back-at}
 use Rattle.models.proofs.Loop.{tests}
 use Rattle.models.proofs.FileWays.{begun-length}
 use Rattle.models.proofs.loading.next_step.Symbol.{name as #next-step}
@@ -109,7 +109,7 @@ module _ {M : Type 1} (𝓤 : URA M) (H : Heap 𝓤) (A : Atoms 𝓤) (W : Given
       fm = fmOf 𝓤 H (W .laws) 𝓣
 
       abbrev put : ℕ → GName → State f states count → PutStep 𝓤 H A mem run .Ghost
-      put α δ t = to-put (α ∷ []) b′ o′ δ (t .list) (t .next .n) (t .next .step) 𝓤 H A W mem run
+      put α δ t = to-put (α ∷ []) b′ o′ δ count (t .list) (t .next .n) (t .next .step) 𝓤 H A W mem run
 
       abbrev ask : State f states count → NextStep 𝓤 H A mem run .Ghost
       ask t = to-next κ b o γ f states (t .next .n + 1) (t .next .at) 𝓤 H A W mem run q
@@ -137,26 +137,23 @@ module _ {M : Type 1} (𝓤 : URA M) (H : Heap 𝓤) (A : Atoms 𝓤) (W : Given
           (init ! 7 refl (tt, tt)) $
           assigns ! (agg ! (and-then ! (load ! (from ! (stop !)) (look ! 7 refl)) (and-then ! (load ! (from ! (fld ! refl (stop !)))
           (look-in ! 13 (sub ! 1 refl (whole !)))) (no-more !)))) (from ! (stop !)) (init ! 8 refl (tt, (tt, (record { fits = room .0 }, tt)))) $
-          rewrite ! 8 (λ (m : ℕ). ‵ (fat fullShare (sliceTy againTy) l₈ 0 (sliceVal (b′, o′) m))) (sym (t .long)) refl $
-          rewrite ! 4 (λ (m : ℕ). ‵ (Lent κ′ b′ o′ γ′ m ys)) (sym (t .long)) refl $
           lft-new ! tt (λ α. move ! (5 ∷ 4 ∷ []) $
-          use2 W (later (some (λ (δ : GName). ‵ (MutSlice (named 0) (α ∷ []) R .own (lent b′ o′ δ ys) (sliceVal (b′, o′) (length ys) ∷ []))
-          ⊛ ‵ (OnLoan R κ′ (α ∷ []) q′ γ′ b′ o′ δ ys)))) (lends-again R κ′ (α ∷ []) q′ γ′ b′ o′ 𝓤 H A W (named 1) (named 0) ys) $
+          use2 W (later (some (λ (δ : GName). ‵ (MutSlice (named 0) (α ∷ []) R .own (lent b′ o′ δ ys) (sliceVal (b′, o′) count ∷ []))
+          ⊛ ‵ (OnLoan R κ′ (α ∷ []) q′ γ′ b′ o′ δ ys)))) (lends-again-at R κ′ (α ∷ []) q′ γ′ b′ o′ 𝓤 H A W (named 1) (named 0) ys count (t .long)) $
           await ! tt $ pick ! (λ δ. split ! $ move ! (2 ∷ 0 ∷ []) $
           use2 W (raw (PutStep 𝓤 H A mem run .pre (put α δ t)))
-          (asks-put (α ∷ []) b′ o′ δ ys (x .n) (x .step) 𝓤 H A W mem run (n-fits x (t .is)) (step-is x (t .is)) inside) $
+          (asks-put (α ∷ []) b′ o′ δ count ys (x .n) (x .step) 𝓤 H A W mem run (n-fits x (t .is)) (step-is x (t .is)) inside) $
           -- [what put_step asks; what is on loan; next; the token of the file; the file; _5; …]
           calls-at ! fm (PutStep 𝓤 H A mem run) known-put (put α δ t) (and-then ! (load ! (from ! (stop !)) (look ! 8 refl))
           (and-then ! (load ! (from ! (fld ! refl (stop !))) (look-in ! 2 (sub ! 3 refl (whole !))))
           (and-then ! (load ! (from ! (fld ! refl (stop !))) (look-in ! 2 (sub ! 2 refl (whole !)))) (no-more !)))) (λ w.
           use1 W (later (given (w ≡ vunit) (‵ (flft (α ∷ []) fullShare) ⊛ ‵ (finally R δ zs))))
-          (put-told (α ∷ []) b′ o′ δ ys (x .n) (x .step) 𝓤 H A W mem run w) $ await ! tt $ learn ! (λ e. split ! $
+          (put-told (α ∷ []) b′ o′ δ count ys (x .n) (x .step) 𝓤 H A W mem run w) $ await ! tt $ learn ! (λ e. split ! $
           land ! (from ! (stop !)) (init ! 7 refl (subst (λ (v : Val). Holds (hasTy tyUnit v) × WT v) (sym e) (tt, tt))) $
           lft-end ! tt $ move ! (0 ∷ 2 ∷ 1 ∷ []) $
-          use3 W (later (‵ (Lent κ′ b′ o′ γ′ (length ys) zs) ⊛ ‵ (flft κ′ q′)))
-          (comes-back R κ′ (α ∷ []) q′ γ′ b′ o′ 𝓤 H A W (named 1) (named 0) ys δ zs (subst (Room R) (sym (t .long)) room) same) $
+          use3 W (later (‵ (Lent κ′ b′ o′ γ′ count zs) ⊛ ‵ (flft κ′ q′)))
+          (comes-back-at R κ′ (α ∷ []) q′ γ′ b′ o′ 𝓤 H A W (named 1) (named 0) ys count (t .long) room δ zs (same ∙ t .long)) $
           await ! tt $ split ! $
-          rewrite ! 0 (λ (m : ℕ). ‵ (Lent κ′ b′ o′ γ′ m zs)) (t .long) refl $
           -- [the slice; its token; next; the token of the file; the file; _5; …]
           assigns ! (bin ! (load ! (from ! (fld ! refl (stop !))) (look-in ! 2 (sub ! 3 refl (whole !)))) (lit ! tt) (record { fits = one-fits }))
           (from ! (stop !)) (init ! 9 refl (tt, record { fits = one-fits })) $ move ! (3 ∷ 4 ∷ []) $
