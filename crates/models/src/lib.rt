@@ -49,11 +49,7 @@ pub enum Judged {
 fn blank_model() -> PhoneModel
     ensures { λ r. ⌜ r ≡ blank ⌝ }
 {
-    let step = Step {
-        from: 0,
-        label: 0,
-        to: 0,
-    };
+    let step = steps::no_step();
     let steps = [step; 512];
     PhoneModel {
         states: 0,

@@ -2,6 +2,7 @@
 use crate::Step;
 use crate::records;
 use crate::records::StepRead;
+use crate::steps::no_step;
 use crate::steps::put_step;
 use reading::Answer;
 ghost use mathlib.Core.Path.{_≡_};
@@ -32,11 +33,7 @@ pub(crate) struct Listed {
 fn ended(answer: Answer, n: usize, at: usize) -> Next
     ensures { λ r. ⌜ r ≡ record { more = false; answer = answer; step = noStep; n = n; at = at } ⌝ }
 {
-    let step = Step {
-        from: 0,
-        label: 0,
-        to: 0,
-    };
+    let step = no_step();
     Next {
         more: false,
         answer,

@@ -1,9 +1,20 @@
-// The step records of a model, behind a lent slice.
+// The step records of a model, and those of a lent slice.
 use crate::Step;
 ghost use mathlib.Core.Path.{_≡_};
 ghost use Prim.Native.Nat.{_<_};
 ghost use lib.ListN.{length, getD, set};
 ghost use Rattle.models.specs.Phone.{noStep};
+
+// A blank record, which stands where there is no step.
+pub(crate) fn no_step() -> Step
+    ensures { λ r. ⌜ r ≡ noStep ⌝ }
+{
+    Step {
+        from: 0,
+        label: 0,
+        to: 0,
+    }
+}
 
 // The record at i.
 pub(crate) fn step_at(steps: &[Step], i: usize) -> Step
