@@ -57,9 +57,9 @@ prepend-one done x (refused number place) = refl
 
 -- ---- what is read so far
 
-pub none-begun : (f : List ℕ) (states : ℕ) → Bytes f → statesOf f ≡ accepted states → Begun f states (blank .steps) 0 2
-none-begun f states bytes e =
-    record { done = []; counted = refl; few = omega arith; stored = refl; are-bytes = bytes; states-are = e; rest = prepend-none _ }
+pub none-begun : (f : List ℕ) (states : ℕ) → Bytes f → Begun f states (blank .steps) 0 2
+none-begun f states bytes =
+    record { done = []; counted = refl; few = omega arith; stored = refl; are-bytes = bytes; rest = prepend-none _ }
 
 module _ {f : List ℕ} {states : ℕ} {steps : List Step} {n at : ℕ} (b : Begun f states steps n at) where
   pub begun-length : length steps ≡ 512
@@ -76,7 +76,6 @@ module _ {f : List ℕ} {states : ℕ} {steps : List Step} {n at : ℕ} (b : Beg
         few = omega arith;
         stored = rw (b .stored) (set-padded 512 n noStep x (b .done) (b .counted) (omega arith));
         are-bytes = b .are-bytes;
-        states-are = b .states-are;
         rest = b .rest
             ∙ rw left (ap (prepend (b .done)) (one-more f states at (512 - (n + 1)) inside (rw left at e)) ∙ prepend-one (b .done) x more);
       }
@@ -84,11 +83,11 @@ module _ {f : List ℕ} {states : ℕ} {steps : List Step} {n at : ℕ} (b : Beg
   -- ---- the ways out of `next_step`
 
   ends : (answer : Answer) → LoadedAs (stepsAt 512 f states 2) steps answer n
-      → (next : Next) → next ≡ record { more = false; answer = answer; step = noStep; n = n; at = at } → NextRead f states steps n next
+      → (next : Next) → next ≡ record { more = false; answer = answer; step = noStep; n = n; at = 0 } → NextRead f states steps n next
   ends answer loaded next is =
       rw is record { number-is = refl; one-more = λ e. absurd (let z : _≡_ {A = ℕ} 0 1 = cc in omega arith); ended = λ _. loaded }
 
-  pub all-read : length f ≤ at → (next : Next) → next ≡ record { more = false; answer = Accepted; step = noStep; n = n; at = at }
+  pub all-read : length f ≤ at → (next : Next) → next ≡ record { more = false; answer = Accepted; step = noStep; n = n; at = 0 }
       → NextRead f states steps n next
   all-read over =
       let whole : stepsAt 512 f states 2 ≡ accepted (b .done) = b .rest ∙ rw (steps-end f states at (512 - n) over, append-nil (b .done)) in
@@ -96,7 +95,7 @@ module _ {f : List ℕ} {states : ℕ} {steps : List Step} {n at : ℕ} (b : Beg
 
   pub step-refused : at < length f → (found : StepRead) → found ≡ stepRead (stepAt f states at (512 - n))
       → {number place : ℕ} → found ≡ StepRead′.Refused number place → (a : Answer) → a ≡ stepAnswer found
-      → (next : Next) → next ≡ record { more = false; answer = a; step = noStep; n = n; at = at } → NextRead f states steps n next
+      → (next : Next) → next ≡ record { more = false; answer = a; step = noStep; n = n; at = 0 } → NextRead f states steps n next
   step-refused inside found is {number} {place} e a is-a =
       let here : stepAt f states at (512 - n) ≡ refused number place = no-step-found _ (sym e ∙ is) in
       let whole : stepsAt 512 f states 2 ≡ refused number place = b .rest ∙ rw (one-refused f states at (512 - n) inside here) in
@@ -108,7 +107,7 @@ module _ {f : List ℕ} {states : ℕ} {steps : List Step} {n at : ℕ} (b : Beg
       let some-left = step-fits f states at (512 - n) x (b .are-bytes) inside e .some-left in
       record {
         number-is = refl;
-        one-more = λ _. (omega arith, one-begun x inside some-left e);
+        one-more = λ _. one-begun x inside some-left e;
         ended = λ e. absurd (let z : _≡_ {A = ℕ} 0 1 = cc in omega arith);
       }
 

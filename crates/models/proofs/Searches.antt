@@ -50,7 +50,7 @@ module _ {steps : List Step} {l : Links} {table : List ℕ} (searchable : Search
 
     module _ {r : Cursor} (next : NextPair (l .last) pairs turn found r) where
       past : Explored steps l table seen pairs found (r .turn)
-      past = explored-past (r .turn) (next .from) (next .passed)
+      past = explored-past (r .turn) (next .not-before) (next .passed)
 
       few : Dec (0 < r .step) → r .step ≤ 512
       few (yes h) = omega (arith, next .begins h .2, searchable .links-range .last-range (r .pair % 64))

@@ -2,7 +2,7 @@
 use mathlib.Core.Path.{_≡_}
 use mathlib.Core.Bool.{true, false}
 use mathlib.Core.List.{List, _++_}
-use Prim.Native.Nat.{ℕ, _+_, _-_, _≤_, _<_}
+use Prim.Native.Nat.{ℕ, _+_, _-_, _≤_}
 use lib.ListN.{length, set}
 use Rattle.reading.specs.Rule.{Bytes}
 use Rattle.reading.specs.Outcome.{Outcome, accepted, refused, andThen}
@@ -10,11 +10,11 @@ use Rattle.reading.specs.Numbered.{padded}
 use Rattle.reading.specs.declared.Answer.{Answer}
 use Rattle.reading.specs.declared.Answer.the-variants.{Accepted, Refused}
 use Rattle.models.specs.Phone.{noStep}
-use Rattle.models.specs.File.{statesOf, stepsAt}
+use Rattle.models.specs.File.{stepsAt}
 use Rattle.models.specs.declared.Step.{Step}
 use Rattle.models.specs.declared.loading.Next.{Next}
 
--- the steps of a file, some of which are read
+-- an outcome's steps, after those that are read
 abbrev pub prepend : List Step → Outcome (List Step) → Outcome (List Step)
 prepend done o = andThen o (λ more. accepted (done ++ more))
 
@@ -25,10 +25,9 @@ pub record Begun (f : List ℕ) (states : ℕ) (steps : List Step) (n at : ℕ) 
   pub few : n ≤ 512
   pub stored : steps ≡ padded 512 noStep done
   pub are-bytes : Bytes f
-  pub states-are : statesOf f ≡ accepted states
   pub rest : stepsAt 512 f states 2 ≡ prepend done (stepsAt (512 - n) f states at)
 
--- the answer to an outcome, with its steps in 512 records and their count
+-- the answer to an outcome, with its steps in 512 records and their count; of a refusal the answer alone
 abbrev pub LoadedAs : Outcome (List Step) → (steps : List Step) (answer : Answer) (n : ℕ) → Type 0
 LoadedAs (accepted xs) steps answer n = (answer ≡ Accepted) × (steps ≡ padded 512 noStep xs) × (n ≡ length xs)
 LoadedAs (refused number place) steps answer n = answer ≡ Refused number place
@@ -36,5 +35,5 @@ LoadedAs (refused number place) steps answer n = answer ≡ Refused number place
 -- what comes after n steps: one more, or the end
 pub record NextRead (f : List ℕ) (states : ℕ) (steps : List Step) (n : ℕ) (next : Next) : Type 0 where
   pub number-is : next .n ≡ n
-  pub one-more : next .more ≡ true → (n < 512) × Begun f states (set steps n (next .step)) (n + 1) (next .at)
+  pub one-more : next .more ≡ true → Begun f states (set steps n (next .step)) (n + 1) (next .at)
   pub ended : next .more ≡ false → LoadedAs (stepsAt 512 f states 2) steps (next .answer) n

@@ -13,15 +13,15 @@ use Rattle.models.specs.declared.Step.{Step}
 use Rattle.models.specs.declared.links.Links.{Links}
 use Rattle.models.specs.declared.exploring.Cursor.{Cursor}
 
--- How much may still be followed: the steps of the pair whose turn it is, and 513 for that pair and each that may come after it.
+-- A bound on the steps that may still be followed: those left of the pair whose turn it is, and 512 for it and each that may come after it.
 abbrev pub remaining : Cursor → ℕ
-remaining at = 513 * (8192 - at .turn) + at .step
+remaining at = 512 * (8192 - at .turn) + at .step
 
 -- the first of the pairs from `turn` on whose state has a step; the end where none has
 pub record NextPair (last pairs : List ℕ) (turn found : ℕ) (r : Cursor) : Type 0 where
   pub same-found : r .found ≡ found
   pub none-dropped : r .dropped ≡ false
-  pub from : turn ≤ r .turn
+  pub not-before : turn ≤ r .turn
   pub passed : (k : ℕ) → turn ≤ k → k < r .turn → getD last (getD pairs k 0 % 64) 0 ≡ 0
   pub begins : 0 < r .step → (r .turn < found) × (r .pair ≡ getD pairs (r .turn) 0) × (r .step ≡ getD last (r .pair % 64) 0)
   pub ends : r .step ≡ 0 → r .turn ≡ found
@@ -52,7 +52,7 @@ module _ (steps : List Step) (l : Links) (table : List ℕ) where
     pub reached : (y : Phone) → OfPhone steps l y → (p : ℕ) → Seen seen p → ReachedPair table y p
     pub complete : (k : ℕ) → k < n → Complete seen (getD pairs k 0)
 
-  -- The pair whose turn it is has been expanded up to a step. The lists and the count with a ₀ are those of when its turn came.
+  -- The pair whose turn it is has been expanded up to a step. The lists and the count with a ₀ are those at the beginning of its turn.
   pub record Expanding (seen pairs : List ℕ) (at : Cursor) : Type 0 where
     pub seen₀ : List ℕ
     pub pairs₀ : List ℕ

@@ -15,11 +15,11 @@ ghost use Rattle.synthesis.specs.Table.{rowOf, entry};
 ghost use Rattle.running.specs.Running.{WellFormedTable};
 ghost use Rattle.models.specs.Phone.{Phone, noStep, modelOf};
 ghost use Rattle.models.specs.Judging.{stored};
-ghost use Rattle.models.specs.Exploring.{NeverDrops, HasPhone, LinksInRange, linksOf, Worklist, Noted, leadsTo};
+ghost use Rattle.models.specs.Exploring.{NeverDrops, HasPhone, linksOf, Worklist, Noted, leadsTo};
 ghost use Rattle.models.specs.Searching.{Searching, Searched, remaining, NextPair};
 
-// Where the search is: how many pairs have been found, the place and the pair that is being expanded, one more than the number of the step
-// of it that comes next, or 0 at the end, and whether a step was dropped.
+// Where the search is. found: how many pairs have been found. turn, pair: the place in the list, and the pair, that is being expanded. step:
+// one more than the number of the step that comes next; 0 at the end. dropped: whether a step was dropped.
 struct Cursor {
     found: usize,
     turn: usize,
@@ -52,7 +52,7 @@ fn equation_after(table: &[u8], equation: usize, label: u16) -> usize
     table[256 * equation + label as usize] as usize
 }
 
-// The first pair from `turn` on that has a step.
+// The first pair from `turn` on that has a step; the end where none has.
 fn next_pair(last: &[u16], pairs: &[u16], turn: usize, found: usize) -> Cursor
     requires { ⌜ (length (now last) ≡ 64) × (length (now pairs) ≡ 8192) × (turn ≤ found) × (found ≤ 8192) ⌝ }
     ensures { λ r. ⌜ NextPair (now (last .entry)) (now (pairs .entry)) turn found r ⌝ }
@@ -81,6 +81,19 @@ fn next_pair(last: &[u16], pairs: &[u16], turn: usize, found: usize) -> Cursor
     }
 }
 
+// The end of a search at which a step is dropped.
+fn stopped(at: Cursor) -> Cursor
+    ensures { λ r. ⌜ r ≡ record { found = at .found; turn = at .turn; pair = at .pair; step = 0; dropped = true } ⌝ }
+{
+    Cursor {
+        found: at.found,
+        turn: at.turn,
+        pair: at.pair,
+        step: 0,
+        dropped: true,
+    }
+}
+
 // Follows the step that comes next, beside the equation of its pair, and says where the search is then.
 fn follow(
     at: Cursor,
@@ -104,13 +117,7 @@ fn follow(
     let equation = pair / 64;
     let next = equation_after(table, equation, step.label);
     if next == DROPPED as usize {
-        return Cursor {
-            found: at.found,
-            turn,
-            pair,
-            step: 0,
-            dropped: true,
-        };
+        return stopped(at);
     }
     let found = note(seen, pairs, at.found, 64 * next + step.to as usize);
     let here = at.step - 1;

@@ -11,9 +11,9 @@ ghost use mathlib.Core.List.{List};
 ghost use Rattle.models.specs.Phone.{noStep};
 ghost use Rattle.models.specs.File.{stepsAt};
 ghost use Rattle.models.specs.Loading.{Begun, NextRead, LoadedAs};
-ghost use Rattle.models.specs.declared.Step.{Step};
 
-// What comes next in a file: the step with number n, and where the record after it begins; or, where no more is read, the answer and the count.
+// What comes next in a file: the step with number n, and where the record after it begins; or, where no more is read, the answer and the
+// count.
 pub(crate) struct Next {
     more: bool,
     answer: Answer,
@@ -30,8 +30,8 @@ pub(crate) struct Listed {
 }
 
 // No more is read.
-fn ended(answer: Answer, n: usize, at: usize) -> Next
-    ensures { λ r. ⌜ r ≡ record { more = false; answer = answer; step = noStep; n = n; at = at } ⌝ }
+fn ended(answer: Answer, n: usize) -> Next
+    ensures { λ r. ⌜ r ≡ record { more = false; answer = answer; step = noStep; n = n; at = 0 } ⌝ }
 {
     let step = no_step();
     Next {
@@ -39,7 +39,7 @@ fn ended(answer: Answer, n: usize, at: usize) -> Next
         answer,
         step,
         n,
-        at,
+        at: 0,
     }
 }
 
@@ -49,11 +49,11 @@ fn next_step(bytes: &[u8], states: usize, n: usize, at: usize) -> Next
     ensures { λ r. ⌜ ((steps : List Step) → Begun (now (bytes .entry)) states steps n at → NextRead (now (bytes .entry)) states steps n r) ⌝ }
 {
     if bytes.len() <= at {
-        return ended(Answer::Accepted, n, at);
+        return ended(Answer::Accepted, n);
     }
     let found = records::read_step(bytes, states, at, 512 - n);
     let StepRead::Read(step) = found else {
-        return ended(records::step_answer(found), n, at);
+        return ended(records::step_answer(found), n);
     };
     let size = records::record_length(step);
     Next {

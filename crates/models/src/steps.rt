@@ -1,4 +1,4 @@
-// The step records of a model, and those of a lent slice.
+// The blank step record, and the records of a lent slice, taken and put.
 use crate::Step;
 ghost use mathlib.Core.Path.{_≡_};
 ghost use Prim.Native.Nat.{_<_};

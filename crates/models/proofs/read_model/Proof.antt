@@ -54,7 +54,7 @@ read-list-requires c κs =
     let known = k .before .before .before .before .shared-slice-known .given in
     let bytes = all-of (λ b. b < 256) (f k) 0 (λ i h. omega (arith, known i)) in
     subst (λ (b : PhoneModel). Begun (f k) (states k) (b .steps) 0 2) (sym (c .before .blank-model .ensures))
-    (none-begun (f k) _ bytes (states-are k))
+    (none-begun (f k) _ bytes)
 
 enum-told-2 : tie.Need-enum-told-2
 enum-told-2 c = search needs

@@ -1,14 +1,15 @@
 -- `exploring::follow` meets its contract. What it asks for holds of some records; what it says holds of all records.
 use Prim.Native.Nat.{_/_, _-_, _<_}
-use mathlib.Core.Path.{_≡_, refl}
+use mathlib.Core.Path.{_≡_, refl, sym, subst}
 use mathlib.Core.List.{List}
 use native.Mathlib.Omega.{arith}
 use lib.ListN.{getD}
 use borrow.Author.Needs.{needs}
 use Rattle.models.specs.Phone.{noStep}
 use Rattle.models.specs.Exploring.{leadsTo, linksOf}
-use Rattle.models.specs.Searching.{rowAt, Searching}
+use Rattle.models.specs.Searching.{remaining, rowAt, Searching}
 use Rattle.models.specs.declared.Step.{Step}
+use Rattle.models.specs.declared.exploring.Cursor.{Cursor}
 use Rattle.models.proofs.FoundPairs.{found-few}
 use Rattle.models.proofs.Searches.{turn-inside, turn-before, worklist, row-inside, label-inside, target-inside, next-inside}
 use Rattle.models.proofs.Searches.{followed-dropped, followed-on, followed-next}
@@ -39,10 +40,17 @@ equation-after-requires c κs =
 cast-if1 : tie.Need-cast-if1
 cast-if1 c = search needs
 
+stopped-requires : tie.Need-stopped-requires
+stopped-requires c κs = search needs
+
 returns : tie.Need-returns
 returns c =
-    let p = first (c .before) .pre in
-    (λ steps s is. followed-dropped s (p .2) is (leads (c .before)) (c .if1 .taken), omega (arith, p .2))
+    let t = c .before in
+    let x = first (t .before) in
+    let e = sym (c .stopped .ensures) in (
+      λ steps s is. subst (Searching steps _ _ _ _) e (followed-dropped s (x .pre .2) is (leads (t .before)) (t .if1 .taken)),
+      subst (λ (r : Cursor). remaining r < remaining (x .args .at)) e (omega (arith, x .pre .2)),
+    )
 
 mul-note : tie.Need-mul-note
 mul-note c = omega (arith, inside (c .before .before))
@@ -125,7 +133,7 @@ ended c steps s is =
 returns-3 : tie.Need-returns-3
 returns-3 c =
     let p = begun c .pre in
-    (ended c, omega (arith, c .next-pair .ensures .from, ended c (p .0) (p .1) (p .3) .step-inside, turn-inside (p .1) (p .2)))
+    (ended c, omega (arith, c .next-pair .ensures .not-before, ended c (p .0) (p .1) (p .3) .step-inside, turn-inside (p .1) (p .2)))
 
 pub follow-spec : {M : Type 1} → statement M
 follow-spec =
@@ -133,6 +141,7 @@ follow-spec =
     (tie.spec
     equation-after-requires
     cast-if1
+    stopped-requires
     returns
     mul-note
     cast-note

@@ -43,7 +43,7 @@ returns c =
     record {
       same-found = refl;
       none-dropped = refl;
-      from = l .loop .inv .0;
+      not-before = l .loop .inv .0;
       passed = l .loop .inv .2;
       begins = λ h. (c .before .before .before .loop-test .taken, refl, refl);
       ends = λ z. absurd (omega (arith, c .if1 .taken));
@@ -73,7 +73,7 @@ returns-2 c =
     record {
       same-found = refl;
       none-dropped = refl;
-      from = l .loop .inv .0;
+      not-before = l .loop .inv .0;
       passed = l .loop .inv .2;
       begins = λ h. absurd (omega arith);
       ends = λ z. omega (arith, l .loop .inv .1, c .loop-test .left);

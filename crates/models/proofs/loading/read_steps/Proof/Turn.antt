@@ -128,10 +128,9 @@ module _ {M : Type 1} (𝓤 : URA M) (H : Heap 𝓤) (A : Atoms 𝓤) (W : Given
           (init ! 5 refl (tt, tt)) $
           tests ! (load ! (from ! (stop !)) (look ! 5 refl))
           (λ h.
-          let more = t .read .one-more (is-true (x .more) h) in
-          let begun = more .1 in
-          let inside : x .n < length ys = omega (arith, more .0, begun-length begun, same) in
-          let one-fits : x .n + 1 < 2 ^ 64 = omega (arith, more .0) in
+          let begun = t .read .one-more (is-true (x .more) h) in
+          let inside : x .n < length ys = omega (arith, begun .few, begun-length begun, same) in
+          let one-fits : x .n + 1 < 2 ^ 64 = omega (arith, begun .few) in
           -- the slice is lent again, for a lifetime of its own
           assigns ! (addr ! (from ! (fld ! refl (hop ! (look-in ! 13 (sub ! 0 refl (whole !))) (stop !))))) (from ! (stop !))
           (init ! 7 refl (tt, tt)) $
@@ -170,5 +169,5 @@ module _ {M : Type 1} (𝓤 : URA M) (H : Heap 𝓤) (A : Atoms 𝓤) (W : Given
           rewrite ! 4 (λ (v : Val). ‵ (fat fullShare nextTy l₄ 0 v)) (got .0) refl $
           forget ! 5 refl $ forget ! 6 refl $ forget ! 7 refl $ forget ! 8 refl $ forget ! 9 refl $ move ! (4 ∷ 0 ∷ 1 ∷ 3 ∷ 2 ∷ []) $
           let told = got .2 zs begun in
-          again ! Fewer Inv t (state f states count r zs (x .n + 1) (got .1) (same ∙ t .long) told) (omega (arith, more .0, told .number-is))))))))))
+          again ! Fewer Inv t (state f states count r zs (x .n + 1) (got .1) (same ∙ t .long) told) (omega (arith, begun .few, told .number-is))))))))))
           (λ h. forget ! 5 refl $ by ! (ends (is-false (x .more) h)))
