@@ -1,7 +1,7 @@
 -- A `&κ mut [T]` that its holder lends on for a call, at a lifetime ν made for the call, and has back when ν has ended.
---     OnLoan       what the holder keeps meanwhile: the claim on what is lent at ν, and its own borrow at κ, opened
---     lends-again  from the slice and the token of κ: the slice at ν, under a new name, and what is kept
---     comes-back   ν has ended, and the list is zs, as long as before: the slice at κ is had again, at zs, and the token
+--     OnLoan          what the holder keeps meanwhile: the claim on what is lent at ν, and its own borrow at κ, opened
+--     lends-again-at  from the slice and the token of κ: the slice at ν, under a new name, and what is kept
+--     comes-back-at   ν has ended, and the list is zs, as long as before: the slice at κ is had again, at zs, and the token
 -- Assumes `Given`.
 use mathlib.Core.Path.{_≡_, sym, _∙_, ap, subst}
 use Prim.Native.Nat.{ℕ}
@@ -37,7 +37,7 @@ module _ (R : RattleType) (κ ν : Lft) (q : Share) (γ : GName) (b o : ℕ) whe
     abbrev vals : List Val
     vals = sliceVal (b, o) (length ys) ∷ []
 
-    pub lends-again : ent 𝓤 (sep 𝓤 (sem 𝓤 H A (MutSlice ℓ κ R .own (slice γ ys) vals)) (A .lft κ q))
+    lends-again : ent 𝓤 (sep 𝓤 (sem 𝓤 H A (MutSlice ℓ κ R .own (slice γ ys) vals)) (A .lft κ q))
         (H .⇛ (ex 𝓤 (λ (δ : GName). sep 𝓤 (sem 𝓤 H A (MutSlice ℓ′ ν R .own (slice δ ys) vals)) (sem 𝓤 H A (OnLoan δ ys)))))
     lends-again =
         qed W (‵ (MutSlice ℓ κ R .own (slice γ ys) vals) ∷ ‵ (flft κ q) ∷ []) ∵ updating ! $ fsplit ! $
@@ -49,7 +49,7 @@ module _ (R : RattleType) (κ ν : Lft) (q : Share) (γ : GName) (b o : ℕ) whe
         at-once ! $ show ! (λ (ε : GName). sep 𝓤 (sem 𝓤 H A (MutSlice ℓ′ ν R .own (slice ε ys) vals)) (sem 𝓤 H A (OnLoan ε ys))) δ $ frame ! $
         move ! (2 ∷ 3 ∷ []) $ fjoin ! $ move ! (2 ∷ 0 ∷ []) $ fjoin ! $ move ! (1 ∷ 0 ∷ []) $ fjoin ! $ done !))
 
-    pub comes-back : (δ : GName) (zs : List (R .Denot)) → Room R (length ys) → length zs ≡ length ys
+    comes-back : (δ : GName) (zs : List (R .Denot)) → Room R (length ys) → length zs ≡ length ys
         → ent 𝓤 (sep 𝓤 (A .dead ν) (sep 𝓤 (sem 𝓤 H A (OnLoan δ ys)) (sem 𝓤 H A (finally R δ zs))))
         (H .⇛ (sep 𝓤 (sem 𝓤 H A (MutSlice ℓ κ R .own (slice γ zs) vals)) (A .lft κ q)))
     comes-back δ zs room e =

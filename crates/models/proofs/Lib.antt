@@ -36,6 +36,10 @@ pub mod Judgment
 pub mod StepRows
 pub mod LentAgain
 pub mod Loop
+pub mod Landing
+pub mod Reborrowing
 pub mod Exits
+pub mod Meeting
 pub mod NextRow
+pub mod SearchSlices
 pub mod ReaderSlices

@@ -25,6 +25,6 @@ File κ b o γ f = ShrSlice (named 0) κ u8 .own (file b o γ f) (file-val b o f
 abbrev pub lent : (b o : ℕ) → GName → List Step → RefT (List Step)
 lent b o γ ys = record { ptr = (b, o); name = γ; now = ys }
 
--- the same where their number is `count`
+-- what the slice of them owns that is lent at κ; their number is `count`
 abbrev pub Lent : Lft → (b o : ℕ) → GName → (count : ℕ) → List Step → Fml
 Lent κ b o γ count ys = MutSlice (named 1) κ R .own (lent b o γ ys) (sliceVal (b, o) count ∷ [])

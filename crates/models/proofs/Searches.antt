@@ -56,7 +56,7 @@ module _ {steps : List Step} {l : Links} {table : List ℕ} (searchable : Search
       few (yes h) = omega (arith, next .begins h .2, searchable .links-range .last-range (r .pair % 64))
       few (no h) = omega arith
 
-      pub searching-next : Searching steps l table seen pairs r
+      searching-next : Searching steps l table seen pairs r
       searching-next = record {
         searchable = searchable;
         seen-length = explored .worklist .seen-length;
@@ -93,7 +93,7 @@ module _ {steps : List Step} {l : Links} {table seen pairs : List ℕ} {at : Cur
   so-far : UpTo listed (at .step) seen pairs (at .found)
   so-far = subst (λ (p : ℕ). UpTo p (at .step) seen pairs (at .found)) (here .pair-is) (here .expanded)
 
-  pub equation-inside : at .pair / 64 < s .searchable .count
+  equation-inside : at .pair / 64 < s .searchable .count
   equation-inside =
       rw (here .pair-is)
       (here .explored .inside _ (s .searchable .well-formed) _
@@ -185,7 +185,7 @@ module _ {steps : List Step} {l : Links} {table seen pairs : List ℕ} {at : Cur
 
 module _ {model : PhoneModel} {l : Links} {table : List ℕ} (has : HasPhone model) (ranges : LinksInRange l)
     (fits : (count : ℕ) × WellFormedTable 128 255 count table) where
-  pub stored-searchable : Searchable (model .steps) l table
+  stored-searchable : Searchable (model .steps) l table
   stored-searchable = record {
     steps-length = stored-length has;
     steps-range = stored-step has;

@@ -15,20 +15,20 @@ use contract.Lifetimes.{Lfts, Shares}
 use contract.Running.{givenOf, tables, tablesOf}
 use types.Kit.{Given, raw, ⋆, _$_, _∵_, !, qed, move, use1}
 use types.Run.{look, init, stop, from, load, of-opd, assigns, enter, alloc1, alloc0, params1, pass1, pass0}
-use sound.WpLaws.{WpFn-mono}
 use denote.RattleType.{flat}
 use denote.Laws.{Is}
 use denote.Builtin.{u8, u16}
 use denote.Slice.{Room, slice-vals, shr-slice-tells, mut-slice-tells}
 use denote.Signature.{plain, shrSliceOf, typesAt}
 use denote.Triple.Entry.{Args, onEntry}
-use denote.Triple.Spec.{Meets, tripleOf}
 use denote.Triple.Statement.{Triple}
-use denote.Triple.Table.{entered, cited}
-use denote.Triple.Walked.{needs, Walks, walked, goes-dropped, goes-slice, walk-meets}
+use denote.Triple.Table.{cited}
+use denote.Triple.Walked.{needs, goes-dropped, goes-slice}
 use denote.Exit.{yes}
 use Rattle.models.specs.Searching.{Searching}
+use Rattle.models.proofs.Meeting.{enters}
 use Rattle.models.proofs.StepRows as step
+use Rattle.models.proofs.SearchSlices.{Rooms, table, seen, pairs, links}
 use Rattle.models.proofs.steps.step_at.Symbol as step-at-def
 use Rattle.models.proofs.steps.step_at.Symbol.{name as #models·steps·step-at}
 use Rattle.models.proofs.steps.step_at.Met as step-at-thm
@@ -41,7 +41,7 @@ use Rattle.models.proofs.exploring.search.Statement as stated
 use Rattle.models.proofs.exploring.search.Code as code
 use Rattle.models.proofs.exploring.search.Proof.CursorRow as cursor
 use Rattle.models.proofs.exploring.search.Proof.Invariant as state
-use Rattle.models.proofs.exploring.search.Proof.Invariant.{State, steps, last, earlier, table, seen, pairs, links, vals, stayed}
+use Rattle.models.proofs.exploring.search.Proof.Invariant.{State, steps, vals, stayed}
 use Rattle.models.proofs.exploring.search.Proof.Calling.{StepAt, Follow}
 use Rattle.models.proofs.exploring.search.Proof.Turn as turn
 mod CursorRow
@@ -49,20 +49,15 @@ mod Invariant
 mod Calling
 mod Turn
 
--- every slice fits in memory
-abbrev Rooms : (κs : Lfts 6) → Args search.signature κs → Type 0
-Rooms κs a = Room step.R (length (steps κs a .now)) × Room u16 (length (last κs a .now)) × Room u16 (length (earlier κs a .now))
-    × Room u8 (length (table κs a .now)) × Room u8 (length (seen κs a .now)) × Room u16 (length (pairs κs a .now))
-
 module _ {M : Type 1} (𝓤 : URA M) (H : Heap 𝓤) (A : Atoms 𝓤) (W : Given 𝓤 H A) (mem : Memory → SProp 𝓤) (run : Routine → Fun 𝓤) (𝓣 : Tables 𝓤 H)
     (known-step-at : Triple 𝓤 (𝓣 .C #models·steps·step-at) (StepAt 𝓤 H A mem run))
     (known-follow : Triple 𝓤 (𝓣 .C #models·exploring·follow) (Follow 𝓤 H A mem run)) where
-  module _ (κs : Lfts 6) (qs : Shares 6) (a : Args search.signature κs) (rooms : Rooms κs a)
-      (from-is : Is cursor.R (state.from κs a) (cursor.vals (state.from κs a)))
-      (begun : Searching (steps κs a .now) (links κs a) (table κs a .now) (seen κs a .now) (pairs κs a .now) (state.from κs a)) where
+  module _ (κs : Lfts 6) (qs : Shares 6) (a : Args search.signature κs) (steps-room : Room step.R (length (steps κs a .now)))
+      (rooms : Rooms (a .1 .1)) (from-is : Is cursor.R (state.from κs a) (cursor.vals (state.from κs a)))
+      (begun : Searching (steps κs a .now) (links (a .1 .1)) (table (a .1 .1) .now) (seen (a .1 .1) .now) (pairs (a .1 .1) .now) (state.from κs a)) where
     -- where the loop begins
     abbrev start : State κs a
-    start = record { at = state.from κs a; marks = seen κs a .now; queue = pairs κs a .now; searching = begun; cursor-is = from-is }
+    start = record { at = state.from κs a; marks = seen (a .1 .1) .now; queue = pairs (a .1 .1) .now; searching = begun; cursor-is = from-is }
 
     walk : ent 𝓤 (onEntry 𝓤 H A search.signature κs qs a (vals κs a))
         (WpFn 𝓤 H (𝓣 .C) (𝓣 .Λ) code.function (flat (typesAt (search.signature .params) κs) (vals κs a)) (state.Post 𝓤 H A W mem run κs qs a))
@@ -72,73 +67,71 @@ module _ {M : Type 1} (𝓤 : URA M) (H : Heap 𝓤) (A : Atoms 𝓤) (W : Given
         alloc1 ! (λ l₀. alloc1 ! (λ l₁. alloc1 ! (λ l₂. alloc1 ! (λ l₃. alloc1 ! (λ l₄. alloc1 ! (λ l₅. alloc1 ! (λ l₆. alloc1 ! (λ l₇.
         alloc1 ! (λ l₈. alloc1 ! (λ l₉. alloc1 ! (λ l₁₀. alloc1 !
         (λ l₁₁. alloc1 ! (λ l₁₂. alloc1 ! (λ l₁₃. alloc1 ! (λ l₁₄. alloc1 ! (λ l₁₅. alloc0 ! $ params1 ! $
-        pass1 ! (init ! 28 refl (tt, (tt, (record { fits = rooms .0 .0 }, tt)))) $
+        pass1 ! (init ! 28 refl (tt, (tt, (record { fits = steps-room .0 }, tt)))) $
         pass1 ! (init ! 26 refl (cursor.typed 𝓤 H A W (state.from κs a) _ from-is)) $
-        pass1 ! (init ! 24 refl (tt, (tt, (record { fits = rooms .1 .0 }, tt)))) $
-        pass1 ! (init ! 22 refl (tt, (tt, (record { fits = rooms .2 .0 }, tt)))) $
-        pass1 ! (init ! 20 refl (tt, (tt, (record { fits = rooms .3 .0 }, tt)))) $
-        pass1 ! (init ! 18 refl (tt, (tt, (record { fits = rooms .4 .0 }, tt)))) $
-        pass1 ! (init ! 16 refl (tt, (tt, (record { fits = rooms .5 .0 }, tt)))) $ pass0 ! $
+        pass1 ! (init ! 24 refl (tt, (tt, (record { fits = rooms .last-room .0 }, tt)))) $
+        pass1 ! (init ! 22 refl (tt, (tt, (record { fits = rooms .earlier-room .0 }, tt)))) $
+        pass1 ! (init ! 20 refl (tt, (tt, (record { fits = rooms .table-room .0 }, tt)))) $
+        pass1 ! (init ! 18 refl (tt, (tt, (record { fits = rooms .seen-room .0 }, tt)))) $
+        pass1 ! (init ! 16 refl (tt, (tt, (record { fits = rooms .pairs-room .0 }, tt)))) $ pass0 ! $
         assigns ! (of-opd ! (load ! (from ! (stop !)) (look ! 26 refl))) (from ! (stop !))
         (init ! 14 refl (cursor.typed 𝓤 H A W (state.from κs a) _ from-is)) $
-        move ! (32 ∷ []) $ use1 W (raw (⋆ 𝓤 H A (state.Owned 𝓤 H A W mem run κs qs a (seen κs a .now) (pairs κs a .now))))
+        move ! (32 ∷ []) $ use1 W (raw (⋆ 𝓤 H A (state.Owned 𝓤 H A W mem run κs qs a (seen (a .1 .1) .now) (pairs (a .1 .1) .now))))
         (state.begins 𝓤 H A W mem run κs qs a) $
-        turn.loops-out 𝓤 H A W mem run κs qs a begun (rooms .4)
-        (rooms .5) l₀ l₁ l₂ l₃ l₄ l₅ l₆ l₇ l₈ l₉ l₁₀ l₁₁ l₁₂ l₁₃ l₁₄ l₁₅ 𝓣 known-step-at known-follow
+        turn.loops-out 𝓤 H A W mem run κs qs a begun (rooms .seen-room)
+        (rooms .pairs-room) l₀ l₁ l₂ l₃ l₄ l₅ l₆ l₇ l₈ l₉ l₁₀ l₁₁ l₁₂ l₁₃ l₁₄ l₁₅ 𝓣 known-step-at known-follow
         start))))))))))))))))
-
-  search-walks : Walks 𝓤 H A search.ended stayed (WpFn 𝓤 H (𝓣 .C) (𝓣 .Λ) code.function) (search.clauses 𝓤 H A mem run)
-  search-walks = walked 𝓤 H A search.ended stayed (search.clauses 𝓤 H A mem run) (WpFn 𝓤 H (𝓣 .C) (𝓣 .Λ) code.function)
-      (λ κs. (slice-vals, (cursor.vals, (slice-vals, (slice-vals, (slice-vals, (slice-vals, (slice-vals, tt))))))))
-      (λ κs. (
-        shr-slice-tells (named 0) (κs .0) step.R,
-        (
-          cursor.tells,
-          (
-            shr-slice-tells (named 1) (κs .1 .0) u16,
-            (
-              shr-slice-tells (named 2) (κs .1 .1 .0) u16,
-              (
-                shr-slice-tells (named 3) (κs .1 .1 .1 .0) u8,
-                (
-                  mut-slice-tells (named 4) (κs .1 .1 .1 .1 .0) u8,
-                  (mut-slice-tells (named 5) (κs .1 .1 .1 .1 .1 .0) u16, tt),
-                ),
-              ),
-            ),
-          ),
-        ),
-      ))
-      (λ κs qs bounds a g are. needs 𝓤 _ _ (walk κs qs a
-      (are .0 .0 .1, are .1 .1 .0 .0 .1, are .1 .1 .1 .0 .0 .1, are .1 .1 .1 .1 .0 .0 .1, are .1 .1 .1 .1 .1 .0 .0 .1, are .1 .1 .1 .1 .1 .1 .0 .0 .1)
-      (are .1 .0)))
-
-  search-meets : Meets 𝓤 H A search.signature (WpFn 𝓤 H (𝓣 .C) (𝓣 .Λ) code.function) (search.spec 𝓤 H A mem run)
-  search-meets = walk-meets 𝓤 H A search.ended stayed W (
-    goes-dropped 𝓤 H A W 6 (shrSliceOf (0 ∷ []) tt (plain (λ _. step.R))) yes (λ κs x f. refl),
-    (
-      goes-dropped 𝓤 H A W 6 (plain (λ _. cursor.R)) yes (λ κs x f. refl),
-      (
-        goes-dropped 𝓤 H A W 6 (shrSliceOf (1 ∷ []) tt (plain (λ _. u16))) yes (λ κs x f. refl),
-        (
-          goes-dropped 𝓤 H A W 6 (shrSliceOf (2 ∷ []) tt (plain (λ _. u16))) yes (λ κs x f. refl),
-          (
-            goes-dropped 𝓤 H A W 6 (shrSliceOf (3 ∷ []) tt (plain (λ _. u8))) yes (λ κs x f. refl),
-            (goes-slice 𝓤 H A W 6 4 tt (plain (λ _. u8)), (goes-slice 𝓤 H A W 6 5 tt (plain (λ _. u16)), tt)),
-          ),
-        ),
-      ),
-    ),
-  )
-      (search.clauses 𝓤 H A mem run) (WpFn 𝓤 H (𝓣 .C) (𝓣 .Λ) code.function) (WpFn-mono 𝓤 H (W .laws) 𝓣 code.function) search-walks
 
 pub search-spec : {M : Type 1} → stated.statement M
 unfolding code.routine tablesOf
 search-spec 𝓤 H 𝓜 𝓖 𝓡 =
-    entered 𝓤 H (tripleOf 𝓤 H (𝓖 .A) search.signature (search.spec 𝓤 H (𝓖 .A) (𝓜 .mem) (𝓡 .run)))
-    (tables 𝓤 H 𝓜 𝓡 code.env .C) (tables 𝓤 H 𝓜 𝓡 code.env .Λ) #models·exploring·search code.function (code.unfolded 𝓤 H 𝓜 𝓡)
-    (search-meets 𝓤 H (𝓖 .A) (givenOf 𝓤 H 𝓜 𝓖) (𝓜 .mem) (𝓡 .run) (tablesOf 𝓤 H 𝓜 (tables 𝓤 H 𝓜 𝓡 code.env))
+    let W = givenOf 𝓤 H 𝓜 𝓖 in
+    enters 𝓤 H 𝓜 𝓖 𝓡 search.ended stayed (search.clauses 𝓤 H (𝓖 .A) (𝓜 .mem) (𝓡 .run)) code.env #models·exploring·search code.function
+    (code.unfolded 𝓤 H 𝓜 𝓡)
+    (λ κs. (slice-vals, (cursor.vals, (slice-vals, (slice-vals, (slice-vals, (slice-vals, (slice-vals, tt)))))))) (
+      goes-dropped 𝓤 H (𝓖 .A) W 6 (shrSliceOf (0 ∷ []) tt (plain (λ _. step.R))) yes (λ κs x f. refl),
+      (
+        goes-dropped 𝓤 H (𝓖 .A) W 6 (plain (λ _. cursor.R)) yes (λ κs x f. refl),
+        (
+          goes-dropped 𝓤 H (𝓖 .A) W 6 (shrSliceOf (1 ∷ []) tt (plain (λ _. u16))) yes (λ κs x f. refl),
+          (
+            goes-dropped 𝓤 H (𝓖 .A) W 6 (shrSliceOf (2 ∷ []) tt (plain (λ _. u16))) yes (λ κs x f. refl),
+            (
+              goes-dropped 𝓤 H (𝓖 .A) W 6 (shrSliceOf (3 ∷ []) tt (plain (λ _. u8))) yes (λ κs x f. refl),
+              (goes-slice 𝓤 H (𝓖 .A) W 6 4 tt (plain (λ _. u8)), (goes-slice 𝓤 H (𝓖 .A) W 6 5 tt (plain (λ _. u16)), tt)),
+            ),
+          ),
+        ),
+      ),
+    )
+    (λ κs. (
+      shr-slice-tells (named 0) (κs .0) step.R,
+      (
+        cursor.tells,
+        (
+          shr-slice-tells (named 1) (κs .1 .0) u16,
+          (
+            shr-slice-tells (named 2) (κs .1 .1 .0) u16,
+            (
+              shr-slice-tells (named 3) (κs .1 .1 .1 .0) u8,
+              (
+                mut-slice-tells (named 4) (κs .1 .1 .1 .1 .0) u8,
+                (mut-slice-tells (named 5) (κs .1 .1 .1 .1 .1 .0) u16, tt),
+              ),
+            ),
+          ),
+        ),
+      ),
+    ))
+    (λ κs qs bounds a g are. needs 𝓤 _ _ (walk 𝓤 H (𝓖 .A) W (𝓜 .mem) (𝓡 .run) (tablesOf 𝓤 H 𝓜 (tables 𝓤 H 𝓜 𝓡 code.env))
     (cited 𝓤 H (StepAt 𝓤 H (𝓖 .A) (𝓜 .mem) (𝓡 .run)) 𝓜 𝓡 code.env #models·steps·step-at step-at-def.routine code.calls-models·steps·step-at
     (step-at-thm.met 𝓤 H 𝓜 𝓖 𝓡))
     (cited 𝓤 H (Follow 𝓤 H (𝓖 .A) (𝓜 .mem) (𝓡 .run)) 𝓜 𝓡 code.env #models·exploring·follow follow-def.routine code.calls-models·exploring·follow
-    (follow-thm.met 𝓤 H 𝓜 𝓖 𝓡)))
+    (follow-thm.met 𝓤 H 𝓜 𝓖 𝓡)) κs qs a
+    (are .0 .0 .1) (record {
+      last-room = are .1 .1 .0 .0 .1;
+      earlier-room = are .1 .1 .1 .0 .0 .1;
+      table-room = are .1 .1 .1 .1 .0 .0 .1;
+      seen-room = are .1 .1 .1 .1 .1 .0 .0 .1;
+      pairs-room = are .1 .1 .1 .1 .1 .1 .0 .0 .1;
+    }) (are .1 .0)))

@@ -13,15 +13,14 @@ use base.Logic.{SProp, ent}
 use base.Fml.{Lft, GName, Share, ftrue, fsep, fat, flft, fobs, fbor}
 use prog.Memory.{Memory}
 use prog.Routine.{Routine}
-use prog.Wp.{Heap, Calls, Loops, WpFn, Tables}
+use prog.Wp.{Heap, Calls, Loops, WpFn}
 use ghost.Atoms.{Atoms}
 use contract.Monad.{Fun}
-use contract.Running.{givenOf, tables, tablesOf}
+use contract.Running.{givenOf, tables}
 use types.Kit.{Given, Item, ‵, _⊛_, ⋆, _$_, _∵_, !, qed, by, use1, move, keep, drop, split, join, rewrite, fsplit, fjoin, feqI, suffices, frame, done}
 use types.Part.{whole, sub, look-in}
-use types.Run.{look, store, init, forget, stop, hop, fld, from, load, lit, unit-lit, of-opd, bin, assigns, returns}
-use types.Run.{enter, alloc1, alloc0, params1, pass1, pass0, free1, free0}
-use sound.WpLaws.{WpFn-mono}
+use types.Run.{look, store, init, stop, hop, fld, from, load, lit, unit-lit, of-opd, bin, assigns, returns}
+use types.Run.{enter, alloc1, alloc0, params1, pass1, pass0, free0}
 use denote.RattleType.{owns}
 use denote.Shadow.{pureI}
 use denote.Laws.{Is, shows}
@@ -35,12 +34,12 @@ use denote.Index.{place, place-is, elem-out, elem-put, opens-slice, closes-slice
 use denote.Signature.{plain}
 use denote.Steps.{nothing, owned}
 use denote.Triple.Entry.{Vals, onEntry}
-use denote.Triple.Spec.{Meets, tripleOf}
-use denote.Triple.Table.{entered}
-use denote.Triple.Walked.{says, needs, Stays, stay-slice, stay-none, walkOf, Walks, ends-at, walked, goes-slice, goes-none, walk-meets}
+use denote.Triple.Walked.{says, needs, Stays, stay-slice, stay-none, walkOf, ends-at, goes-slice, goes-none}
 use denote.Exit.{yes}
 use Rattle.models.specs.Phone.{noStep}
 use Rattle.models.specs.declared.Step.{Step}
+use Rattle.models.proofs.Exits.{frees-cell}
+use Rattle.models.proofs.Meeting.{enters}
 use Rattle.models.proofs.StepRows.{R, stepTy, low, vals, tells, makes, typed}
 use Rattle.models.proofs.steps.put_step.Key.{name as #put-step}
 use Rattle.models.proofs.steps.put_step as put-step
@@ -112,33 +111,20 @@ module _ {M : Type 1} (𝓤 : URA M) (H : Heap 𝓤) (A : Atoms 𝓤) (W : Given
         elem-put ! R fullShare ys i s (low s ∷ []) b o inside $ closes-slice ! tt R ys zs (length-set ys i s) b o $
         -- [obs; the borrow; the token; true; the slice's fact; i's and s's; _5; …; _0; …]
         assigns ! (of-opd ! (unit-lit !)) (from ! (stop !)) (init ! 16 refl (tt, tt)) $ returns ! (look ! 16 refl) $
-        forget ! 6 refl $ forget ! 8 refl $ forget ! 10 refl $ forget ! 12 refl $ forget ! 14 refl $ forget ! 16 refl $
-        move ! (16 ∷ 17 ∷ []) $ free1 ! $ move ! (14 ∷ 15 ∷ []) $ free1 ! $ move ! (12 ∷ 13 ∷ []) $ free1 ! $ move ! (10 ∷ 11 ∷ []) $ free1 ! $
-        move ! (8 ∷ 9 ∷ []) $ free1 ! $ move ! (6 ∷ 7 ∷ []) $ free1 ! $ free0 ! $ keep ! (0 ∷ 1 ∷ 2 ∷ 5 ∷ []) $ by ! (exits gn))))))))
-
-module _ {M : Type 1} (𝓤 : URA M) (H : Heap 𝓤) (A : Atoms 𝓤) (W : Given 𝓤 H A) (mem : Memory → SProp 𝓤) (run : Routine → Fun 𝓤) where
-  put-step-walks : (C : Calls 𝓤 H) (Λ : Loops 𝓤 H)
-      → Walks 𝓤 H A put-step.ended stayed (WpFn 𝓤 H C Λ code.function) (put-step.clauses 𝓤 H A mem run)
-  put-step-walks C Λ =
-      walked 𝓤 H A put-step.ended stayed (put-step.clauses 𝓤 H A mem run) (WpFn 𝓤 H C Λ code.function)
-      (λ κs. (slice-vals, (uint-vals w64, (vals, tt)))) (λ κs. (mut-slice-tells (named 0) (κs .0) R, (uint-tells w64, (tells, tt))))
-      (λ κs qs bounds a g are. needs 𝓤 _ _
-      (walk 𝓤 H A W mem run (κs .0) (qs .0) (a .0 .ptr .0) (a .0 .ptr .1) (a .0 .name) (a .0 .now) (a .1 .0) (a .1 .1 .0) C Λ
-      (are .0 .0 .1) (are .1 .0 .1) (are .1 .1 .0)))
-
-  put-step-meets : (𝓣 : Tables 𝓤 H)
-      → Meets 𝓤 H A put-step.signature (WpFn 𝓤 H (𝓣 .C) (𝓣 .Λ) code.function) (put-step.spec 𝓤 H A mem run)
-  put-step-meets 𝓣 =
-      walk-meets 𝓤 H A put-step.ended stayed W (
-        goes-slice 𝓤 H A W 1 0 tt (plain (λ _. R)),
-        (goes-none 𝓤 H A W 1 (λ _. usize) yes (λ κs x f. refl), (goes-none 𝓤 H A W 1 (λ _. R) yes (λ κs x f. refl), tt)),
-      )
-      (put-step.clauses 𝓤 H A mem run) (WpFn 𝓤 H (𝓣 .C) (𝓣 .Λ) code.function) (WpFn-mono 𝓤 H (W .laws) 𝓣 code.function)
-      (put-step-walks (𝓣 .C) (𝓣 .Λ))
+        frees-cell ! 16 16 refl refl $ frees-cell ! 14 14 refl refl $ frees-cell ! 12 12 refl refl $ frees-cell ! 10 10 refl refl $
+        frees-cell ! 8 8 refl refl $ frees-cell ! 6 6 refl refl $ free0 ! $ keep ! (0 ∷ 1 ∷ 2 ∷ 5 ∷ []) $ by ! (exits gn))))))))
 
 pub put-step-spec : {M : Type 1} → stated.statement M
-unfolding code.routine tablesOf
+unfolding code.routine
 put-step-spec 𝓤 H 𝓜 𝓖 𝓡 =
-    entered 𝓤 H (tripleOf 𝓤 H (𝓖 .A) put-step.signature (put-step.spec 𝓤 H (𝓖 .A) (𝓜 .mem) (𝓡 .run)))
-    (tables 𝓤 H 𝓜 𝓡 code.env .C) (tables 𝓤 H 𝓜 𝓡 code.env .Λ) #put-step code.function (code.unfolded 𝓤 H 𝓜 𝓡)
-    (put-step-meets 𝓤 H (𝓖 .A) (givenOf 𝓤 H 𝓜 𝓖) (𝓜 .mem) (𝓡 .run) (tablesOf 𝓤 H 𝓜 (tables 𝓤 H 𝓜 𝓡 code.env)))
+    let W = givenOf 𝓤 H 𝓜 𝓖 in
+    enters 𝓤 H 𝓜 𝓖 𝓡 put-step.ended stayed (put-step.clauses 𝓤 H (𝓖 .A) (𝓜 .mem) (𝓡 .run)) code.env #put-step code.function
+    (code.unfolded 𝓤 H 𝓜 𝓡)
+    (λ κs. (slice-vals, (uint-vals w64, (vals, tt)))) (
+      goes-slice 𝓤 H (𝓖 .A) W 1 0 tt (plain (λ _. R)),
+      (goes-none 𝓤 H (𝓖 .A) W 1 (λ _. usize) yes (λ κs x f. refl), (goes-none 𝓤 H (𝓖 .A) W 1 (λ _. R) yes (λ κs x f. refl), tt)),
+    )
+    (λ κs. (mut-slice-tells (named 0) (κs .0) R, (uint-tells w64, (tells, tt))))
+    (λ κs qs bounds a g are. needs 𝓤 _ _
+    (walk 𝓤 H (𝓖 .A) W (𝓜 .mem) (𝓡 .run) (κs .0) (qs .0) (a .0 .ptr .0) (a .0 .ptr .1) (a .0 .name) (a .0 .now) (a .1 .0) (a .1 .1 .0)
+    (tables 𝓤 H 𝓜 𝓡 code.env .C) (tables 𝓤 H 𝓜 𝓡 code.env .Λ) (are .0 .0 .1) (are .1 .0 .1) (are .1 .1 .0)))

@@ -28,7 +28,7 @@ use denote.Memory.{shares}
 use denote.Plain.{bool-lawful}
 use denote.Builtin.{bool, u8, u16}
 use denote.Ref.{RefT}
-use denote.Slice.{sliceVal, ShrSlice, MutSlice, Room, finally, slice-vals}
+use denote.Slice.{sliceVal, ShrSlice, MutSlice, finally}
 use denote.Lend.{lends-shr-slice}
 use denote.Signature.{plain, typesAt}
 use denote.Steps.{nothing, peeks, heard}
@@ -39,15 +39,13 @@ use denote.Triple.Spec.{tripleOf}
 use denote.Triple.Statement.{Contract}
 use denote.Triple.Walked.{says, Stays, stay-dropped, gave-slice, walkOf, ends-at}
 use denote.Exit.{yes}
-use Rattle.models.specs.Exploring.{linksOf}
 use Rattle.models.specs.Searching.{Searching, Searched}
 use Rattle.models.specs.declared.Step.{Step}
-use Rattle.models.specs.declared.links.Links.{Links}
-use Rattle.models.specs.declared.exploring.Cursor.{Cursor}
 use Rattle.models.proofs.Exits.{unsaid}
 use Rattle.models.proofs.StepRows as step
 use Rattle.models.proofs.exploring.Cursor as T
 use Rattle.models.proofs.exploring.Cursor.Laws as T′
+use Rattle.models.proofs.SearchSlices.{table, seen, pairs, links, slices-vals}
 use Rattle.models.proofs.exploring.search as search
 use Rattle.models.proofs.exploring.search_list as search-list
 
@@ -71,56 +69,17 @@ stayed = (
 )
 
 module _ (κs : Lfts 5) (a : Args search-list.signature κs) where
-  -- the parameters
   abbrev pub list : List Step
   list = a .0
 
-  abbrev pub cursor : Cursor
-  cursor = a .1 .0
-
-  abbrev pub last : RefT (List ℕ)
-  last = a .1 .1 .0
-
-  abbrev pub earlier : RefT (List ℕ)
-  earlier = a .1 .1 .1 .0
-
-  abbrev pub table : RefT (List ℕ)
-  table = a .1 .1 .1 .1 .0
-
-  abbrev pub seen : RefT (List ℕ)
-  seen = a .1 .1 .1 .1 .1 .0
-
-  abbrev pub pairs : RefT (List ℕ)
-  pairs = a .1 .1 .1 .1 .1 .1 .0
-
-  abbrev pub links : Links
-  links = linksOf (last .now) (earlier .now)
-
   abbrev pub vals : Vals search-list.signature κs
-  vals = (
-    step.array-low list ∷ [],
-    (
-      LL.vals T.the-type T′.the-laws cursor,
-      (slice-vals last, (slice-vals earlier, (slice-vals table, (slice-vals seen, (slice-vals pairs, tt))))),
-    ),
-  )
-
-  -- the array fits, as do the slices
-  pub record Fitting : Type 0 where
-    pub list-is : Is step.AR list (step.array-low list ∷ [])
-    pub list-length : length list ≡ 512
-    pub cursor-is : Is T.the-row cursor (LL.vals T.the-type T′.the-laws cursor)
-    pub last-room : Room u16 (length (last .now))
-    pub earlier-room : Room u16 (length (earlier .now))
-    pub table-room : Room u8 (length (table .now))
-    pub seen-room : Room u8 (length (seen .now))
-    pub pairs-room : Room u16 (length (pairs .now))
+  vals = (step.array-low list ∷ [], (LL.vals T.the-type T′.the-laws (a .1 .0), slices-vals (a .1 .1)))
 
   -- the array as a slice, where it lies at b
   abbrev lent : (b : ℕ) → GName → RefT (List Step)
   lent b γ = record { ptr = (b, 0); name = γ; now = list }
 
-  abbrev pub lentVal : (b : ℕ) → Val
+  abbrev lentVal : (b : ℕ) → Val
   lentVal b = sliceVal (b, 0) (length list)
 
 -- the lifetime and the name at which it is lent
@@ -159,8 +118,8 @@ module _ {M : Type 1} (𝓤 : URA M) (H : Heap 𝓤) (A : Atoms 𝓤) (W : Given
   abbrev pub to-search : (b : ℕ) → Loan → Search 𝓤 H A mem run .Ghost
   to-search b n = (((n .0 ∷ [], κs), (fullShare, qs), tt, (lent κs a b (n .1), a .1), (lentVal κs a b ∷ [], vals κs a .1)), tt)
 
-  module _ (begun : Searching (list κs a) (links κs a) (table κs a .now) (seen κs a .now) (pairs κs a .now) (cursor κs a))
-      (fitting : Fitting κs a) where
+  module _ (begun : Searching (list κs a) (links (a .1 .1)) (table (a .1 .1) .now) (seen (a .1 .1) .now) (pairs (a .1 .1) .now) (a .1 .0))
+      (long : length (list κs a) ≡ 512) where
     goes : (b : ℕ) (n : Loan) → ent 𝓤 (⋆ 𝓤 H A (‵ (flft (n .0 ∷ []) fullShare) ∷ Tokens ∷ ‵ (Slice b n) ∷ ‵ Others ∷ []))
         (Search 𝓤 H A mem run .pre (to-search b n))
     goes b n = qed W (‵ (flft (n .0 ∷ []) fullShare) ∷ Tokens ∷ ‵ (Slice b n) ∷ ‵ Others ∷ []) ∵ says ! begun $ join ! $ frame ! $ fjoin ! $ done !
@@ -171,22 +130,22 @@ module _ {M : Type 1} (𝓤 : URA M) (H : Heap 𝓤) (A : Atoms 𝓤) (W : Given
         qed W ((Tokens ⊛ ‵ (owns (typesAt (search-list.signature .params) κs) a (vals κs a))) ∷ ‵ (Cell b) ∷ []) ∵ updating ! $ split ! $
         move ! (1 ∷ []) $ fsplit ! $
         move ! (3 ∷ 0 ∷ []) $ use2 W (‵ (arr-parts (shares step.R) 512 .part fullShare (list κs a) b 0)) (step.lies 𝓤 H A W (list κs a) b) $
-        rewrite ! 0 (λ (m : ℕ). ‵ (arr-parts (shares step.R) m .part fullShare (list κs a) b 0)) (sym (fitting .list-length)) refl $
+        rewrite ! 0 (λ (m : ℕ). ‵ (arr-parts (shares step.R) m .part fullShare (list κs a) b 0)) (sym (long)) refl $
         lft-new ! tt (λ α. move ! (1 ∷ []) $
         use1 W (later (some (λ (γ : GName). ‵ (Slice b (α, γ)) ⊛ ‵ (Lent b (α, γ)))))
         (lends-shr-slice 𝓤 H A W step.R (named 0) (α ∷ []) fullShare (list κs a) b 0
-        (omega (arith, fitting .list-length), omega (arith, fitting .list-length))) $
+        (omega (arith, long), omega (arith, long))) $
         await ! tt $ pick ! (λ γ. split ! $ at-once ! $
         show ! (λ (n : Loan). sep 𝓤 (Search 𝓤 H A mem run .pre (to-search b n)) (sem 𝓤 H A (Lent b n))) (α, γ) $
         -- [the slice; lent; α; the others; the tokens]
         move ! (2 ∷ 4 ∷ 0 ∷ 3 ∷ []) $ group ! 4 $ use1 W (raw (Search 𝓤 H A mem run .pre (to-search b (α, γ)))) (goes b (α, γ)) $ frame ! $ done !))
 
-  exits : (z : Bool) (w : Val) (ms ps : List ℕ) → Searched (list κs a) (links κs a) (table κs a .now) z → length ms ≡ length (seen κs a .now)
-      → length ps ≡ length (pairs κs a .now)
-      → ent 𝓤 (⋆ 𝓤 H A (Tokens ∷ ‵ (finally u8 (seen κs a .name) ms) ∷ ‵ (finally u16 (pairs κs a .name) ps) ∷ ‵ (bool .own z (w ∷ [])) ∷ []))
+  exits : (z : Bool) (w : Val) (ms ps : List ℕ) → Searched (list κs a) (links (a .1 .1)) (table (a .1 .1) .now) z → length ms ≡ length (seen (a .1 .1) .now)
+      → length ps ≡ length (pairs (a .1 .1) .now)
+      → ent 𝓤 (⋆ 𝓤 H A (Tokens ∷ ‵ (finally u8 (seen (a .1 .1) .name) ms) ∷ ‵ (finally u16 (pairs (a .1 .1) .name) ps) ∷ ‵ (bool .own z (w ∷ [])) ∷ []))
       (Post w)
   exits z w ms ps e ms-length ps-length =
-      qed W (Tokens ∷ ‵ (finally u8 (seen κs a .name) ms) ∷ ‵ (finally u16 (pairs κs a .name) ps) ∷ ‵ (bool .own z (w ∷ [])) ∷ []) ∵
+      qed W (Tokens ∷ ‵ (finally u8 (seen (a .1 .1) .name) ms) ∷ ‵ (finally u16 (pairs (a .1 .1) .name) ps) ∷ ‵ (bool .own z (w ∷ [])) ∷ []) ∵
       suffices ! _ (ends-at 𝓤 H A search-list.ended stayed (search-list.clauses 𝓤 H A mem run) W ((κs, qs, tt, a, vals κs a), tt) w z
       (tt, (tt, (tt, (tt, (tt, (ms, (ps, tt))))))) (tt, (tt, (tt, (tt, (tt, (ms-length, (ps-length, tt)))))))) $ says ! e $ frame ! $
       nothing ! $ move ! (2 ∷ 0 ∷ []) $ fjoin ! $ move ! (1 ∷ 0 ∷ []) $ fjoin ! $ unsaid ! $ unsaid ! $ unsaid ! $ unsaid ! $ unsaid ! $ frame ! $
@@ -199,21 +158,21 @@ module _ {M : Type 1} (𝓤 : URA M) (H : Heap 𝓤) (A : Atoms 𝓤) (W : Given
   abbrev Got : (b : ℕ) → Loan → Val → Bool → Item 𝓤
   Got b n w z = ((‵ (flft (n .0 ∷ []) fullShare) ⊛ Tokens) ⊛ ‵ (bool .own z (w ∷ [])))
       ⊛ some (λ (ends : Ends b n). ‵ (lasts search.ended (n .0 ∷ [], κs) (lent κs a b (n .1), a .1) ends) ⊛ raw
-      (fact 𝓤 (Searched (list κs a) (links κs a) (table κs a .now) z)))
+      (fact 𝓤 (Searched (list κs a) (links (a .1 .1)) (table (a .1 .1) .now) z)))
 
-  pub returned : Fitting κs a → (b : ℕ) (n : Loan) (w : Val) → ent 𝓤 (sep 𝓤 (Search 𝓤 H A mem run .post (to-search b n) w) (sem 𝓤 H A (Lent b n)))
+  pub returned : length (list κs a) ≡ 512 → (b : ℕ) (n : Loan) (w : Val) → ent 𝓤 (sep 𝓤 (Search 𝓤 H A mem run .post (to-search b n) w) (sem 𝓤 H A (Lent b n)))
       (H .⇛ (guard 𝓤 (Holds (hasTy tyBool w) × WT w) (sep 𝓤 (sem 𝓤 H A (Cell b)) (Post w))))
-  returned fitting b n w =
+  returned long b n w =
       qed W (later (some (Got b n w)) ∷ ‵ (Lent b n) ∷ []) ∵ updating ! $ await ! tt $
       pick ! (λ z. split ! $ move ! (1 ∷ []) $ pick ! (λ ends. split ! $ move ! (1 ∷ []) $
-      heard ! (Searched (list κs a) (links κs a) (table κs a .now) z) (λ e.
+      heard ! (Searched (list κs a) (links (a .1 .1)) (table (a .1 .1) .now) z) (λ e.
       -- of the last values, those of both slices
       fsplit ! $ drop ! $ fsplit ! $ drop ! $ fsplit ! $ drop ! $ fsplit ! $ drop ! $ fsplit ! $ drop ! $ fsplit ! $ fsplit ! $ move ! (1 ∷ []) $
       feqL ! (λ ms-length.
       move ! (1 ∷ []) $ fsplit ! $ fsplit ! $ move ! (1 ∷ []) $ feqL ! (λ ps-length.
       -- [pairs' last; true; seen's last; the tokens and the result; lent]
       move ! (3 ∷ []) $ split ! $ split ! $ lft-end ! tt $ move ! (0 ∷ 6 ∷ []) $ lent-back ! tt $
-      rewrite ! 0 (λ (m : ℕ). ‵ (arr-parts (shares step.R) m .part fullShare (list κs a) b 0)) (fitting .list-length) refl $
+      rewrite ! 0 (λ (m : ℕ). ‵ (arr-parts (shares step.R) m .part fullShare (list κs a) b 0)) (long) refl $
       use1 W (‵ (Cell b)) (step.back 𝓤 H A W (list κs a) b) $ at-once ! $
       -- [the array; the tokens; the result; pairs' last; true; seen's last]
       move ! (2 ∷ []) $ peeks ! bool (Is bool) (shows 𝓤 H A bool) z (w ∷ []) (λ is. check ! (bool-lawful 𝓤 H A W .typed z _ is .0) $

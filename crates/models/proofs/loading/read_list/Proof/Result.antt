@@ -26,7 +26,7 @@ use Rattle.models.proofs.loading.Listed.Laws as T′
 abbrev pub L : RattleType
 L = T.the-row
 
-abbrev pub listedTy : Ty
+abbrev listedTy : Ty
 listedTy = T′.mir
 
 abbrev pub listed : Next → List Step → Listed
