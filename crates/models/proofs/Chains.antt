@@ -15,6 +15,10 @@ use Rattle.models.specs.Exploring.{lastFrom, Linked, OnChain, here, furt
 use Rattle.models.specs.declared.Step.{Step}
 use Rattle.models.specs.declared.links.Links.{Links}
 
+-- chain 0 is empty
+pub no-chain : {l : Links} {i : ℕ} → OnChain l 0 i → ⊥
+no-chain o = elim o [ ]
+
 -- a chain is its first step, and the chain before that
 pub chain-cases : {l : Links} {i j : ℕ} → OnChain l (suc j) i → (i ≡ j) ⊎ OnChain l (getD (l .earlier) j 0) i
 chain-cases here = inl refl
@@ -30,7 +34,7 @@ module _ (steps : List Step) (l : Links) (linked : Linked steps l) where
 
   chain-inside : (s n i : ℕ) → n ≤ length steps → OnChain l (lastFrom steps s n) i → (i < n) × (source i ≡ s)
   unfolding lastFrom
-  chain-inside s zero i h o = elim o [ ]
+  chain-inside s zero i h o = absurd (no-chain o)
   chain-inside s (suc n) i h o = on (eqb (source n) s) refl (chain-inside s n i (omega arith))
     where
       on : (b : Bool) → eqb (source n) s ≡ b → (OnChain l (lastFrom steps s n) i → (i < n) × (source i ≡ s))

@@ -17,7 +17,7 @@ use Rattle.models.specs.Exploring.{OnChain, Seen, Noted, Leaves, equatio
 use Rattle.models.specs.Searching.{OfPhone, rowAt, ReachedPair, Complete, Explored, Searched}
 use Rattle.models.specs.declared.Step.{Step}
 use Rattle.models.specs.declared.links.Links.{Links}
-use Rattle.models.proofs.Chains.{step-of, of-step}
+use Rattle.models.proofs.Chains.{no-chain, step-of, of-step}
 use Rattle.models.proofs.Leading.{leads-inside, row-in-range, stepsTo, stays, follows, is-dropped, reached-on, drops-one}
 
 module _ (steps : List Step) (l : Links) (table : List ℕ) (steps-range : (i : ℕ) → WellFormedStep 64 (getD steps i noStep)) where
@@ -93,7 +93,7 @@ module _ (steps : List Step) (l : Links) (table : List ℕ) (steps-range : (i : 
         where
           on : Done steps l (rowAt table pair) pair seen′ i ⊎ OnChain l 0 i → Done steps l (rowAt table pair) pair seen′ i
           on (inl d) = d
-          on (inr o) = elim o [ ]
+          on (inr o) = absurd (no-chain o)
 
       complete : (k : ℕ) → k < n + 1 → Complete steps l table seen′ (getD pairs′ k 0)
       complete k h = on (decLt k n)

@@ -19,7 +19,7 @@ use Rattle.models.specs.Readings.{statesRead, stepRead, statesAnswer, st
 use Rattle.models.specs.declared.Step.{Step}
 use Rattle.models.specs.declared.ModelReading.{ModelReading}
 use Rattle.models.specs.declared.loading.Next.{Next}
-use Rattle.models.specs.declared.loading.Listed.{Listed}
+use Rattle.models.specs.declared.loading.Loaded.{Loaded}
 use Rattle.models.specs.declared.records.StatesRead.{StatesRead}
 use Rattle.models.specs.declared.records.StatesRead.the-variants as StatesRead′
 use Rattle.models.specs.declared.records.StepRead.{StepRead}
@@ -134,16 +134,16 @@ module _ (states : ℕ) (steps : List Step) (n : ℕ) where
   handed-none (accepted xs) (e, _, _) = let z : _≡_ {A = ℕ} 0 1 = cc in absurd (omega arith)
   handed-none (refused number place) e = rw e
 
-module _ (f : List ℕ) {states : ℕ} (states-are : statesOf f ≡ accepted states) (l : Listed)
+module _ (f : List ℕ) {states : ℕ} (states-are : statesOf f ≡ accepted states) (l : Loaded)
     (loaded : LoadedAs (stepsAt 512 f states 2) (l .steps) (l .answer) (l .nsteps)) where
   then-steps : phoneOf f ≡ andThen (stepsAt 512 f states 2) (λ xs. accepted (record { states = states; steps = xs }))
   unfolding phoneOf
   then-steps = rw states-are
 
-  pub list-accepted : l .answer ≡ Accepted
+  pub loaded-accepted : l .answer ≡ Accepted
       → record { answer = l .answer; model = record { states = states; steps = l .steps; nsteps = l .nsteps } } ≡ modelReadingOf (phoneOf f)
-  list-accepted e = rw (e, then-steps) (handed-all states (l .steps) (l .nsteps) (stepsAt 512 f states 2) (rw e at loaded))
+  loaded-accepted e = rw (e, then-steps) (handed-all states (l .steps) (l .nsteps) (stepsAt 512 f states 2) (rw e at loaded))
 
-  pub list-refused : {number place : ℕ} → l .answer ≡ Refused number place
+  pub loaded-refused : {number place : ℕ} → l .answer ≡ Refused number place
       → (r : ModelReading) → r ≡ record { answer = l .answer; model = blank } → r ≡ modelReadingOf (phoneOf f)
-  list-refused e r is = is ∙ rw (e, then-steps) (handed-none states (l .steps) (l .nsteps) (stepsAt 512 f states 2) (rw e at loaded))
+  loaded-refused e r is = is ∙ rw (e, then-steps) (handed-none states (l .steps) (l .nsteps) (stepsAt 512 f states 2) (rw e at loaded))

@@ -1,4 +1,5 @@
--- The theory: walks and satisfaction, models behind monitors, model files, acceptance and judging.
+-- The theory: walks and satisfaction, models behind monitors, model files, acceptance and judging. From `StepRows` on, what the proofs by
+-- hand share.
 pub mod Walks
 pub mod SatisfactionLaws
 pub mod BisimulationLaws

@@ -1,4 +1,4 @@
--- The five slices that `search` and `search_list` take after the cursor.
+-- The five slices that `search` and `search_array` take after the cursor.
 --     last … pairs, links   each of them, and the links that two of them are
 --     slices-vals           their machine values
 --     Rooms                 each fits in memory

@@ -14,13 +14,14 @@ use Rattle.running.specs.Running.{WellFormedTable}
 use Rattle.models.specs.Phone.{Phone, noStep, modelOf}
 use Rattle.models.specs.Judging.{stored}
 use Rattle.models.specs.Exploring.{NeverDrops, HasPhone, Linked, LinksInRange}
-use Rattle.models.specs.Exploring.{OnChain, Worklist, Noted, leadsTo, equationAfter, ExpandedTo}
+use Rattle.models.specs.Exploring.{Worklist, Noted, leadsTo, equationAfter, ExpandedTo}
 use Rattle.models.specs.Searching.{NextPair, rowAt, Complete, Explored, Expanding, Searchable, Searched, Searching}
 use Rattle.models.specs.declared.Step.{Step}
 use Rattle.models.specs.declared.PhoneModel.{PhoneModel}
 use Rattle.models.specs.declared.links.Links.{Links}
 use Rattle.models.specs.declared.exploring.Cursor.{Cursor}
 use Rattle.models.proofs.FoundPairs.{found-few}
+use Rattle.models.proofs.Chains.{no-chain}
 use Rattle.models.proofs.LinkLaws.{stored-alike, stored-step, stored-length}
 use Rattle.models.proofs.Leading.{leads-inside, row-in-range}
 use Rattle.models.proofs.Expanding.{none-expanded, next-leaves, one-expanded}
@@ -41,12 +42,9 @@ module _ {steps : List Step} {l : Links} {table : List ℕ} (searchable : Search
       complete = λ k h. on k h (decLt k turn);
     }
       where
-        empty : {i : ℕ} → OnChain l 0 i → ⊥
-        empty o = elim o [ ]
-
         on : (k : ℕ) → k < n → Dec (k < turn) → Complete steps l table seen (getD pairs k 0)
         on k h (yes a) = explored .complete k a
-        on k h (no a) = λ i leaves. absurd (empty (rw (passed k (omega arith) h) at leaves))
+        on k h (no a) = λ i leaves. absurd (no-chain (rw (passed k (omega arith) h) at leaves))
 
     module _ {r : Cursor} (next : NextPair (l .last) pairs turn found r) where
       past : Explored steps l table seen pairs found (r .turn)
@@ -125,61 +123,60 @@ module _ {steps : List Step} {l : Links} {table seen pairs : List ℕ} {at : Cur
     pub target-inside : step .to < 64
     target-inside = rw is (s .searchable .steps-range (at .step - 1) .to)
 
-  -- and where it leads
-  module _ {step : Step} (is : step ≡ getD steps (at .step - 1) noStep) {next : ℕ}
-      (leads : next ≡ leadsTo (rowAt table (at .pair)) (at .pair / 64) (step .label)) where
-    leads-from : next ≡ equationAfter steps l (rowAt table listed) listed (at .step - 1)
-    leads-from = rw (here .pair-is, is) at leads
+    -- and where it leads
+    module _ {next : ℕ} (leads : next ≡ leadsTo (rowAt table (at .pair)) (at .pair / 64) (step .label)) where
+      leads-from : next ≡ equationAfter steps l (rowAt table listed) listed (at .step - 1)
+      leads-from = rw (here .pair-is, is) at leads
 
-    pub next-inside : (next ≡ 255 → ⊥) → next < 128
-    next-inside kept =
-        rw leads
-        (leads-inside (rowAt table (at .pair)) (at .pair / 64) (step .label) 128 row-range
-        (omega (arith, equation-inside, s .searchable .well-formed .few)) (label-inside is) (λ e. kept (leads ∙ e)))
+      pub next-inside : (next ≡ 255 → ⊥) → next < 128
+      next-inside kept =
+          rw leads
+          (leads-inside (rowAt table (at .pair)) (at .pair / 64) (step .label) 128 row-range
+          (omega (arith, equation-inside, s .searchable .well-formed .few)) label-inside (λ e. kept (leads ∙ e)))
 
-    pub followed-dropped : next ≡ 255
-        → Searching steps l table seen pairs (record { found = at .found; turn = at .turn; pair = at .pair; step = 0; dropped = true })
-    followed-dropped e = record {
-      searchable = s .searchable;
-      seen-length = s .seen-length;
-      pairs-length = s .pairs-length;
-      step-inside = omega arith;
-      expanding = λ h. absurd (omega arith);
-      ended = λ z. ends-dropped steps l table (s .searchable .steps-range) _ _ _ _ (here .explored) (here .more) _ (s .searchable .well-formed)
-          (at .step - 1) (next-leaves steps l _ _ _ _ _ _ (at .step - 1) (omega arith) _ _ _ so-far) (sym leads-from ∙ e);
-    }
-
-    module _ (kept : next ≡ 255 → ⊥) {seen′ pairs′ : List ℕ} {found′ left : ℕ}
-        (noted : Noted (64 * next + step .to) seen pairs (at .found) seen′ pairs′ found′)
-        (rest : left ≡ getD (l .earlier) (at .step - 1) 0) where
-      further : UpTo listed left seen′ pairs′ found′
-      further =
-          rw rest
-          (one-expanded steps l _ _ _ _ _ _ (at .step - 1) (omega arith) _ _ _ so-far _ _ _ next leads-from kept (rw is at noted))
-
-      pub followed-on : 0 < left
-          → Searching steps l table seen′ pairs′ (record { found = found′; turn = at .turn; pair = at .pair; step = left; dropped = false })
-      followed-on more = record {
+      pub followed-dropped : next ≡ 255
+          → Searching steps l table seen pairs (record { found = at .found; turn = at .turn; pair = at .pair; step = 0; dropped = true })
+      followed-dropped e = record {
         searchable = s .searchable;
-        seen-length = noted .grown .worklist .seen-length;
-        pairs-length = noted .grown .worklist .pairs-length;
-        step-inside = omega (arith, rest, s .searchable .links-range .earlier-range (at .step - 1), s .step-inside);
-        expanding = λ h. record {
-          seen₀ = here .seen₀;
-          pairs₀ = here .pairs₀;
-          found₀ = here .found₀;
-          explored = here .explored;
-          more = here .more;
-          pair-is = here .pair-is;
-          expanded = subst (λ (p : ℕ). UpTo p left seen′ pairs′ found′) (sym (here .pair-is)) further;
-        };
-        ended = λ z. absurd (omega arith);
+        seen-length = s .seen-length;
+        pairs-length = s .pairs-length;
+        step-inside = omega arith;
+        expanding = λ h. absurd (omega arith);
+        ended = λ z. ends-dropped steps l table (s .searchable .steps-range) _ _ _ _ (here .explored) (here .more) _ (s .searchable .well-formed)
+            (at .step - 1) (next-leaves steps l _ _ _ _ _ _ (at .step - 1) (omega arith) _ _ _ so-far) (sym leads-from ∙ e);
       }
 
-      pub followed-next : left ≡ 0 → {r : Cursor} → NextPair (l .last) pairs′ (at .turn + 1) found′ r → Searching steps l table seen′ pairs′ r
-      followed-next z next-pair =
-          searching-next (s .searchable)
-          (explored-more steps l table (s .searchable .steps-range) _ _ _ _ (here .explored) (here .more) _ _ _ (rw z at further)) next-pair
+      module _ (kept : next ≡ 255 → ⊥) {seen′ pairs′ : List ℕ} {found′ left : ℕ}
+          (noted : Noted (64 * next + step .to) seen pairs (at .found) seen′ pairs′ found′)
+          (rest : left ≡ getD (l .earlier) (at .step - 1) 0) where
+        further : UpTo listed left seen′ pairs′ found′
+        further =
+            rw rest
+            (one-expanded steps l _ _ _ _ _ _ (at .step - 1) (omega arith) _ _ _ so-far _ _ _ next leads-from kept (rw is at noted))
+
+        pub followed-on : 0 < left
+            → Searching steps l table seen′ pairs′ (record { found = found′; turn = at .turn; pair = at .pair; step = left; dropped = false })
+        followed-on more = record {
+          searchable = s .searchable;
+          seen-length = noted .grown .worklist .seen-length;
+          pairs-length = noted .grown .worklist .pairs-length;
+          step-inside = omega (arith, rest, s .searchable .links-range .earlier-range (at .step - 1), s .step-inside);
+          expanding = λ h. record {
+            seen₀ = here .seen₀;
+            pairs₀ = here .pairs₀;
+            found₀ = here .found₀;
+            explored = here .explored;
+            more = here .more;
+            pair-is = here .pair-is;
+            expanded = subst (λ (p : ℕ). UpTo p left seen′ pairs′ found′) (sym (here .pair-is)) further;
+          };
+          ended = λ z. absurd (omega arith);
+        }
+
+        pub followed-next : left ≡ 0 → {r : Cursor} → NextPair (l .last) pairs′ (at .turn + 1) found′ r → Searching steps l table seen′ pairs′ r
+        followed-next z next-pair =
+            searching-next (s .searchable)
+            (explored-more steps l table (s .searchable .steps-range) _ _ _ _ (here .explored) (here .more) _ _ _ (rw z at further)) next-pair
 
 -- ---- a search of a stored model
 

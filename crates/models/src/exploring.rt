@@ -163,8 +163,8 @@ fn search(
 }
 
 // The same over an array of steps, which it lends once.
-fn search_list(
-    list: [Step; 512],
+fn search_array(
+    steps: [Step; 512],
     from: Cursor,
     last: &[u16],
     earlier: &[u16],
@@ -172,10 +172,10 @@ fn search_list(
     seen: &mut [u8],
     pairs: &mut [u16],
 ) -> bool
-    requires { ⌜ Searching list (linksOf (now last) (now earlier)) (now table) (now seen) (now pairs) from ⌝ }
-    ensures { λ r. ⌜ Searched list (linksOf (now (last .entry)) (now (earlier .entry))) (now (table .entry)) r ⌝ }
+    requires { ⌜ Searching steps (linksOf (now last) (now earlier)) (now table) (now seen) (now pairs) from ⌝ }
+    ensures { λ r. ⌜ Searched steps (linksOf (now (last .entry)) (now (earlier .entry))) (now (table .entry)) r ⌝ }
 {
-    search(&list, from, last, earlier, table, seen, pairs)
+    search(&steps, from, last, earlier, table, seen, pairs)
 }
 
 // Whether no pair that is reached has a step that is dropped. Each pair is expanded once.
@@ -191,5 +191,5 @@ pub(crate) fn never_drops(model: PhoneModel, table: &[u8]) -> bool
     let mut pairs = [0u16; 8192];
     let found = note(&mut seen, &mut pairs, 0, 0);
     let from = next_pair(&last, &pairs, 0, found);
-    !search_list(steps, from, &last, &earlier, table, &mut seen, &mut pairs)
+    !search_array(steps, from, &last, &earlier, table, &mut seen, &mut pairs)
 }

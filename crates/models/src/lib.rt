@@ -75,16 +75,16 @@ pub fn read_model(bytes: &[u8]) -> ModelReading
         return refused(records::states_answer(first));
     };
     let blank = blank_model().steps;
-    let listed = loading::read_list(bytes, states, blank);
-    let answer = listed.answer;
+    let loaded = loading::read_array(bytes, states, blank);
+    let answer = loaded.answer;
     let Answer::Accepted = answer else {
         return refused(answer);
     };
-    let steps = listed.steps;
+    let steps = loaded.steps;
     let model = PhoneModel {
         states,
         steps,
-        nsteps: listed.nsteps,
+        nsteps: loaded.nsteps,
     };
     ModelReading { answer, model }
 }

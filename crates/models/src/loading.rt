@@ -23,7 +23,7 @@ pub(crate) struct Next {
 }
 
 // The steps that are read, the first nsteps of the array. They count only where the answer accepts.
-pub(crate) struct Listed {
+pub(crate) struct Loaded {
     pub(crate) answer: Answer,
     pub(crate) steps: [Step; 512],
     pub(crate) nsteps: usize,
@@ -79,13 +79,13 @@ fn read_steps(bytes: &[u8], states: usize, steps: &mut [Step]) -> Next
 }
 
 // The same into an array of blank records, which is lent once.
-pub(crate) fn read_list(bytes: &[u8], states: usize, blank: [Step; 512]) -> Listed
+pub(crate) fn read_array(bytes: &[u8], states: usize, blank: [Step; 512]) -> Loaded
     requires { ⌜ Begun (now bytes) states blank 0 2 ⌝ }
     ensures { λ r. ⌜ LoadedAs (stepsAt 512 (now (bytes .entry)) states 2) (r .steps) (r .answer) (r .nsteps) ⌝ }
 {
     let mut steps = blank;
     let end = read_steps(bytes, states, &mut steps);
-    Listed {
+    Loaded {
         answer: end.answer,
         steps,
         nsteps: end.n,

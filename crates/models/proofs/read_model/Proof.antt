@@ -9,7 +9,7 @@ use Rattle.reading.proofs.AllLaws.{all-of}
 use Rattle.models.specs.File.{statesOf}
 use Rattle.models.specs.Loading.{Begun}
 use Rattle.models.specs.declared.PhoneModel.{PhoneModel}
-use Rattle.models.proofs.FileWays.{states-found, none-begun, states-refused, list-accepted, list-refused}
+use Rattle.models.proofs.FileWays.{states-found, none-begun, states-refused, loaded-accepted, loaded-refused}
 use Rattle.models.proofs.read_model.Statement.{statement}
 use Rattle.models.proofs.read_model.Tie as tie
 
@@ -48,8 +48,8 @@ returns c =
 blank-model-requires : tie.Need-blank-model-requires
 blank-model-requires c κs = search needs
 
-read-list-requires : tie.Need-read-list-requires
-read-list-requires c κs =
+read-array-requires : tie.Need-read-array-requires
+read-array-requires c κs =
     let k = c .before .before in
     let known = k .before .before .before .before .shared-slice-known .given in
     let bytes = all-of (λ b. b < 256) (f k) 0 (λ i h. omega (arith, known i)) in
@@ -68,13 +68,13 @@ refused-requires-2 c κs = search needs
 returns-2 : tie.Need-returns-2
 returns-2 c =
     let l = c .before .before .before in
-    list-refused (f (l .before .before .before)) (states-are (l .before .before .before)) (l .read-list .result) (l .read-list .ensures)
+    loaded-refused (f (l .before .before .before)) (states-are (l .before .before .before)) (l .read-array .result) (l .read-array .ensures)
     (c .before .enum-told3 .given .1) _ (c .refused2 .ensures)
 
 returns-3 : tie.Need-returns-3
 returns-3 c =
     let l = c .before .before .before in
-    list-accepted (f (l .before .before .before)) (states-are (l .before .before .before)) (l .read-list .result) (l .read-list .ensures)
+    loaded-accepted (f (l .before .before .before)) (states-are (l .before .before .before)) (l .read-array .result) (l .read-array .ensures)
     (c .before .enum-told2 .given .1)
 
 pub read-model-spec : {M : Type 1} → statement M
@@ -88,7 +88,7 @@ read-model-spec =
     refused-requires
     returns
     blank-model-requires
-    read-list-requires
+    read-array-requires
     enum-told-2
     enum-told-3
     refused-requires-2

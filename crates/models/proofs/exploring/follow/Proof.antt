@@ -16,9 +16,13 @@ use Rattle.models.proofs.Searches.{followed-dropped, followed-on, follo
 use Rattle.models.proofs.exploring.follow.Statement.{statement}
 use Rattle.models.proofs.exploring.follow.Tie as tie
 
--- where the function starts, from the step's equation
+-- where the function starts, from the equation to which the step leads
 abbrev first : tie.After-equation-after → tie.Start
 first c = c .before .before .before .before .before .before
+
+-- and from the note of the pair to which it leads
+abbrev begun : tie.After-note → tie.Start
+begun n = first (n .before .before .before .before .before)
 
 -- where the step leads, by the row of the pair's equation
 leads : (c : tie.After-equation-after) → let x = first c .args in
@@ -77,7 +81,7 @@ shared-slice-read-left : tie.Need-shared-slice-read-left
 shared-slice-read-left c = search needs
 
 cast-left : tie.Need-cast-left
-cast-left c = omega (arith, c .shared-slice-known4 .given (c .before .before .before .before .before .before .before .before .before .before .before .before .before .before .before .before .before .args .at .step - 1))
+cast-left c = omega (arith, c .shared-slice-known4 .given (begun (c .before .before .before .before .before .before) .args .at .step - 1))
 
 same-length : tie.Need-same-length
 same-length c = search needs
@@ -95,12 +99,12 @@ returns-2 c =
     )
 
 add-next-pair : tie.Need-add-next-pair
-add-next-pair c = let p = c .before .before .before .before .before .before .before .before .before .before .before .before .before .before .before .before .before .before .before .pre in omega (arith, turn-inside (p .1) (p .2))
+add-next-pair c = let p = begun (c .before .before .before .before .before .before .before .before) .pre in omega (arith, turn-inside (p .1) (p .2))
 
 next-pair-requires : tie.Need-next-pair-requires
 next-pair-requires c κs =
     let n = c .before .before .before .before .before .before .before .before in
-    let p = c .before .before .before .before .before .before .before .before .before .before .before .before .before .before .before .before .before .before .before .pre in
+    let p = begun n .pre in
     let g = n .note .ensures .grown in (
       p .1 .searchable .links-range .last-length,
       g .worklist .pairs-length,
@@ -118,21 +122,18 @@ same-length-4 c = search needs
 abbrev noted : tie.After-next-pair → tie.After-note
 noted c = c .before .before .before .before .before .before .before .before .before
 
-abbrev begun : tie.After-next-pair → tie.Start
-begun c = first (noted c .before .before .before .before .before)
-
-ended : (c : tie.After-next-pair) → let x = begun c .args in let l = linksOf (x .last .now) (x .earlier .now) in
+ended : (c : tie.After-next-pair) → let x = begun (noted c) .args in let l = linksOf (x .last .now) (x .earlier .now) in
     (steps : List Step) → Searching steps l (x .table .now) (x .seen .now) (x .pairs .now) (x .at) → x .step ≡ getD steps (x .at .step - 1) noStep
     → Searching steps l (x .table .now) (noted c .note .last .0) (noted c .note .last .1 .0) (c .next-pair .result)
 ended c steps s is =
     let e = noted c .before .before .before .before in
-    let x = begun c .args in
+    let x = begun (noted c) .args in
     let none : getD (x .earlier .now) (x .at .step - 1) 0 ≡ 0 = omega (arith, c .before .before .if2 .left) in
-    followed-next s (begun c .pre .2) is (leads (e .before)) (e .if1 .left) (noted c .note .ensures) refl none (c .next-pair .ensures)
+    followed-next s (begun (noted c) .pre .2) is (leads (e .before)) (e .if1 .left) (noted c .note .ensures) refl none (c .next-pair .ensures)
 
 returns-3 : tie.Need-returns-3
 returns-3 c =
-    let p = begun c .pre in
+    let p = begun (noted c) .pre in
     (ended c, omega (arith, c .next-pair .ensures .not-before, ended c (p .0) (p .1) (p .3) .step-inside, turn-inside (p .1) (p .2)))
 
 pub follow-spec : {M : Type 1} → statement M

@@ -29,25 +29,25 @@ next-pair-requires c κs =
     let w = c .before .before .before .before .note .ensures .grown .worklist in
     (c .before .before .before .before .before .before .before .before .before .before .of-model .ensures .1 .last-length, w .pairs-length, omega arith, found-few _ _ _ w)
 
-slice-aggregate-search-list : tie.Need-slice-aggregate-search-list
-slice-aggregate-search-list c = search needs
+slice-aggregate-search-array : tie.Need-slice-aggregate-search-array
+slice-aggregate-search-array c = search needs
 
-slice-aggregate-search-list-2 : tie.Need-slice-aggregate-search-list-2
-slice-aggregate-search-list-2 c = search needs
+slice-aggregate-search-array-2 : tie.Need-slice-aggregate-search-array-2
+slice-aggregate-search-array-2 c = search needs
 
-slice-aggregate-search-list-3 : tie.Need-slice-aggregate-search-list-3
-slice-aggregate-search-list-3 c = search needs
+slice-aggregate-search-array-3 : tie.Need-slice-aggregate-search-array-3
+slice-aggregate-search-array-3 c = search needs
 
-slice-aggregate-search-list-4 : tie.Need-slice-aggregate-search-list-4
-slice-aggregate-search-list-4 c = search needs
+slice-aggregate-search-array-4 : tie.Need-slice-aggregate-search-array-4
+slice-aggregate-search-array-4 c = search needs
 
-search-list-requires : tie.Need-search-list-requires
-search-list-requires c κs =
+search-array-requires : tie.Need-search-array-requires
+search-array-requires c κs =
     let p = c .before .before .before .before .before .before .before .before .before .before .before .before .before .before .before .before .before .pre in
     searching-first (p .0) (c .before .before .before .before .before .before .before .before .before .before .before .before .before .before .before .of-model .ensures .1) (p .1) (c .before .before .before .before .before .before .before .before .before .note .ensures) (c .before .before .before .before .next-pair .ensures)
 
 returns : tie.Need-returns
-returns c y is = stored-searched _ _ _ _ (c .before .before .search-list .ensures) y is (c .before .before .before .before .before .before .before .before .before .before .before .before .before .before .before .before .before .before .of-model .ensures .0 y is)
+returns c y is = stored-searched _ _ _ _ (c .before .before .search-array .ensures) y is (c .before .before .before .before .before .before .before .before .before .before .before .before .before .before .before .before .before .before .of-model .ensures .0 y is)
 
 pub never-drops-spec : {M : Type 1} → statement M
 never-drops-spec =
@@ -60,9 +60,9 @@ never-drops-spec =
     slice-aggregate-next-pair
     slice-aggregate-next-pair-2
     next-pair-requires
-    slice-aggregate-search-list
-    slice-aggregate-search-list-2
-    slice-aggregate-search-list-3
-    slice-aggregate-search-list-4
-    search-list-requires
+    slice-aggregate-search-array
+    slice-aggregate-search-array-2
+    slice-aggregate-search-array-3
+    slice-aggregate-search-array-4
+    search-array-requires
     returns)

@@ -1,4 +1,4 @@
--- The result of `read_list`: the machine value of a `Listed` that is made of what was read, and that its row relates the two.
+-- The result of `read_array`: the machine value of a `Loaded` that is made of what was read, and that its row relates the two.
 use mathlib.Core.Path.{refl, _∙_}
 use mathlib.Core.List.{List, [], _∷_, map}
 use lib.Dec.{T as Holds}
@@ -16,12 +16,12 @@ use denote.Array.{each}
 use denote.Struct.Laws as LL
 use Rattle.models.specs.declared.Step.{Step}
 use Rattle.models.specs.declared.loading.Next.{Next}
-use Rattle.models.specs.declared.loading.Listed.{Listed}
+use Rattle.models.specs.declared.loading.Loaded.{Loaded}
 use Rattle.models.proofs.Step as Step′
 use Rattle.models.proofs.StepRows.{R, AR, array-low}
 use Rattle.models.proofs.NextRow.{IsNext, answer-low, answer-is, n-fits}
-use Rattle.models.proofs.loading.Listed as T
-use Rattle.models.proofs.loading.Listed.Laws as T′
+use Rattle.models.proofs.loading.Loaded as T
+use Rattle.models.proofs.loading.Loaded.Laws as T′
 
 abbrev pub L : RattleType
 L = T.the-row
@@ -29,7 +29,7 @@ L = T.the-row
 abbrev listedTy : Ty
 listedTy = T′.mir
 
-abbrev pub listed : Next → List Step → Listed
+abbrev pub listed : Next → List Step → Loaded
 listed x zs = record { answer = x .answer; steps = zs; nsteps = x .n }
 
 abbrev pub listed-low : Next → List Step → Val

@@ -1,4 +1,4 @@
--- `read_list` meets its contract: a walk of its MIR. The array lies in a local and is lent for the one call, for a lifetime that the walk makes.
+-- `read_array` meets its contract: a walk of its MIR. The array lies in a local and is lent for the one call, for a lifetime that the walk makes.
 use mathlib.Core.Path.{_≡_, refl, sym}
 use Prim.Native.Nat.{ℕ, _<_, _^_}
 use mathlib.Core.List.{List, [], _∷_}
@@ -52,18 +52,18 @@ use Rattle.models.proofs.ReaderSlices.{file, file-val, File, Lent}
 use Rattle.models.proofs.loading.read_steps.Symbol as steps-def
 use Rattle.models.proofs.loading.read_steps.Symbol.{name as #read-steps}
 use Rattle.models.proofs.loading.read_steps.Met as steps-thm
-use Rattle.models.proofs.loading.read_list.Key.{name as #read-list}
-use Rattle.models.proofs.loading.read_list as read-list
-use Rattle.models.proofs.loading.read_list.Statement as stated
-use Rattle.models.proofs.loading.read_list.Code as code
-use Rattle.models.proofs.loading.read_list.Proof.Result.{L, listed, listed-low, listed-is, listed-typed, listed-makes}
-use Rattle.models.proofs.loading.read_list.Proof.Loan.{lends-array, array-back}
-use Rattle.models.proofs.loading.read_list.Proof.Called.{ReadSteps, Loaded, to-steps, asks-steps, steps-told}
+use Rattle.models.proofs.loading.read_array.Key.{name as #read-array}
+use Rattle.models.proofs.loading.read_array as read-array
+use Rattle.models.proofs.loading.read_array.Statement as stated
+use Rattle.models.proofs.loading.read_array.Code as code
+use Rattle.models.proofs.loading.read_array.Proof.Result.{L, listed, listed-low, listed-is, listed-typed, listed-makes}
+use Rattle.models.proofs.loading.read_array.Proof.Loan.{lends-array, array-back}
+use Rattle.models.proofs.loading.read_array.Proof.Called.{ReadSteps, Loaded, to-steps, asks-steps, steps-told}
 mod Result
 mod Loan
 mod Called
 
-abbrev stayed : Stays (read-list.ended .signature .params) (read-list.ended .kept)
+abbrev stayed : Stays (read-array.ended .signature .params) (read-array.ended .kept)
 stayed = (stay-none-slice (0 ∷ []) tt (plain (λ _. u8)) yes, (stay-none (λ _. usize) yes, (stay-none (λ _. AR) yes, tt)))
 
 module _ {M : Type 1} (𝓤 : URA M) (H : Heap 𝓤) (A : Atoms 𝓤) (W : Given 𝓤 H A) (mem : Memory → SProp 𝓤) (run : Routine → Fun 𝓤)
@@ -76,20 +76,20 @@ module _ {M : Type 1} (𝓤 : URA M) (H : Heap 𝓤) (A : Atoms 𝓤) (W : Given
   v = file-val b o f
 
   -- the machine values of the arguments
-  abbrev at : Vals read-list.signature (κ, tt)
+  abbrev at : Vals read-array.signature (κ, tt)
   at = (v ∷ [], (vint w64 states ∷ [], (array-low xs ∷ [], tt)))
 
-  abbrev bound : walkOf 𝓤 H A read-list.ended stayed (read-list.clauses 𝓤 H A mem run) .Ghost
+  abbrev bound : walkOf 𝓤 H A read-array.ended stayed (read-array.clauses 𝓤 H A mem run) .Ghost
   bound = (((κ, tt), (q, tt), tt, a, at), tt)
 
   abbrev Post : Val → SProp 𝓤
-  Post = walkOf 𝓤 H A read-list.ended stayed (read-list.clauses 𝓤 H A mem run) .post bound
+  Post = walkOf 𝓤 H A read-array.ended stayed (read-array.clauses 𝓤 H A mem run) .post bound
 
   exits : (x : Next) (zs : List Step) → Is L (listed x zs) (listed-low x zs ∷ []) → LoadedAs (stepsAt 512 f states 2) zs (x .answer) (x .n)
       → ent 𝓤 (⋆ 𝓤 H A (‵ (flft κ q) ∷ ‵ (File κ b o γ f) ∷ [])) (Post (listed-low x zs))
   exits x zs is loaded =
       qed W (‵ (flft κ q) ∷ ‵ (File κ b o γ f) ∷ []) ∵
-      suffices ! _ (ends-at 𝓤 H A read-list.ended stayed (read-list.clauses 𝓤 H A mem run) W bound (listed-low x zs) (listed x zs)
+      suffices ! _ (ends-at 𝓤 H A read-array.ended stayed (read-array.clauses 𝓤 H A mem run) W bound (listed-low x zs) (listed x zs)
       (tt, (tt, (tt, tt))) (tt, (tt, (tt, tt)))) $ says ! loaded $ nothing ! $ move ! (1 ∷ 0 ∷ []) $ join ! $ frame ! $
       nothing ! $ owned ! AR (Is AR) (array-made 𝓤 H A W) xs _ is-array $ fjoin ! $
       owned ! usize (Is usize) (uint-makes 𝓤 H A W w64) states _ (refl, states-fits) $ fjoin ! $ move ! (1 ∷ 0 ∷ []) $ fjoin ! $ frame ! $
@@ -100,7 +100,7 @@ module _ {M : Type 1} (𝓤 : URA M) (H : Heap 𝓤) (A : Atoms 𝓤) (W : Given
     to α l δ = to-steps κ (α ∷ []) b o γ f states l δ xs 𝓤 H A W mem run q
 
     walk : Room u8 (length f) → length xs ≡ 512 → Begun f states xs 0 2
-        → ent 𝓤 (onEntry 𝓤 H A read-list.signature (κ, tt) (q, tt) a at) (WpFn 𝓤 H C Λ code.function (v ∷ vint w64 states ∷ array-low xs ∷ []) Post)
+        → ent 𝓤 (onEntry 𝓤 H A read-array.signature (κ, tt) (q, tt) a at) (WpFn 𝓤 H C Λ code.function (v ∷ vint w64 states ∷ array-low xs ∷ []) Post)
     walk file-room long begun =
         let wt = array-typed 𝓤 H A W xs is-array in
         qed W ((‵ (flft κ q) ⊛ ‵ ftrue) ∷ ‵ (owns (ShrSlice (named 0) κ u8 ∷ usize ∷ AR ∷ []) a at) ∷ []) ∵
@@ -147,11 +147,11 @@ module _ {M : Type 1} (𝓤 : URA M) (H : Heap 𝓤) (A : Atoms 𝓤) (W : Given
         frees-cell ! 13 13 refl refl $ frees-cell ! 0 11 refl refl $ frees-cell ! 9 9 refl refl $ frees-cell ! 7 7 refl refl $
         frees-cell ! 5 5 refl refl $ frees-cell ! 3 3 refl refl $ free0 ! $ keep ! (0 ∷ 1 ∷ []) $ by ! (exits x zs is (got .2)))))))))))))))))
 
-pub read-list-spec : {M : Type 1} → stated.statement M
+pub read-array-spec : {M : Type 1} → stated.statement M
 unfolding code.routine tablesOf
-read-list-spec 𝓤 H 𝓜 𝓖 𝓡 =
+read-array-spec 𝓤 H 𝓜 𝓖 𝓡 =
     let W = givenOf 𝓤 H 𝓜 𝓖 in
-    enters 𝓤 H 𝓜 𝓖 𝓡 read-list.ended stayed (read-list.clauses 𝓤 H (𝓖 .A) (𝓜 .mem) (𝓡 .run)) code.env #read-list code.function
+    enters 𝓤 H 𝓜 𝓖 𝓡 read-array.ended stayed (read-array.clauses 𝓤 H (𝓖 .A) (𝓜 .mem) (𝓡 .run)) code.env #read-array code.function
     (code.unfolded 𝓤 H 𝓜 𝓡)
     (λ κs. (slice-vals, (uint-vals w64, (array-vals vals, tt)))) (
       goes-none-slice 𝓤 H (𝓖 .A) W 1 (0 ∷ []) tt (plain (λ _. u8)) yes,

@@ -1,4 +1,4 @@
--- How `search_list` lends its array to `search`, as a slice for a lifetime that is made for the call, and has it back with the answer. The two
+-- How `search_array` lends its array to `search`, as a slice for a lifetime that is made for the call, and has it back with the answer. The two
 -- `&mut` slices are given up at their own lifetimes. Of `search` it knows the contract alone. Assumes `Given`.
 use mathlib.Core.Path.{_≡_, refl, sym}
 use Prim.Native.Nat.{ℕ}
@@ -47,10 +47,10 @@ use Rattle.models.proofs.exploring.Cursor as T
 use Rattle.models.proofs.exploring.Cursor.Laws as T′
 use Rattle.models.proofs.SearchSlices.{table, seen, pairs, links, slices-vals}
 use Rattle.models.proofs.exploring.search as search
-use Rattle.models.proofs.exploring.search_list as search-list
+use Rattle.models.proofs.exploring.search_array as search-array
 
 -- at exit nothing is had of what is shared or plain, and the other two slices have been given up
-abbrev pub stayed : Stays (search-list.ended .signature .params) (search-list.ended .kept)
+abbrev pub stayed : Stays (search-array.ended .signature .params) (search-array.ended .kept)
 stayed = (
   stay-dropped _ yes,
   (
@@ -68,11 +68,11 @@ stayed = (
   ),
 )
 
-module _ (κs : Lfts 5) (a : Args search-list.signature κs) where
+module _ (κs : Lfts 5) (a : Args search-array.signature κs) where
   abbrev pub list : List Step
   list = a .0
 
-  abbrev pub vals : Vals search-list.signature κs
+  abbrev pub vals : Vals search-array.signature κs
   vals = (step.array-low list ∷ [], (LL.vals T.the-type T′.the-laws (a .1 .0), slices-vals (a .1 .1)))
 
   -- the array as a slice, where it lies at b
@@ -92,9 +92,9 @@ module _ {M : Type 1} (𝓤 : URA M) (H : Heap 𝓤) (A : Atoms 𝓤) (mem : Mem
   Search = tripleOf 𝓤 H A search.signature (search.spec 𝓤 H A mem run)
 
 module _ {M : Type 1} (𝓤 : URA M) (H : Heap 𝓤) (A : Atoms 𝓤) (W : Given 𝓤 H A) (mem : Memory → SProp 𝓤) (run : Routine → Fun 𝓤)
-    (κs : Lfts 5) (qs : Shares 5) (a : Args search-list.signature κs) where
+    (κs : Lfts 5) (qs : Shares 5) (a : Args search-array.signature κs) where
   abbrev pub Post : Val → SProp 𝓤
-  Post = walkOf 𝓤 H A search-list.ended stayed (search-list.clauses 𝓤 H A mem run) .post ((κs, qs, tt, a, vals κs a), tt)
+  Post = walkOf 𝓤 H A search-array.ended stayed (search-array.clauses 𝓤 H A mem run) .post ((κs, qs, tt, a, vals κs a), tt)
 
   abbrev Tokens : Item 𝓤
   Tokens = ‵ (flft (κs .0) (qs .0)) ⊛ ‵ (flft (κs .1 .0) (qs .1 .0)) ⊛ ‵ (flft (κs .1 .1 .0) (qs .1 .1 .0))
@@ -124,10 +124,10 @@ module _ {M : Type 1} (𝓤 : URA M) (H : Heap 𝓤) (A : Atoms 𝓤) (W : Given
         (Search 𝓤 H A mem run .pre (to-search b n))
     goes b n = qed W (‵ (flft (n .0 ∷ []) fullShare) ∷ Tokens ∷ ‵ (Slice b n) ∷ ‵ Others ∷ []) ∵ says ! begun $ join ! $ frame ! $ fjoin ! $ done !
 
-    pub lends : (b : ℕ) → ent 𝓤 (sep 𝓤 (onEntry 𝓤 H A search-list.signature κs qs a (vals κs a)) (sem 𝓤 H A (Cell b)))
+    pub lends : (b : ℕ) → ent 𝓤 (sep 𝓤 (onEntry 𝓤 H A search-array.signature κs qs a (vals κs a)) (sem 𝓤 H A (Cell b)))
         (H .⇛ (ex 𝓤 (λ (n : Loan). sep 𝓤 (Search 𝓤 H A mem run .pre (to-search b n)) (sem 𝓤 H A (Lent b n)))))
     lends b =
-        qed W ((Tokens ⊛ ‵ (owns (typesAt (search-list.signature .params) κs) a (vals κs a))) ∷ ‵ (Cell b) ∷ []) ∵ updating ! $ split ! $
+        qed W ((Tokens ⊛ ‵ (owns (typesAt (search-array.signature .params) κs) a (vals κs a))) ∷ ‵ (Cell b) ∷ []) ∵ updating ! $ split ! $
         move ! (1 ∷ []) $ fsplit ! $
         move ! (3 ∷ 0 ∷ []) $ use2 W (‵ (arr-parts (shares step.R) 512 .part fullShare (list κs a) b 0)) (step.lies 𝓤 H A W (list κs a) b) $
         rewrite ! 0 (λ (m : ℕ). ‵ (arr-parts (shares step.R) m .part fullShare (list κs a) b 0)) (sym (long)) refl $
@@ -146,7 +146,7 @@ module _ {M : Type 1} (𝓤 : URA M) (H : Heap 𝓤) (A : Atoms 𝓤) (W : Given
       (Post w)
   exits z w ms ps e ms-length ps-length =
       qed W (Tokens ∷ ‵ (finally u8 (seen (a .1 .1) .name) ms) ∷ ‵ (finally u16 (pairs (a .1 .1) .name) ps) ∷ ‵ (bool .own z (w ∷ [])) ∷ []) ∵
-      suffices ! _ (ends-at 𝓤 H A search-list.ended stayed (search-list.clauses 𝓤 H A mem run) W ((κs, qs, tt, a, vals κs a), tt) w z
+      suffices ! _ (ends-at 𝓤 H A search-array.ended stayed (search-array.clauses 𝓤 H A mem run) W ((κs, qs, tt, a, vals κs a), tt) w z
       (tt, (tt, (tt, (tt, (tt, (ms, (ps, tt))))))) (tt, (tt, (tt, (tt, (tt, (ms-length, (ps-length, tt)))))))) $ says ! e $ frame ! $
       nothing ! $ move ! (2 ∷ 0 ∷ []) $ fjoin ! $ move ! (1 ∷ 0 ∷ []) $ fjoin ! $ unsaid ! $ unsaid ! $ unsaid ! $ unsaid ! $ unsaid ! $ frame ! $
       done !

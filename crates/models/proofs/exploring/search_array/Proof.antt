@@ -1,4 +1,4 @@
--- `models::exploring::search_list` meets its contract: a walk of its MIR. The array lies in a slot of its own, is lent once, and comes back.
+-- `models::exploring::search_array` meets its contract: a walk of its MIR. The array lies in a slot of its own, is lent once, and comes back.
 -- Assumes nothing.
 use mathlib.Core.Path.{_≡_, refl, sym}
 use Prim.Native.Nat.{ℕ}
@@ -47,24 +47,24 @@ use Rattle.models.proofs.SearchSlices.{Rooms, table, seen, pairs, links
 use Rattle.models.proofs.exploring.search.Symbol as search-def
 use Rattle.models.proofs.exploring.search.Symbol.{name as #models·exploring·search}
 use Rattle.models.proofs.exploring.search.Met as search-thm
-use Rattle.models.proofs.exploring.search_list.Key.{name as #models·exploring·search-list}
-use Rattle.models.proofs.exploring.search_list as search-list
-use Rattle.models.proofs.exploring.search_list.Statement as stated
-use Rattle.models.proofs.exploring.search_list.Code as code
-use Rattle.models.proofs.exploring.search_list.Proof.Lending as lending
-use Rattle.models.proofs.exploring.search_list.Proof.Lending.{stayed, list, vals, Loan, Search}
+use Rattle.models.proofs.exploring.search_array.Key.{name as #models·exploring·search-array}
+use Rattle.models.proofs.exploring.search_array as search-array
+use Rattle.models.proofs.exploring.search_array.Statement as stated
+use Rattle.models.proofs.exploring.search_array.Code as code
+use Rattle.models.proofs.exploring.search_array.Proof.Lending as lending
+use Rattle.models.proofs.exploring.search_array.Proof.Lending.{stayed, list, vals, Loan, Search}
 mod Lending
 
 module _ {M : Type 1} (𝓤 : URA M) (H : Heap 𝓤) (A : Atoms 𝓤) (W : Given 𝓤 H A) (mem : Memory → SProp 𝓤) (run : Routine → Fun 𝓤)
     (C : Calls 𝓤 H) (Λ : Loops 𝓤 H) (fm : FmC 𝓤 H (W .laws) C) (known : Triple 𝓤 (C #models·exploring·search) (Search 𝓤 H A mem run)) where
-  walk : (κs : Lfts 5) (qs : Shares 5) (a : Args search-list.signature κs) → Is step.AR (list κs a) (step.array-low (list κs a) ∷ [])
+  walk : (κs : Lfts 5) (qs : Shares 5) (a : Args search-array.signature κs) → Is step.AR (list κs a) (step.array-low (list κs a) ∷ [])
       → length (list κs a) ≡ 512 → Rooms (a .1 .1) → Is T.the-row (a .1 .0) (LL.vals T.the-type T′.the-laws (a .1 .0))
       → Searching (list κs a) (links (a .1 .1)) (table (a .1 .1) .now) (seen (a .1 .1) .now) (pairs (a .1 .1) .now) (a .1 .0)
-      → ent 𝓤 (onEntry 𝓤 H A search-list.signature κs qs a (vals κs a))
-      (WpFn 𝓤 H C Λ code.function (flat (typesAt (search-list.signature .params) κs) (vals κs a)) (lending.Post 𝓤 H A W mem run κs qs a))
+      → ent 𝓤 (onEntry 𝓤 H A search-array.signature κs qs a (vals κs a))
+      (WpFn 𝓤 H C Λ code.function (flat (typesAt (search-array.signature .params) κs) (vals κs a)) (lending.Post 𝓤 H A W mem run κs qs a))
   walk κs qs a list-is long rooms from-is begun =
-      qed W (raw (onEntry 𝓤 H A search-list.signature κs qs a (vals κs a)) ∷ []) ∵
-      enter ! C Λ code.function (flat (typesAt (search-list.signature .params) κs) (vals κs a)) _ $
+      qed W (raw (onEntry 𝓤 H A search-array.signature κs qs a (vals κs a)) ∷ []) ∵
+      enter ! C Λ code.function (flat (typesAt (search-array.signature .params) κs) (vals κs a)) _ $
       alloc1 ! (λ l₀. alloc1 ! (λ l₁. alloc1 ! (λ l₂. alloc1 ! (λ l₃. alloc1 ! (λ l₄. alloc1 ! (λ l₅. alloc1 ! (λ l₆. alloc1 ! (λ l₇.
       alloc1 ! (λ l₈. alloc1 ! (λ l₉. alloc1 ! (λ l₁₀. alloc1 ! (λ l₁₁. alloc1 ! (λ l₁₂. alloc1 ! (λ l₁₃. alloc1 ! (λ l₁₄. alloc0 ! $ params1 ! $
       pass1 ! (init ! 26 refl (step.array-typed 𝓤 H A W (list κs a) list-is)) $
@@ -105,11 +105,11 @@ module _ {M : Type 1} (𝓤 : URA M) (H : Heap 𝓤) (A : Atoms 𝓤) (W : Given
       frees-cell ! 0 13 refl refl $ frees-cell ! 11 11 refl refl $ frees-cell ! 9 9 refl refl $ frees-cell ! 7 7 refl refl $
       frees-cell ! 5 5 refl refl $ frees-cell ! 3 3 refl refl $ frees-cell ! 1 1 refl refl $ free0 ! $ done !))))))))))))))))))
 
-pub search-list-spec : {M : Type 1} → stated.statement M
+pub search-array-spec : {M : Type 1} → stated.statement M
 unfolding code.routine tablesOf
-search-list-spec 𝓤 H 𝓜 𝓖 𝓡 =
+search-array-spec 𝓤 H 𝓜 𝓖 𝓡 =
     let W = givenOf 𝓤 H 𝓜 𝓖 in
-    enters 𝓤 H 𝓜 𝓖 𝓡 search-list.ended stayed (search-list.clauses 𝓤 H (𝓖 .A) (𝓜 .mem) (𝓡 .run)) code.env #models·exploring·search-list
+    enters 𝓤 H 𝓜 𝓖 𝓡 search-array.ended stayed (search-array.clauses 𝓤 H (𝓖 .A) (𝓜 .mem) (𝓡 .run)) code.env #models·exploring·search-array
     code.function (code.unfolded 𝓤 H 𝓜 𝓡)
     (λ κs. (array-vals step.vals, (LL.vals T.the-type T′.the-laws, (slice-vals, (slice-vals, (slice-vals, (slice-vals, (slice-vals, tt)))))))) (
       goes-dropped 𝓤 H (𝓖 .A) W 5 (plain (λ _. step.AR)) yes (λ κs x f. refl),

@@ -1,4 +1,4 @@
--- `read_steps` as `read_list` calls it: what it asks, and what it gives back.
+-- `read_steps` as `read_array` calls it: what it asks, and what it gives back.
 use mathlib.Core.Path.{_≡_, refl, ap, subst}
 use Prim.Native.Nat.{ℕ, _<_, _^_}
 use mathlib.Core.List.{List, [], _∷_}
