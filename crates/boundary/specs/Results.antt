@@ -1,0 +1,41 @@
+-- The answers of the layers as a C program gets them: 0 or the number of a refusal, and beside it one value: what the answer says, or the
+-- place of the refusal.
+use Prim.Native.Nat.{ℕ}
+use mathlib.Core.Path.{_≡_}
+use Rattle.reading.specs.Outcome.{Outcome}
+use Rattle.synthesis.specs.declared.Counted.{Counted}
+use Rattle.synthesis.specs.declared.Counted as Counted′
+use Rattle.running.specs.Running.{Run, ranOf}
+use Rattle.running.specs.declared.State.{State}
+use Rattle.running.specs.declared.Checked.{Checked}
+use Rattle.running.specs.declared.Checked as Checked′
+use Rattle.models.specs.declared.Judged.{Judged}
+use Rattle.models.specs.declared.Judged as Judged′
+
+-- a number and a value
+pub record Result : Type 0 where
+  pub number : ℕ
+  pub value : ℕ
+
+-- building: the count of equations
+abbrev pub countedResult : Counted → Result
+countedResult (Counted′.the-variants.Equations n) = record { number = 0; value = n }
+countedResult (Counted′.the-variants.Refused number place) = record { number = number; value = place }
+
+-- judging: 1 where the model meets the rule, 0 where it breaks it
+abbrev pub judgedResult : Judged → Result
+judgedResult Judged′.the-variants.Meets = record { number = 0; value = 1 }
+judgedResult Judged′.the-variants.Breaks = record { number = 0; value = 0 }
+judgedResult (Judged′.the-variants.Refused number place) = record { number = number; value = place }
+
+-- a run: 0 where it is fit. Its refusals stand at place 0.
+abbrev pub checkedNumber : Checked → ℕ
+checkedNumber Checked′.the-variants.Fit = 0
+checkedNumber (Checked′.the-variants.Refused number place) = number
+
+-- what a run from the state s hands back, each part by itself
+pub record IsRun (s : State) (outcome : Outcome Run) (number equation kept dropped : ℕ) : Type 0 where
+  pub number-is : number ≡ checkedNumber (ranOf s outcome .checked)
+  pub equation-is : equation ≡ ranOf s outcome .state .equation
+  pub kept-is : kept ≡ ranOf s outcome .kept
+  pub dropped-is : dropped ≡ ranOf s outcome .dropped

@@ -1,0 +1,106 @@
+// The library for programs in C: building, judging and running, under plain names. A slice is a pointer and a length. bench/jarveun.h declares
+// them. The definitions that the contracts cite stand in specs/ of the layers; Results.antt has the answers as numbers.
+use models::Judged;
+use running::Checked;
+use running::State;
+use synthesis::Counted;
+ghost use mathlib.Core.Path.{_≡_};
+ghost use lib.ListN.{length};
+ghost use Rattle.synthesis.specs.Building.{buildingOf, countedOf, tableAfter};
+ghost use Rattle.running.specs.Running.{runOf, outputAfter, verdictsAfter};
+ghost use Rattle.models.specs.Judging.{judgingOf, JudgedAs, tableJudged};
+ghost use Rattle.boundary.specs.Results.{countedResult, judgedResult, checkedNumber, IsRun};
+
+// Fills a table as building does. Answers 0, with the count of equations in `value`, or the number of a refusal, with its place.
+#[no_mangle]
+pub extern "C" fn jarveun_build(rule: &[u8], table: &mut [u8], value: &mut usize) -> u8
+    ensures { λ r. ⌜ r ≡ countedResult (countedOf (buildingOf 128 (now (rule .entry)) (length (now (table .entry))))) .number ⌝ }
+    ensures { λ _. ⌜ now (value .exit) ≡ countedResult (countedOf (buildingOf 128 (now (rule .entry)) (length (now (table .entry))))) .value ⌝ }
+    ensures { λ _. ⌜ now (table .exit) ≡ tableAfter 255 (buildingOf 128 (now (rule .entry)) (length (now (table .entry)))) (now (table .entry)) ⌝ }
+{
+    match synthesis::build(rule, table) {
+        Counted::Equations(count) => {
+            *value = count;
+            0
+        }
+        Counted::Refused(number, place) => {
+            *value = place;
+            number
+        }
+    }
+}
+
+// Judges a model under a rule. Answers 0, with 1 in `value` where it meets the rule and 0 where it breaks it, or the number of a refusal, with
+// its place.
+#[no_mangle]
+pub extern "C" fn jarveun_judge(
+    rule: &[u8],
+    model: &[u8],
+    table: &mut [u8],
+    value: &mut usize,
+) -> u8
+    ensures { λ r. ⌜ ((answer : Judged) × JudgedAs (judgingOf 128 (now (rule .entry)) (length (now (table .entry))) (now (model .entry))) answer
+        × (r ≡ judgedResult answer .number) × (now (value .exit) ≡ judgedResult answer .value)) ⌝ }
+    ensures { λ _. ⌜ now (table .exit)
+        ≡ tableJudged (judgingOf 128 (now (rule .entry)) (length (now (table .entry))) (now (model .entry)))
+        (tableAfter 255 (buildingOf 128 (now (rule .entry)) (length (now (table .entry)))) (now (table .entry)))
+        (now (table .entry)) ⌝ }
+{
+    match models::judge(rule, model, table) {
+        Judged::Meets => {
+            *value = 1;
+            0
+        }
+        Judged::Breaks => {
+            *value = 0;
+            0
+        }
+        Judged::Refused(number, place) => {
+            *value = place;
+            number
+        }
+    }
+}
+
+// The number of a refusal of a run, or 0.
+fn number_of(checked: Checked) -> u8
+    ensures { λ r. ⌜ r ≡ checkedNumber checked ⌝ }
+{
+    match checked {
+        Checked::Fit => 0,
+        Checked::Refused(number, _) => number,
+    }
+}
+
+// Runs over scans from `equation`, which becomes the one in which the run ends; puts how many were kept and dropped into `kept` and `dropped`.
+// Answers 0, or the number of a refusal, whose place is 0.
+#[no_mangle]
+pub extern "C" fn jarveun_run(
+    table: &[u8],
+    count: usize,
+    equation: &mut usize,
+    scans: &[u8],
+    output: &mut [u8],
+    verdicts: &mut [u8],
+    kept: &mut usize,
+    dropped: &mut usize,
+) -> u8
+    ensures { λ r. ⌜ IsRun (record { equation = now (equation .entry) }) (runOf 128 255 (now (table .entry)) count (record { equation = now (equation .entry) })
+        (now (scans .entry)) (length (now (output .entry))) (length (now (verdicts .entry))))
+        r (now (equation .exit)) (now (kept .exit)) (now (dropped .exit)) ⌝ }
+    ensures { λ _. ⌜ now (output .exit) ≡ outputAfter (runOf 128 255 (now (table .entry)) count (record { equation = now (equation .entry) })
+        (now (scans .entry)) (length (now (output .entry))) (length (now (verdicts .entry)))) (now (output .entry)) ⌝ }
+    ensures { λ _. ⌜ now (verdicts .exit) ≡ verdictsAfter (runOf 128 255 (now (table .entry)) count (record { equation = now (equation .entry) })
+        (now (scans .entry)) (length (now (output .entry))) (length (now (verdicts .entry)))) (now (verdicts .entry)) ⌝ }
+{
+    let state = State {
+        equation: *equation,
+    };
+    let ran = running::run(table, count, state, scans, output, verdicts);
+    let checked = ran.checked;
+    let end = ran.state;
+    *equation = end.equation;
+    *kept = ran.kept;
+    *dropped = ran.dropped;
+    number_of(checked)
+}
