@@ -41,7 +41,7 @@ module _ (f : List ℕ) (y : Phone) (read : phoneOf f ≡ accepted y) where
       → Enforces poolRule (suppressing (entry 256 255 (tableLeft poolFile table))) 0 (modelOf y)
   pool-enforces bytes table room =
       demand-three 128 255 poolFile table f poolRule 3 y (omega arith) (search arith) bytes (number-pool .file .reading)
-      (number-pool .file .answers .building table room) read
+      (number-pool .file .answers .building table room) read .0
 
   pool-judging : (table : List ℕ) → 32768 ≤ length table
       → judgingOf 128 poolFile (length table) f ≡ accepted (record { rule = poolRule; phone = y })

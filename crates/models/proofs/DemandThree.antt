@@ -1,4 +1,4 @@
--- Demand 3: the table that building leaves enforces the rule on the model of every file that isn't refused.
+-- Demand 3: the table that building leaves enforces the rule on the model of every file that isn't refused, and loses no walk.
 use Prim.Native.Nat.{ℕ}
 use lib.ListN.{length}
 use Rattle.synthesis.specs.Monitor.{Answer}
@@ -9,12 +9,15 @@ use Rattle.models.specs.Monitored.{suppressing}
 use Rattle.models.specs.Phone.{modelOf}
 use Rattle.models.specs.Promises.{DemandThree}
 use Rattle.models.proofs.Responses.{suppressing-passes}
+use Rattle.models.proofs.Suppressing.{runs-behind}
 use Rattle.models.proofs.PhoneCodes.{phone-codes}
 use Rattle.models.proofs.Enforcing.{monitors-enforce}
 use Rattle.models.proofs.Encoding.{accepts-phones}
 
 pub demand-three : DemandThree
 demand-three limit mark s table f r n y below bytes bytes′ read e read′ =
-    let answer : ℕ → ℕ → Answer ℕ = entry 256 mark (tableAfter mark (buildingOf limit s (length table)) table) in
-    monitors-enforce ℕ r answer 0 (table-monitors limit mark s table r n below bytes read e) (suppressing answer) (suppressing-passes answer)
-    (modelOf y) (phone-codes y (accepts-phones f bytes′ y .0 read′ .0))
+    let answer : ℕ → ℕ → Answer ℕ = entry 256 mark (tableAfter mark (buildingOf limit s (length table)) table) in (
+      monitors-enforce ℕ r answer 0 (table-monitors limit mark s table r n below bytes read e) (suppressing answer) (suppressing-passes answer)
+          (modelOf y) (phone-codes y (accepts-phones f bytes′ y .0 read′ .0)),
+      runs-behind ℕ answer 0 (modelOf y),
+    )

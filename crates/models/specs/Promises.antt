@@ -34,26 +34,7 @@ pub record Enforces (r : Rule) {E : Type 0} (respond : E → ℕ → Response E)
   pub keeps : (w : List ℕ) (t : m .State) → Walk m (m .start) w t → (ViolatesRule r w → ⊥)
       → (e : E) × Walk (monitored respond first m) (m .start, first) w (t, e)
 
--- It holds for the table that building leaves, whatever the table held before, and every model file that isn't refused.
-abbrev pub DemandThree : Type 1
-DemandThree =
-    (limit mark : ℕ) (s table f : List ℕ) (r : Rule) (n : ℕ) (y : Phone) → limit ≤ mark → Bytes s → Bytes f
-    → ruleOf s ≡ accepted r → countedOf (buildingOf limit s (length table)) ≡ Equations n → phoneOf f ≡ accepted y
-    → Enforces r (suppressing (entry 256 mark (tableAfter mark (buildingOf limit s (length table)) table))) 0 (modelOf y)
-
--- The same for any monitor of a rule, any response that passes exactly what it keeps, and any model whose codes are bytes.
-abbrev pub MonitorsEnforce : Type 1
-MonitorsEnforce =
-    (E : Type 0) (r : Rule) (answer : E → ℕ → Answer E) (first : E) → Monitors r answer first
-    → (respond : E → ℕ → Response E) → PassesKept respond answer → (m : Model) → ByteCodes m → Enforces r respond first m
-
--- Of a monitor that drops something of each list that violates the rule, and maybe of others too, the first part holds.
-abbrev pub SoundSatisfies : Type 1
-SoundSatisfies =
-    (E : Type 0) (r : Rule) (answer : E → ℕ → Answer E) (first : E) → ((w : List ℕ) → Bytes w → ViolatesRule r w → Loses answer first w)
-    → (respond : E → ℕ → Response E) → PassesKept respond answer → (m : Model) → ByteCodes m → Satisfies (monitored respond first m) r
-
--- Every walk of the model, violating or not, is there behind any monitor, with what a run keeps of its trace, to the same state of the model
+-- Dropped scans too: every walk of the model, violating or not, is there behind any monitor, with what a run keeps of its trace, to the same state of the model
 -- beside the equation in which the run ends. Every walk behind it has the ends and the trace of such a one.
 pub record CameFrom {E : Type 0} (answer : E → ℕ → Answer E) (m : Model) (x : m .State × E) (v : List ℕ) (y : m .State × E) : Type 0 where
   pub trace : List ℕ
@@ -68,6 +49,27 @@ pub record WalksBehind {E : Type 0} (answer : E → ℕ → Answer E) (first : E
 
 abbrev pub RunsBehind : Type 1
 RunsBehind = (E : Type 0) (answer : E → ℕ → Answer E) (first : E) (m : Model) → WalksBehind answer first m
+
+-- Demand 3 holds for the table that building leaves, whatever the table held before, and every model file that isn't refused, with
+-- dropped scans in the claim.
+abbrev pub DemandThree : Type 1
+DemandThree =
+    (limit mark : ℕ) (s table f : List ℕ) (r : Rule) (n : ℕ) (y : Phone) → limit ≤ mark → Bytes s → Bytes f
+    → ruleOf s ≡ accepted r → countedOf (buildingOf limit s (length table)) ≡ Equations n → phoneOf f ≡ accepted y →
+    let answer = entry 256 mark (tableAfter mark (buildingOf limit s (length table)) table) in
+    Enforces r (suppressing answer) 0 (modelOf y) × WalksBehind answer 0 (modelOf y)
+
+-- The same for any monitor of a rule, any response that passes exactly what it keeps, and any model whose codes are bytes.
+abbrev pub MonitorsEnforce : Type 1
+MonitorsEnforce =
+    (E : Type 0) (r : Rule) (answer : E → ℕ → Answer E) (first : E) → Monitors r answer first
+    → (respond : E → ℕ → Response E) → PassesKept respond answer → (m : Model) → ByteCodes m → Enforces r respond first m
+
+-- Of a monitor that drops something of each list that violates the rule, and maybe of others too, the first part holds.
+abbrev pub SoundSatisfies : Type 1
+SoundSatisfies =
+    (E : Type 0) (r : Rule) (answer : E → ℕ → Answer E) (first : E) → ((w : List ℕ) → Bytes w → ViolatesRule r w → Loses answer first w)
+    → (respond : E → ℕ → Response E) → PassesKept respond answer → (m : Model) → ByteCodes m → Satisfies (monitored respond first m) r
 
 -- Bisimilar models satisfy the same rules. So a model that doesn't satisfy the rule isn't bisimilar to itself behind the monitor.
 abbrev pub BisimilarAlike : Type 1
