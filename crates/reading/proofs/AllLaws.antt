@@ -12,6 +12,12 @@ module _ {A : Type 0} (P : A → Type 0) where
   all-getD (x ∷ l) zero d all other = all .0
   all-getD (x ∷ l) (suc i) d all other = all-getD l i d (all .1) other
 
+  -- an element that is there
+  pub all-at : (l : List A) (i : ℕ) (d : A) → All P l → i < length l → P (getD l i d)
+  all-at [] i d all h = absurd (omega arith)
+  all-at (x ∷ l) zero d all h = all .0
+  all-at (x ∷ l) (suc i) d all h = all-at l i d (all .1) (omega arith)
+
   pub all-append : (l l′ : List A) → All P l → All P l′ → All P (l ++ l′)
   all-append [] l′ all all′ = all′
   all-append (x ∷ l) l′ all all′ = (all .0, all-append l l′ (all .1) all′)
@@ -20,3 +26,8 @@ module _ {A : Type 0} (P : A → Type 0) where
   pub all-of : (l : List A) (d : A) → ((i : ℕ) → i < length l → P (getD l i d)) → All P l
   all-of [] d each = tt
   all-of (x ∷ l) d each = (each 0 (omega arith), all-of l d (λ i h. each (suc i) (omega arith)))
+
+-- a weaker property
+pub all-map : {A : Type 0} {P Q : A → Type 0} (l : List A) → ((x : A) → P x → Q x) → All P l → All Q l
+all-map [] f all = tt
+all-map (x ∷ l) f all = (f x (all .0), all-map l f (all .1))

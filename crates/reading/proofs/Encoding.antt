@@ -9,7 +9,7 @@ use Rattle.reading.specs.Pattern.{WellFormedPattern}
 use Rattle.reading.specs.Formula.{Formula, truth, falsity, both, necessity, max, variable, size, Guards, guarded, WellFormed}
 use Rattle.reading.specs.Rule.{Rule, All, WellFormedRule, encodePatterns, encodeFormula, encode, Bytes}
 use Rattle.reading.specs.declared.Pattern.{Pattern}
-use Rattle.reading.proofs.AllLaws.{all-append}
+use Rattle.reading.proofs.ByteLaws.{bytes-append}
 
 -- ---- bytes
 
@@ -25,7 +25,7 @@ formula-is-bytes n few truth g fits w = (omega arith, tt)
 formula-is-bytes n few falsity g fits w = (omega arith, tt)
 formula-is-bytes n few (both f f′) g fits w = (
   omega arith,
-  all-append (λ b. b < 256) (encodeFormula f) (encodeFormula f′)
+  bytes-append (encodeFormula f) (encodeFormula f′)
       (formula-is-bytes n few f g (omega arith) (w .0)) (formula-is-bytes n few f′ g (omega arith) (w .1)),
 )
 formula-is-bytes n few (necessity p f) g fits w =
@@ -36,7 +36,7 @@ formula-is-bytes n few (variable d) g fits w = (omega arith, (omega (arith, w .0
 
 pub encoding-is-bytes : (r : Rule) → WellFormedRule r → Bytes (encode r)
 encoding-is-bytes r w =
-    all-append (λ b. b < 256) (encodePatterns (r .patterns)) (encodeFormula (r .formula))
+    bytes-append (encodePatterns (r .patterns)) (encodeFormula (r .formula))
     (patterns-are-bytes (r .patterns) (w .patterns))
     (formula-is-bytes (length (r .patterns)) (omega (arith, w .few-patterns)) (r .formula) [] (omega (arith, w .few-nodes)) (w .formula))
 

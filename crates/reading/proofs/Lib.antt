@@ -5,6 +5,8 @@ pub mod Bits
 pub mod Products
 pub mod Extents
 pub mod AllLaws
+pub mod ByteLaws
+pub mod ListLaws
 pub mod Places
 pub mod Scopes
 pub mod Checks

@@ -11,6 +11,7 @@ use Rattle.reading.specs.Numbered.{kind, argument, numberOf, kinds, args
 use Rattle.reading.specs.Promises.{NumbersNodes, NumbersPatterns}
 use Rattle.reading.specs.Nodes.{EnclosingMax, noMax, Node, first, second, after, body}
 use Rattle.reading.specs.Nodes.{Resolves, is-truth, is-falsity, is-both, is-necessity, is-max, is-variable}
+use Rattle.reading.proofs.ListLaws.{mapped-at}
 use Rattle.reading.proofs.NodeLaws.{node-exists, node-fits, Around, max-around, guards-around, well-formed-at, variable-bound}
 use Rattle.reading.proofs.Listings.{listed-size, listed-at, node-unique}
 
@@ -68,11 +69,6 @@ module _ (r : Rule) {k : ℕ} {ms : List EnclosingMax} where
 
 pub pattern-at : (r : Rule) (i : ℕ) → getD (numbered r .patterns) i noPattern ≡ getD (r .patterns) i noPattern
 pattern-at r i = padded-at noPattern 32 (r .patterns) i
-
-pub mapped-at : {A B : Type 0} (f : A → B) (l : List A) (i : ℕ) (x : A) (y : B) → i < length l → getD (map f l) i y ≡ f (getD l i x)
-mapped-at f [] i x y h = absurd (omega arith)
-mapped-at f (a ∷ l) zero x y h = refl
-mapped-at f (a ∷ l) (suc i) x y h = mapped-at f l i x y (omega arith)
 
 pub extent-at : (r : Rule) (i : ℕ) → i < length (r .patterns) → getD (numbered r .extents) i noExtent ≡ extentOf (getD (r .patterns) i noPattern)
 extent-at r i h = padded-at noExtent 32 (map extentOf (r .patterns)) i ∙ mapped-at extentOf (r .patterns) i noPattern noExtent h

@@ -13,7 +13,7 @@ use Rattle.reading.specs.Rule.{All, Bytes, encodePatterns}
 use Rattle.reading.specs.Outcome.{Outcome, accepted}
 use Rattle.reading.specs.File.{patternAt, isPattern, Patterns, withPattern, patternsAt}
 use Rattle.reading.specs.declared.Pattern.{Pattern}
-use Rattle.reading.proofs.AllLaws.{all-getD}
+use Rattle.reading.proofs.ByteLaws.{byte-at}
 use Rattle.reading.proofs.Outcomes.{accepted-is, never-accepted, accepted-by, passes}
 use Rattle.reading.proofs.Checks.{pattern-accepted}
 use Rattle.reading.proofs.Places.{Byte, from-byte, byte-of, first-byte, rest-of}
@@ -145,7 +145,7 @@ patterns-stand (suc left) s at ps bytes e =
     let more = accepted-by (patternsAt left s (at + 4)) (withPattern p) (one .2) in
     let rest = patterns-stand left s (at + 4) (more .0) bytes (more .1) in
     subst (λ (x : Patterns). PatternsStand s at (suc left) x) (accepted-is (more .2))
-    (more-stand s at left p (more .0) b (pattern-stands s at (suc left) p (all-getD (λ b. b < 256) s (at + 1) 0 bytes (omega arith)) (one .1)) rest))
+    (more-stand s at left p (more .0) b (pattern-stands s at (suc left) p (byte-at s bytes (at + 1)) (one .1)) rest))
     (isPattern s at) refl e
 
 pub patterns-accept : (s : List ℕ) → Bytes s → (at left : ℕ) (ps : Patterns)
