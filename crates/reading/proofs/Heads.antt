@@ -1,7 +1,7 @@
 -- The loop over pattern records: what is read so far, and what it leaves at each way out.
 use mathlib.Core.Path.{_≡_, refl, sym, ap, _∙_}
 use mathlib.Core.Bool.{true, false}
-use mathlib.Core.List.{List, [], _∷_, _++_, map, append-nil, append-assoc}
+use mathlib.Core.List.{List, [], _∷_, _++_, map, map-append, append-nil, append-assoc}
 use Prim.Native.Nat.{ℕ, zero, suc, _+_, _-_, _≤_, _<_}
 use native.Mathlib.Omega.{arith}
 use lib.ListN.{length, set, replicate, length-append, length-map}
@@ -24,10 +24,6 @@ pub set-padded : {A : Type 0} (n i : ℕ) (x a : A) (l : List A) → length l �
 set-padded n i x a l e h =
     let more : n - length l ≡ suc (n - length (l ++ a ∷ [])) = omega (arith, length-append l (a ∷ [])) in
     rw more (set-at l x _ a i e ∙ sym (append-assoc l (a ∷ []) _))
-
-map-last : {A B : Type 0} (f : A → B) (l : List A) (a : A) → map f (l ++ a ∷ []) ≡ map f l ++ f a ∷ []
-map-last f [] a = refl
-map-last f (x ∷ l) a = ap (λ (k : List _). f x ∷ k) (map-last f l a)
 
 -- ---- the rest of the patterns, after some
 
@@ -90,7 +86,8 @@ module _ (s : List ℕ) (list : List Pattern) (extents : List Extent) (at n : �
         read = length-append (b .ps) (p ∷ []) ∙ omega (arith, b .read);
         few = omega arith;
         patterns = rw (b .patterns) (set-padded 32 n noPattern p (b .ps) (b .read) (omega arith));
-        measured = rw (b .measured, map-last extentOf (b .ps) p) (set-padded 32 n noExtent (extentOf p) (map extentOf (b .ps)) mapped (omega arith));
+        measured = rw (b .measured, map-append extentOf (b .ps) (p ∷ []))
+            (set-padded 32 n noExtent (extentOf p) (map extentOf (b .ps)) mapped (omega arith));
         rest = b .rest ∙ rw left (ap (prepend (b .ps)) (one-more s at (32 - (n + 1)) e (rw left at h)) ∙ prepend-one (b .ps) p more);
       }
 

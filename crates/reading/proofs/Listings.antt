@@ -1,7 +1,7 @@
 -- A list with one element for each node of a formula, in reading order, has the element of a node at the node's number. So a number
 -- names one node only.
 use mathlib.Core.Path.{_≡_, refl, sym, ap, _∙_}
-use mathlib.Core.List.{List, [], _∷_, map}
+use mathlib.Core.List.{List, [], map, map-id}
 use Prim.Native.Nat.{ℕ, suc, _+_, _<_}
 use native.Mathlib.Omega.{arith}
 use lib.ListN.{length, getD, length-append, List·getD-append}
@@ -25,7 +25,8 @@ module _ {M A : Type 0} (keep : EnclosingMax → M) (own : ℕ → List M → Fo
   listed-size k ms truth = refl
   listed-size k ms falsity = refl
   listed-size k ms (both f g) =
-      ap suc (length-append (listed (suc k) ms f) (listed (k + suc (size f)) ms g) ∙ rw (listed-size (suc k) ms f, listed-size (k + suc (size f)) ms g))
+      ap suc (length-append (listed (suc k) ms f) (listed (k + suc (size f)) ms g)
+      ∙ rw (listed-size (suc k) ms f, listed-size (k + suc (size f)) ms g))
   listed-size k ms (necessity p f) = ap suc (listed-size (suc k) ms f)
   listed-size k ms (max f) = ap suc (listed-size (suc k) _ f)
   listed-size k ms (variable d) = refl
@@ -61,10 +62,6 @@ module _ {M A : Type 0} (keep : EnclosingMax → M) (own : ℕ → List M → Fo
 
 -- ---- a number names one node only
 
-all-kept : (ms : List EnclosingMax) → map (λ (m : EnclosingMax). m) ms ≡ ms
-all-kept [] = refl
-all-kept (m ∷ ms) = ap (λ (l : List EnclosingMax). m ∷ l) (all-kept ms)
-
 -- a node by its maxes and its formula
 abbrev named : ℕ → List EnclosingMax → Formula → List EnclosingMax × Formula
 named k ms f = (ms, f)
@@ -72,9 +69,10 @@ named k ms f = (ms, f)
 -- the list of the nodes so named has a node at its number
 node-found : {root : Formula} {k : ℕ} {ms : List EnclosingMax} {f : Formula} → Node root k ms f
     → getD (inOrder (λ (m : EnclosingMax). m) named 0 [] root) k (named 0 [] truth) ≡ named k ms f
-node-found {root} {ms = ms} n = rw all-kept at (listed-at (λ (m : EnclosingMax). m) named root (named 0 [] truth) n)
+node-found {root} {ms = ms} n = rw map-id at (listed-at (λ (m : EnclosingMax). m) named root (named 0 [] truth) n)
 
-pub node-unique : {root : Formula} {k : ℕ} {ms ms′ : List EnclosingMax} {f f′ : Formula} → Node root k ms f → Node root k ms′ f′ → (ms ≡ ms′) × (f ≡ f′)
+pub node-unique : {root : Formula} {k : ℕ} {ms ms′ : List EnclosingMax} {f f′ : Formula} → Node root k ms f → Node root k ms′ f′
+    → (ms ≡ ms′) × (f ≡ f′)
 node-unique {root} {k} {ms} {ms′} {f} {f′} n n′ =
     let e : _≡_ {A = List EnclosingMax × Formula} (ms, f) (ms′, f′) = sym (node-found n) ∙ node-found n′ in
     (ap (λ (p : List EnclosingMax × Formula). p .0) e, ap (λ (p : List EnclosingMax × Formula). p .1) e)

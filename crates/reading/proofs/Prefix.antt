@@ -65,7 +65,8 @@ module _ (bound : ℕ) (s : List ℕ) (n at left : ℕ) (g : Guards) where
 module _ (s t : List ℕ) (a : Agree 257 s t) where
   pattern-agrees : (at left : ℕ) → at + 3 < 257 → patternAt s at left ≡ patternAt t at left
   pattern-agrees at left h =
-      rw (inside 257 s t a (at + 3) h .0, inside 257 s t a (at + 3) h .1, a .same (at + 1) (omega arith), a .same (at + 2) (omega arith), a .same (at + 3) h)
+      let last = inside 257 s t a (at + 3) h in
+      rw (last .0, last .1, a .same (at + 1) (omega arith), a .same (at + 2) (omega arith), a .same (at + 3) h)
 
   is-pattern-agrees : (at : ℕ) → at < 257 → isPattern s at ≡ isPattern t at
   is-pattern-agrees at h = rw (lt-ltb at (length s) (omega (arith, a .long)), lt-ltb at (length t) (omega (arith, a .long′)), a .same at h)

@@ -101,7 +101,8 @@ module _ (t : ℕ) where
   returns-2 c =
       let r = c .before .before in
       let a = r .before .before .before .before in
-      first-refused _ _ _ _ _ _ _ _ _ (found a) (r .before .before .before .if1 .taken) (few a) _ (r .read-formula .ensures) (c .enum-told2 .given .1)
+      first-refused _ _ _ _ _ _ _ _ _ (found a) (r .before .before .before .if1 .taken) (few a) _
+      (r .read-formula .ensures) (c .enum-told2 .given .1)
 
   sub-args : lts.Need-sub-args (claims t) (at t) reads.Post
   sub-args c = omega (arith, rest-left _ _ _ _ _ _ _ (c .before .before .before .read-formula .ensures) (c .before .first .given .1))
