@@ -203,13 +203,14 @@ pub(crate) fn read_formula(
         return passed_up(found);
     };
     let k = 64 - left;
+    let others = left - 1;
     let kind = node.kind;
     let next = node.next;
     let body = node.body;
     kinds[k] = kind;
     args[k] = body;
     if kind == BOTH {
-        let first = read_formula(bytes, patterns, next, left - 1, scope, kinds, args);
+        let first = read_formula(bytes, patterns, next, others, scope, kinds, args);
         let FormulaRead::Read(rest) = first else {
             return first;
         };
@@ -220,23 +221,16 @@ pub(crate) fn read_formula(
     }
     if kind == NECESSITY {
         let inner = scope.guarded();
-        return read_formula(bytes, patterns, next, left - 1, inner, kinds, args);
+        return read_formula(bytes, patterns, next, others, inner, kinds, args);
     }
     if kind == MAX {
         let inner = scope.inside_max(k as u8);
-        return read_formula(bytes, patterns, next, left - 1, inner, kinds, args);
+        return read_formula(bytes, patterns, next, others, inner, kinds, args);
     }
     if kind == VARIABLE {
         args[k] = scope.max_of(body);
-        return FormulaRead::Read(Rest {
-            next,
-            left: left - 1,
-        });
     }
-    FormulaRead::Read(Rest {
-        next,
-        left: left - 1,
-    })
+    FormulaRead::Read(Rest { next, left: others })
 }
 
 // The answer to a file whose formula was found so.

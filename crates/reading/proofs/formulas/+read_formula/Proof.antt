@@ -79,14 +79,14 @@ module _ (t : ℕ) where
   sub-k : lts.Need-sub-k (claims t) (at t) reads.Post
   sub-k c = search needs
 
+  sub-others : lts.Need-sub-others (claims t) (at t) reads.Post
+  sub-others c = omega (arith, positive c)
+
   element-write-kinds : lts.Need-element-write-kinds (claims t) (at t) reads.Post
   element-write-kinds c = omega (arith, positive c)
 
   element-write-args : lts.Need-element-write-args (claims t) (at t) reads.Post
   element-write-args c = omega (arith, positive c)
-
-  sub-read-formula : lts.Need-sub-read-formula (claims t) (at t) reads.Post
-  sub-read-formula c = omega (arith, positive (c .before))
 
   read-formula-requires : lts.Need-read-formula-requires (claims t) (at t) reads.Post
   read-formula-requires c κs = omega (arith, positive (c .before .before .before))
@@ -131,9 +131,6 @@ module _ (t : ℕ) where
   guarded-requires : lts.Need-guarded-requires (claims t) (at t) reads.Post
   guarded-requires c κs = search needs
 
-  sub-read-formula-2 : lts.Need-sub-read-formula-2 (claims t) (at t) reads.Post
-  sub-read-formula-2 c = omega (arith, positive (c .before .before .before))
-
   read-formula-requires-3 : lts.Need-read-formula-requires-3 (claims t) (at t) reads.Post
   read-formula-requires-3 c κs = omega (arith, positive (c .before .before .before .before .before), c .before .before .guarded .ensures)
 
@@ -149,9 +146,6 @@ module _ (t : ℕ) where
 
   inside-max-requires : lts.Need-inside-max-requires (claims t) (at t) reads.Post
   inside-max-requires c κs = omega (arith, positive (c .before .before .before))
-
-  sub-read-formula-3 : lts.Need-sub-read-formula-3 (claims t) (at t) reads.Post
-  sub-read-formula-3 c = omega (arith, positive (c .before .before .before .before))
 
   read-formula-requires-4 : lts.Need-read-formula-requires-4 (claims t) (at t) reads.Post
   read-formula-requires-4 c κs = omega (arith, positive (c .before .before .before .before .before .before), c .before .before .inside-max .ensures)
@@ -172,16 +166,10 @@ module _ (t : ℕ) where
   element-write-args-3 : lts.Need-element-write-args-3 (claims t) (at t) reads.Post
   element-write-args-3 c = omega (arith, positive (c .before .before .before .before .before))
 
-  sub-t43 : lts.Need-sub-t43 (claims t) (at t) reads.Post
-  sub-t43 c = omega (arith, positive (c .before .before .before .before .before))
-
   returns-6 : lts.Need-returns-6 (claims t) (at t) reads.Post
   returns-6 c =
       let a = c .before .before .before .before .before in
       is-variable _ _ _ _ _ _ _ _ _ (found a) (c .before .if4 .taken) (c .max-of .result) (c .max-of .ensures)
-
-  sub-t45 : lts.Need-sub-t45 (claims t) (at t) reads.Post
-  sub-t45 c = omega (arith, positive (c .before .before .before .before))
 
   returns-7 : lts.Need-returns-7 (claims t) (at t) reads.Post
   returns-7 c =
@@ -197,9 +185,9 @@ pub +read-formula-spec : {M : Type 1} → statement M
     (passed-up-requires t)
     (returns t)
     (sub-k t)
+    (sub-others t)
     (element-write-kinds t)
     (element-write-args t)
-    (sub-read-formula t)
     (read-formula-requires t)
     (enum-known-first t)
     (enum-told-2 t)
@@ -210,17 +198,13 @@ pub +read-formula-spec : {M : Type 1} → statement M
     (read-formula-requires-2 t)
     (returns-3 t)
     (guarded-requires t)
-    (sub-read-formula-2 t)
     (read-formula-requires-3 t)
     (returns-4 t)
     (cast-inside-max t)
     (inside-max-requires t)
-    (sub-read-formula-3 t)
     (read-formula-requires-4 t)
     (returns-5 t)
     (max-of-requires t)
     (element-write-args-3 t)
-    (sub-t43 t)
     (returns-6 t)
-    (sub-t45 t)
     (returns-7 t)
