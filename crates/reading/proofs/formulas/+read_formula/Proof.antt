@@ -118,7 +118,8 @@ module _ (t : ℕ) where
       let k = c .before .before .before in
       let r = k .before .before in
       let a = r .before .before .before .before in
-      omega (arith, rest-left _ _ _ _ _ _ _ (r .read-formula .ensures) (k .first .given .1), positive a, a .before .before .before .before .before .pre)
+      let start = a .before .before .before .before .before in
+      omega (arith, rest-left _ _ _ _ _ _ _ (r .read-formula .ensures) (k .first .given .1), positive a, start .pre)
 
   returns-3 : lts.Need-returns-3 (claims t) (at t) reads.Post
   returns-3 c =
