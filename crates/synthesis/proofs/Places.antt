@@ -34,10 +34,6 @@ pub place-le : (e : ℕ) (l : List ℕ) → place e l ≤ length l
 place-le e [] = omega arith
 place-le e (x ∷ l) = step-le (eqb e x) (place e l) (length l) (place-le e l)
 
--- the place of what isn't there
-pub place-missing : (e : ℕ) (l : List ℕ) → (Member e l → ⊥) → place e l ≡ length l
-place-missing e l h = omega (arith, h, place-le e l)
-
 -- the place is the first
 pub place-first : (e : ℕ) (l : List ℕ) (i : ℕ) → i < length l → getD l i 0 ≡ e → place e l ≤ i
 place-first e [] i h p = absurd (omega arith)
@@ -47,9 +43,6 @@ place-first e (x ∷ l) (suc i) h p = step-le (eqb e x) (place e l) i (place-fir
 -- what stands in a list is a member
 pub member-at : (e : ℕ) (l : List ℕ) (i : ℕ) → i < length l → getD l i 0 ≡ e → Member e l
 member-at e l i h p = omega (arith, place-first e l i h p)
-
-pub one-place : (e e′ : ℕ) (l : List ℕ) → Member e l → Member e′ l → place e l ≡ place e′ l → e ≡ e′
-one-place e e′ l h h′ p = sym (place-is e l h) ∙ ap (λ (i : ℕ). getD l i 0) p ∙ place-is e′ l h′
 
 -- ---- the place among the first n of a list
 

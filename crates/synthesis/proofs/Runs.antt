@@ -1,4 +1,4 @@
--- Laws of the runs of a monitor: over one list and then another, and over what was kept.
+-- Laws of the runs of a monitor: over one list and then another, and of what is kept.
 use Prim.Native.Nat.{ℕ, suc}
 use mathlib.Core.Path.{_≡_, refl, _∙_, ap}
 use mathlib.Core.List.{List, [], _∷_, _++_, append-nil}
@@ -77,25 +77,9 @@ module _ {E : Type 0} (answer : E → ℕ → Answer E) where
       run-induction (λ e w. length (verdicts answer e w) ≡ length w) (λ e. refl)
       (λ e c w q h. rw q (ap suc h)) (λ e e′ c w q h. rw q (ap suc h))
 
-  -- ---- what was kept has the properties of all, is kept again, and leads to the same equation
+  -- ---- what was kept has the properties of all
 
   pub kept-all : (P : ℕ → Type 0) (e : E) (w : List ℕ) → All P w → All P (kept answer e w)
   kept-all P =
       run-induction (λ e w. All P w → All P (kept answer e w)) (λ e all. tt)
       (λ e c w q h all. rw q (h (all .1))) (λ e e′ c w q h all. rw q (all .0, h (all .1)))
-
-  record Again (e : E) (w : List ℕ) : Type 0 where
-    keeps : kept answer e (kept answer e w) ≡ kept answer e w
-    ends : ended answer e (kept answer e w) ≡ ended answer e w
-
-  again : (e : E) (w : List ℕ) → Again e w
-  again =
-      run-induction Again (λ e. record { keeps = refl; ends = refl })
-      (λ e c w q h. record { keeps = rw q (h .keeps); ends = rw q (h .ends) })
-      (λ e e′ c w q h. record { keeps = rw (q, q) (ap (λ (l : List ℕ). c ∷ l) (h .keeps)); ends = rw (q, q) (h .ends) })
-
-  pub kept-kept : (e : E) (w : List ℕ) → kept answer e (kept answer e w) ≡ kept answer e w
-  kept-kept e w = again e w .keeps
-
-  pub ended-kept : (e : E) (w : List ℕ) → ended answer e (kept answer e w) ≡ ended answer e w
-  ended-kept e w = again e w .ends
