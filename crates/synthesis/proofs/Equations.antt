@@ -1,7 +1,7 @@
 -- The equations of a rule: they are distinct, reached and closed, and over the limit exactly where no closed list is within it.
 use Prim.Native.Nat.{ℕ, _≤_, _<_}
 use mathlib.Core.Path.{_≡_, refl, sym, _∙_, ap, subst}
-use mathlib.Core.Logic.{_⊎_, inl, inr}
+use mathlib.Core.Logic.{_⊎_, inl, inr, ⊎-elim}
 use mathlib.Core.Bool.{Bool, true, false, true≢false}
 use mathlib.Core.List.{List, []}
 use native.Mathlib.Decide.{decLt}
@@ -13,6 +13,7 @@ use Rattle.reading.specs.Outcome.{accepted}
 use Rattle.reading.specs.File.{ruleOf}
 use Rattle.reading.specs.Nodes.{EnclosingMax, Node}
 use Rattle.reading.proofs.Accepted.{reading-accepts}
+use Rattle.reading.proofs.AllLaws.{all-at}
 use Rattle.synthesis.specs.Monitor.{next}
 use Rattle.synthesis.specs.NodeSet.{Has}
 use Rattle.synthesis.specs.Opening.{Opens, falsity-itself, necessity-itself, first-part, second-part, body-of-max, body-of-variable}
@@ -23,7 +24,7 @@ use Rattle.synthesis.specs.Building.{equationsOf, Synthesis, synthesisOf
 use Rattle.synthesis.specs.Promises.{WellFormedFormula, Counts, AnswersCount, ChecksTable, Closed, RefusesTooMany, Reached, ReachesEquations}
 use Rattle.synthesis.specs.declared.Counted.the-variants.{Refused}
 use Rattle.synthesis.proofs.Places.{Member, place-is, place-first, member-at, Distinct, distinct-places, distinct-fits}
-use Rattle.synthesis.proofs.Finding.{all-at, ClosedUnder, found-closed, found-inside, Reached as ReachedBy, found-reached, found-all}
+use Rattle.synthesis.proofs.Finding.{ClosedUnder, found-closed, found-inside, Reached as ReachedBy, found-reached, found-all}
 use Rattle.synthesis.proofs.Finding.{found-first, found-distinct}
 use Rattle.synthesis.proofs.AnsweringLaws.{answers-as-defined}
 use Rattle.synthesis.proofs.EquationLaws.{follows-violation}
@@ -54,9 +55,9 @@ opens-to (body-of-variable n h o) = opens-to o
 leads-to : {r : Rule} {e c m : ℕ} → Leads r e c m → IsFalsity (r .formula) m ⊎ NecessityNode (r .formula) m
 leads-to (leads h n q o) = opens-to o
 
-no-falsity : {root : Formula} {n : ℕ} → IsFalsity root n ⊎ NecessityNode root n → (IsFalsity root n → ⊥) → NecessityNode root n
-no-falsity (inl x) d = absurd (d x)
-no-falsity (inr x) d = x
+-- what isn't ff is a necessity
+else-necessity : {root : Formula} {n : ℕ} → IsFalsity root n ⊎ NecessityNode root n → (IsFalsity root n → ⊥) → NecessityNode root n
+else-necessity x d = ⊎-elim (λ f. absurd (d f)) (λ n. n) x
 
 -- ---- the equations of a rule
 
@@ -79,7 +80,7 @@ module _ (limit : ℕ) (r : Rule) where
   equations-reached : (i : ℕ) → i < length (equationsOf limit r) → ReachedBy 256 (answerOf r) (firstOf r) (getD (equationsOf limit r) i 0)
   unfolding equationsOf
   equations-reached i h =
-      all-at (ReachedBy 256 (answerOf r) (firstOf r)) (found 256 (answerOf r) limit (firstOf r)) i
+      all-at (ReachedBy 256 (answerOf r) (firstOf r)) (found 256 (answerOf r) limit (firstOf r)) i 0
       (found-reached 256 (answerOf r) limit (firstOf r)) h
 
   pub equations-closed : length (equationsOf limit r) ≤ limit → ClosedUnder 256 (answerOf r) (equationsOf limit r)
@@ -100,7 +101,7 @@ module _ (limit : ℕ) (r : Rule) where
   closed-longer es closed =
       let l = found 256 (answerOf r) limit (firstOf r) in
       distinct-fits l es (found-distinct 256 (answerOf r) limit (firstOf r))
-      (λ i h. all-at (λ e. Member e es) l i (found-inside 256 (answerOf r) es (firstOf r) first under limit) h)
+      (λ i h. all-at (λ e. Member e es) l i 0 (found-inside 256 (answerOf r) es (firstOf r) first under limit) h)
     where
       member : (e : ℕ) → (i : ℕ) × (i < length es) × (getD es i 0 ≡ e) → Member e es
       member e at = member-at e es (at .0) (at .1) (at .2)
@@ -119,17 +120,18 @@ module _ (limit : ℕ) (r : Rule) where
     next-necessities e c e′ q n h =
         let a : Answers r e c (next e′) = subst (Answers r e c) q (answers-as-defined r wf .answers e c) in
         let l = a .1 n .0 h in
-        no-falsity (leads-to l) (a .0 n l)
+        else-necessity (leads-to l) (a .0 n l)
 
     first-necessities : hopeless r ≡ false → Necessities (r .formula) (firstOf r)
     first-necessities hopeful n h =
         let o = answers-as-defined r wf .first n .0 h in
-        no-falsity (opens-to o) (λ f. true≢false (sym (hopeless-iff r wf .1 (follows-violation r wf .start [] .1 (inl (n, o, f)))) ∙ hopeful))
+        else-necessity (opens-to o) (λ f. true≢false (sym (hopeless-iff r wf .1 (follows-violation r wf .start [] .1 (inl (n, o, f)))) ∙ hopeful))
 
-    equations-necessities : hopeless r ≡ false → (i : ℕ) → i < length (equationsOf limit r) → Necessities (r .formula) (getD (equationsOf limit r) i 0)
+    equations-necessities : hopeless r ≡ false → (i : ℕ) → i < length (equationsOf limit r)
+        → Necessities (r .formula) (getD (equationsOf limit r) i 0)
     unfolding equationsOf
     equations-necessities hopeful i h =
-        all-at (Necessities (r .formula)) (found 256 (answerOf r) limit (firstOf r)) i
+        all-at (Necessities (r .formula)) (found 256 (answerOf r) limit (firstOf r)) i 0
         (found-all 256 (answerOf r) (Necessities (r .formula)) (firstOf r) (first-necessities hopeful)
         (λ e c e′ p b q. next-necessities e c e′ q) limit) h
 

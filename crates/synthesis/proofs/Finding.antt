@@ -11,11 +11,11 @@ use lib.Dec.{ltb}
 use lib.ListN.{length, getD, length-append, List·getD-append}
 use borrow.Author.Tests.{eq-eqb, ltb-true, ltb-false, lt-ltb, le-ltb}
 use Rattle.reading.specs.Rule.{All}
-use Rattle.reading.proofs.AllLaws.{all-append}
+use Rattle.reading.proofs.AllLaws.{all-at, all-append}
 use Rattle.synthesis.specs.Monitor.{Answer, dropped, next, cases, kept, ended}
 use Rattle.synthesis.specs.Search.{place, with, noted, turn, found}
 use Rattle.synthesis.proofs.Runs.{kept-last, ended-last}
-use Rattle.synthesis.proofs.Places.{Member, place-is, place-append, member-append, member-last, with-cases, Distinct, distinct-last}
+use Rattle.synthesis.proofs.Places.{Member, place-is, member-append, member-last, with-cases, Distinct, distinct-last}
 
 -- ---- lists that grow at the end
 
@@ -31,9 +31,6 @@ grows-on l m n g h = (g .0 ++ h .0, rw (h .1, g .1) (append-assoc l (g .0) (h .0
 pub grows-member : (l m : List ℕ) (e : ℕ) → Grows l m → Member e l → Member e m
 grows-member l m e g h = rw (g .1) (member-append e l (g .0) h)
 
-pub grows-place : (l m : List ℕ) (e : ℕ) → Grows l m → Member e l → place e m ≡ place e l
-grows-place l m e g h = rw (g .1) (place-append e l (g .0) h)
-
 pub grows-at : (l m : List ℕ) (i : ℕ) → Grows l m → i < length l → getD m i 0 ≡ getD l i 0
 grows-at l m i g h = rw (g .1) (List·getD-append l (g .0) 0 i h)
 
@@ -45,13 +42,6 @@ with-grows l e = with-cases (Grows l) l e (λ h. grows-same l) (λ h. (e ∷ [],
 
 pub with-member : (l : List ℕ) (e : ℕ) → Member e (with l e)
 with-member l e = with-cases (Member e) l e (λ h. h) (λ h. member-last e l)
-
--- ---- one of the elements of which all have a property
-
-pub all-at : (P : ℕ → Type 0) (l : List ℕ) (i : ℕ) → All P l → i < length l → P (getD l i 0)
-all-at P [] i all h = absurd (omega arith)
-all-at P (x ∷ l) zero all h = all .0
-all-at P (x ∷ l) (suc i) all h = all-at P l i (all .1) (omega arith)
 
 module _ (codes : ℕ) (answer : ℕ → ℕ → Answer ℕ) where
   -- ---- the answers of one equation
@@ -168,7 +158,7 @@ module _ (codes : ℕ) (answer : ℕ → ℕ → Answer ℕ) where
   found-all P first p step k =
       found-keeps (All P) first (p, tt)
       (λ k c e l m all in′ h q all′. with-cases (All P) m e (λ old. all′)
-      (λ new. all-append P m (e ∷ []) all′ (step (getD l k 0) c e (all-at P l k all in′) h q, tt))) k
+      (λ new. all-append P m (e ∷ []) all′ (step (getD l k 0) c e (all-at P l k 0 all in′) h q, tt))) k
 
   -- ---- what they lead to is found
 

@@ -5,7 +5,7 @@ use mathlib.Core.Logic.{_↔_}
 use mathlib.Core.List.{List, [], _∷_, _++_}
 use native.Mathlib.Omega.{arith}
 use Rattle.reading.specs.Rule.{Rule, Bytes}
-use Rattle.reading.proofs.AllLaws.{all-append}
+use Rattle.reading.proofs.ByteLaws.{bytes-append}
 use Rattle.synthesis.specs.Violation.{ViolatesRule}
 use Rattle.synthesis.specs.Monitor.{Answer, dropped, next, kept, ended, Loses, now, later, Monitors}
 use Rattle.synthesis.specs.Promises.{DropsViolations, MonitorsDrop}
@@ -56,7 +56,7 @@ pub drops-violations : {E : Type 0} (r : Rule) (answer : E → ℕ → Answer E)
 drops-violations r answer first monitors w c bytes code =
     let v = kept answer first w in
     let step = loses-last answer first w c in
-    let rule = monitors (v ++ (c ∷ [])) (all-append (λ b. b < 256) v (c ∷ []) (kept-all answer (λ b. b < 256) first w bytes) (code, tt)) in
+    let rule = monitors (v ++ (c ∷ [])) (bytes-append v (c ∷ []) (kept-all answer (λ b. b < 256) first w bytes) (code, tt)) in
     (λ q. rule .1 (step .0 q), λ h. step .1 (rule .0 h))
 
 pub kept-safe : {E : Type 0} (r : Rule) (answer : E → ℕ → Answer E) (first : E) → Monitors r answer first → (w : List ℕ) → Bytes w

@@ -2,12 +2,12 @@
 use Prim.Native.Nat.{ℕ, zero, suc, _+_, _*_, _/_, _%_, _^_, _≤_, _<_, min, max}
 use mathlib.Core.Path.{_≡_, refl, sym, _∙_, ap}
 use mathlib.Core.Logic.{_↔_, _⊎_, inl, inr}
-use mathlib.Core.Bool.{true, false, true≢false}
+use mathlib.Core.Bool.{true}
 use native.Mathlib.Nat.{mod-lt, mod-eq-of-lt, one-mul, mul-div-mul-right, pow-suc, div-one, div-eq-of-lt, zero-div, div-self, one-le-pow}
 use native.Mathlib.Omega.{arith}
 use lib.Bits.{bitAnd, bitOr, bitXor, differ, or-shr, or-step, and-shr, and-step, xor-shr, xor-step, xor-add-and}
 use lib.Pow.{pow-lt}
-use borrow.Author.Tests.{eq-eqb, ne-eqb, eqb-true}
+use borrow.Author.Tests.{eq-eqb, eqb-true}
 use Rattle.reading.specs.Pattern.{bit}
 use Rattle.reading.proofs.Bits.{bit-zero, bit-suc}
 use Rattle.synthesis.specs.NodeSet.{Has, has, none, single, union, common}
@@ -86,8 +86,11 @@ single-has (suc k) (suc n) h =
 pub half-has : (e n : ℕ) → Has (e / 2) n ↔ Has e (suc n)
 half-has e n = (λ h. bit-suc n e ∙ h, λ h. sym (bit-suc n e) ∙ h)
 
--- a shifted one in 64 bits
-pub shl-one : (k : ℕ) → k < 64 → 1 * 2 ^ k % 18446744073709551616 ≡ single k
+-- a one shifted by k in 64 bits, as the code has it
+abbrev pub shiftedOne : ℕ → ℕ
+shiftedOne k = 1 * 2 ^ k % 18446744073709551616
+
+pub shl-one : (k : ℕ) → k < 64 → shiftedOne k ≡ single k
 shl-one k h = rw (one-mul (2 ^ k), mod-eq-of-lt (pow-lt {j = 64} h))
 
 -- ---- the test for a member
@@ -95,14 +98,8 @@ shl-one k h = rw (one-mul (2 ^ k), mod-eq-of-lt (pow-lt {j = 64} h))
 pub has-true : (e n : ℕ) → has e n ≡ true → Has e n
 has-true e n h = eqb-true (bit n e) 1 h
 
-pub has-false : (e n : ℕ) → has e n ≡ false → Has e n → ⊥
-has-false e n h k = true≢false (rw k at h)
-
 pub true-has : (e n : ℕ) → Has e n → has e n ≡ true
 true-has e n h = eq-eqb (bit n e) 1 h
-
-pub false-has : (e n : ℕ) → (Has e n → ⊥) → has e n ≡ false
-false-has e n h = ne-eqb (bit n e) 1 h
 
 -- ---- two sets with the same members are one
 

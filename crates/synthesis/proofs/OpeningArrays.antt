@@ -1,5 +1,5 @@
 -- Opening a node by the arrays of its rule: a row for each kind.
-use Prim.Native.Nat.{ℕ, _+_, _*_, _%_, _^_, _<_}
+use Prim.Native.Nat.{ℕ, _+_, _<_}
 use mathlib.Core.Path.{_≡_, refl, ap}
 use mathlib.Core.Bool.{Bool, true, _&&_, false≢true}
 use mathlib.Core.List.{List, _∷_}
@@ -13,10 +13,10 @@ use Rattle.reading.specs.Rule.{Rule}
 use Rattle.reading.specs.Nodes.{EnclosingMax, noMax, Node, Resolves, is-truth, is-falsity, is-both, is-necessity, is-max, is-variable}
 use Rattle.reading.specs.Numbered.{kind, numberOf}
 use Rattle.reading.proofs.NodeLaws.{Numbers, node-exists, variable-bound}
-use Rattle.reading.proofs.NumberedLaws.{mapped-at}
+use Rattle.reading.proofs.ListLaws.{mapped-at}
 use Rattle.synthesis.specs.Answering.{opening}
 use Rattle.synthesis.specs.Arrays.{IsRule, SomeNode, ZeroFrom, IsOpening, listedAround}
-use Rattle.synthesis.proofs.NodeSetLaws.{shl-one}
+use Rattle.synthesis.proofs.NodeSetLaws.{shiftedOne, shl-one}
 use Rattle.synthesis.proofs.NodeArrays.{node-below, kinds-long, args-long, kind-at, argument-at, in-64, resolved}
 
 -- ---- where the parts of a node stand
@@ -104,16 +104,16 @@ module _ {kinds args opened : List ℕ} {k : ℕ} where
           let bound = variable-bound (length (r .patterns)) (ir .well-formed .formula) n in
           rw (mapped-at (λ (m : EnclosingMax). getD opened (m .number) 0) ms d noMax 0 bound, ap numberOf m, is)
 
-  pub opening-falsity : k < 64 → getD kinds k 0 ≡ 3 → IsOpening kinds args opened k (1 * 2 ^ k % 18446744073709551616)
+  pub opening-falsity : k < 64 → getD kinds k 0 ≡ 3 → IsOpening kinds args opened k (shiftedOne k)
   opening-falsity h q = by-row q on
     where
-      on : Row kinds args opened k 3 (1 * 2 ^ k % 18446744073709551616)
+      on : Row kinds args opened k 3 (shiftedOne k)
       on r ir z ms falsity n x is is-falsity = shl-one k h
 
-  pub opening-necessity : k < 64 → getD kinds k 0 ≡ 5 → IsOpening kinds args opened k (1 * 2 ^ k % 18446744073709551616)
+  pub opening-necessity : k < 64 → getD kinds k 0 ≡ 5 → IsOpening kinds args opened k (shiftedOne k)
   opening-necessity h q = by-row q on
     where
-      on : Row kinds args opened k 5 (1 * 2 ^ k % 18446744073709551616)
+      on : Row kinds args opened k 5 (shiftedOne k)
       on r ir z ms (necessity p f) n x is (is-necessity n₁) = shl-one k h
 
   pub opening-truth : (getD kinds k 0 ≡ 3 → ⊥) → (getD kinds k 0 ≡ 4 → ⊥) → (getD kinds k 0 ≡ 5 → ⊥) → (getD kinds k 0 ≡ 6 → ⊥)

@@ -1,5 +1,5 @@
 -- Sets that are made by a test of one node after the other.
-use Prim.Native.Nat.{ℕ, _+_, _*_, _%_, _^_, _<_}
+use Prim.Native.Nat.{ℕ, _+_, _<_}
 use mathlib.Core.Path.{_≡_, refl}
 use mathlib.Core.Logic.{_↔_, _⊎_, inl, inr, ⊎-elim}
 use mathlib.Core.Bool.{Bool, true, false, false≢true}
@@ -12,11 +12,11 @@ use borrow.Author.Count.{below-more}
 use borrow.Author.Tests.{eq-eqb, eqb-true}
 use Rattle.synthesis.specs.NodeSet.{Has, none, single}
 use Rattle.synthesis.specs.Arrays.{withNode, HasKind}
-use Rattle.synthesis.proofs.NodeSetLaws.{has-none, shl-one}
+use Rattle.synthesis.proofs.NodeSetLaws.{has-none, shiftedOne, shl-one}
 use Rattle.synthesis.proofs.MemberLaws.{single-iff, union-iff}
 
 -- where the test holds, the code puts in a shifted one
-pub with-is : (e k : ℕ) (b : Bool) → k < 64 → b ≡ true → bitOr e (1 * 2 ^ k % 18446744073709551616) ≡ withNode e k b
+pub with-is : (e k : ℕ) (b : Bool) → k < 64 → b ≡ true → bitOr e (shiftedOne k) ≡ withNode e k b
 with-is e k b h t = rw (t, shl-one k h)
 
 pub with-has : (e k : ℕ) (b : Bool) (j : ℕ) → Has (withNode e k b) j ↔ (Has e j ⊎ ((k ≡ j) × (b ≡ true)))

@@ -1,7 +1,6 @@
 -- `plan_of` meets its contract: each return is the plan of what is made of the file.
-use Prim.Native.Nat.{_<_}
 use borrow.Author.Needs.{needs}
-use Rattle.reading.proofs.AllLaws.{all-of}
+use Rattle.reading.proofs.ByteLaws.{slice-bytes}
 use Rattle.synthesis.proofs.PlanLaws.{Read, unread-plan, read-is, read-some, hopeless-plan, many-plan, counted-plan}
 use Rattle.synthesis.proofs.plan_of.Statement.{statement}
 use Rattle.synthesis.proofs.plan_of.Tie as tie
@@ -11,8 +10,7 @@ read : (c : tie.After-enum-told) → Read (c .before .before .before .before .ar
 read c =
     let r = c .before .before in
     let file = r .before .before .args .rule .now in
-    let bytes = all-of (λ b. b < 256) file 0 (λ i h. r .before .shared-slice-known .given i .fits) in
-    read-is file bytes _ (r .read-rule .ensures) (c .enum-told .given .1)
+    read-is file (slice-bytes file (r .before .shared-slice-known .given)) _ (r .read-rule .ensures) (c .enum-told .given .1)
 
 read-rule-requires : tie.Need-read-rule-requires
 read-rule-requires c κs = search needs
