@@ -5,13 +5,14 @@ use mathlib.Core.List.{List, [], _∷_, _++_, map, append-assoc}
 use Prim.Native.Nat.{ℕ, zero, suc, _+_, _-_, _*_, _/_, _%_, _≤_, _<_}
 use native.Mathlib.Omega.{arith}
 use lib.Dec.{ltb}
-use lib.ListN.{length, getD, drop, length-append, length-take, length-map, length-replicate, drop-of-length-le}
+use lib.ListN.{length, getD, drop, length-append, length-take, length-map, drop-of-length-le}
 use lib.Seq.{take-append-seam, drop-cons, getD-take, length-take-le, take-at}
 use borrow.Author.Tests.{ne-eqb, ltb-true, ltb-false}
 use Rattle.reading.specs.Pattern.{extentOf}
 use Rattle.reading.specs.Numbered.{numbered, noExtent}
 use Rattle.reading.specs.declared.Extent.{Extent}
 use Rattle.reading.specs.declared.NumberedRule.{NumberedRule}
+use Rattle.reading.proofs.NumberedLaws.{padded-long}
 use Rattle.synthesis.specs.Table.{rowOf, meaning}
 use Rattle.synthesis.proofs.Rows.{row-none}
 use Rattle.listing.specs.Text.{text, decimal}
@@ -173,8 +174,7 @@ lists-rule r table count most w h =
     let ps = r .patterns in
     let es = map extentOf ps in
     let same : length es ≡ length ps = length-map ps extentOf in
-    let size : length (numbered r .extents) ≡ 32 =
-    length-append es _ ∙ omega (arith, length-replicate (32 - length es) noExtent, w .few-patterns) in
+    let size : length (numbered r .extents) ≡ 32 = padded-long noExtent 32 es (omega (arith, w .few-patterns)) in
     let n : patternCount (numbered r) ≡ length ps = omega (arith, w .few-patterns) in
     let these : extentsOf (numbered r) ≡ es = rw n (take-at es _ (length ps) same) in
     lists-all (numbered r) table count most size h ∙ ap (λ (l : List Extent). listing l count table) these

@@ -8,6 +8,8 @@ use lib.Dec.{ltb}
 use lib.ListN.{length, getD, drop}
 use borrow.Author.Tests.{ltb-true, ltb-false}
 use Rattle.reading.specs.Rule.{All}
+use Rattle.reading.proofs.AllLaws.{all-map}
+use Rattle.reading.proofs.ListLaws.{getD-inside}
 use Rattle.synthesis.specs.Table.{rowOf, meaning}
 use Rattle.listing.specs.Runs.{Run, run, runsFrom, runs, RunTo}
 use Rattle.listing.specs.Promises.{Longest, InOrder, Groups, ShowsAnswers}
@@ -56,20 +58,10 @@ module _ (row : List ℕ) where
 
 -- ---- what the table answers
 
-all-map : {A : Type 0} {P Q : A → Type 0} (l : List A) → ((x : A) → P x → Q x) → All P l → All Q l
-all-map [] f all = tt
-all-map (x ∷ l) f all = (f x (all .0), all-map l f (all .1))
-
--- an element that is there
-there : (l : List ℕ) (i d e : ℕ) → i < length l → getD l i d ≡ getD l i e
-there [] i d e h = absurd (omega arith)
-there (x ∷ l) zero d e h = refl
-there (x ∷ l) (suc i) d e h = there l i d e (omega arith)
-
 pub shows-answers : ShowsAnswers
 shows-answers table k =
     let row = rowOf 256 table k in
     all-map (runs row) (λ r longest c h l.
     let reaches = longest .reaches in
-    ap (meaning 255) (there row c 255 0 (omega (arith, reaches .inside)) ∙ reaches .same c h l ∙ sym (longest .entry)))
+    ap (meaning 255) (getD-inside row c 255 0 (omega (arith, reaches .inside)) ∙ reaches .same c h l ∙ sym (longest .entry)))
     (groups row .longest)

@@ -8,12 +8,13 @@ use native.Mathlib.Omega.{arith}
 use lib.Dec.{eqb}
 use lib.ListN.{length, getD, drop, length-take, length-drop}
 use borrow.Author.Tests.{eqb-true, eqb-false, eq-eqb, ne-eqb}
+use Rattle.reading.proofs.ListLaws.{getD-inside}
 use Rattle.synthesis.specs.Monitor.{dropped, next}
 use Rattle.synthesis.specs.Table.{rowOf, meaning, entry}
 use Rattle.synthesis.specs.Promises.{RowInRange}
 use Rattle.synthesis.proofs.Rows.{row-is}
 use Rattle.running.specs.Running.{WellFormedTable}
-use Rattle.running.proofs.Tables.{getD-inside, row-at}
+use Rattle.running.proofs.Tables.{row-at}
 use Rattle.models.specs.Model.{silent, code, Model}
 use Rattle.models.specs.Phone.{labelOf}
 use Rattle.models.specs.Exploring.{Reached, silently, keeping, NeverDrops, leadsTo}

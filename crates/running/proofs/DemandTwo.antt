@@ -8,6 +8,7 @@ use lib.ListN.{length, getD, take}
 use lib.Seq.{length-take-le, getD-take}
 use Rattle.reading.specs.Rule.{Rule, Bytes}
 use Rattle.reading.proofs.AllLaws.{all-getD, all-of}
+use Rattle.reading.proofs.ByteLaws.{byte-at}
 use Rattle.synthesis.specs.Violation.{ViolatesRule}
 use Rattle.synthesis.specs.Monitor.{Answer, verdicts, Monitors}
 use Rattle.synthesis.specs.Table.{entry}
@@ -34,13 +35,10 @@ module _ {E : Type 0} (r : Rule) (answer : E → ℕ → Answer E) (first : E) (
       let front = take i w in
       let c = getD w i 0 in
       let long : length front ≡ i = length-take-le i w (omega arith) in
-      let before : Bytes front = all-of (λ b. b < 256) front 0 (λ j b. rw (getD-take i w j 0 (omega arith)) (byte j)) in
-      let drops = drops-violations r answer first monitors front c before (byte i) in
+      let before : Bytes front = all-of (λ b. b < 256) front 0 (λ j b. rw (getD-take i w j 0 (omega arith)) (byte-at w bytes j)) in
+      let drops = drops-violations r answer first monitors front c before (byte-at w bytes i) in
       let verdict = dropped-at answer first w i h in
       rw (verdicts-take answer first w i (omega arith), ← kept-with answer first front) (λ e. drops .0 (verdict .0 e), λ v. verdict .1 (drops .1 v))
-    where
-      byte : (j : ℕ) → getD w j 0 < 256
-      byte j = all-getD (λ b. b < 256) w j 0 bytes (omega arith)
 
 -- ---- a table
 

@@ -7,7 +7,7 @@ use lib.ListN.{length, take, drop}
 use lib.Seq.{take-append-seam, take-at}
 use Rattle.reading.specs.Rule.{Bytes}
 use Rattle.reading.specs.Outcome.{accepted, refused}
-use Rattle.reading.proofs.AllLaws.{all-append}
+use Rattle.reading.proofs.ByteLaws.{bytes-append}
 use Rattle.reading.proofs.Outcomes.{never-accepted}
 use Rattle.synthesis.specs.Monitor.{kept, verdicts, ended, Renames}
 use Rattle.synthesis.proofs.Runs.{kept-append, verdicts-append, ended-append, verdicts-length}
@@ -98,7 +98,7 @@ module _ (limit mark count : ℕ) (table : List ℕ) (wf : WellFormedTable limit
       (before .inside) bytes in
       rw (run .keeps, run .judges, run .ends)
       (record {
-        bytes = all-append (λ b. b < 256) (h .scans) w (before .bytes) bytes;
+        bytes = bytes-append (h .scans) w (before .bytes) bytes;
         state = ap (λ (s : State). ended F s w) (before .state) ∙ sym (ended-append F start (h .scans) w);
         kept = rw (kept-append F start (h .scans) w, ← before .state, ← before .kept);
         verdicts = rw (verdicts-append F start (h .scans) w, ← before .state, ← before .verdicts);

@@ -11,6 +11,7 @@ use lib.Dec.{eqb, ltb, leb}
 use lib.ListN.{length, getD, take, drop, length-take, List·getD-eq-default}
 use lib.Seq.{length-take-le, getD-take, getD-drop}
 use borrow.Author.Tests.{eqb-true, eqb-false, ltb-true, lt-ltb, leb-true, le-leb}
+use Rattle.reading.proofs.ListLaws.{getD-inside}
 use Rattle.synthesis.specs.Monitor.{dropped, next, cases, ended}
 use Rattle.synthesis.specs.Table.{rowOf, meaning}
 use Rattle.synthesis.proofs.Rows.{row-is}
@@ -105,12 +106,6 @@ module _ (limit mark : ℕ) (table : List ℕ) (count : ℕ) where
     well-fits wf inside = rw (well-tests wf) (lt-ltb (s .equation) count inside)
 
 -- ---- the entries of a well-formed table
-
--- an element, whatever stands for a missing one
-pub getD-inside : (l : List ℕ) (i d d′ : ℕ) → i < length l → getD l i d ≡ getD l i d′
-getD-inside [] i d d′ h = absurd (omega arith)
-getD-inside (x ∷ l) zero d d′ h = refl
-getD-inside (x ∷ l) (suc i) d d′ h = getD-inside l i d d′ (omega arith)
 
 -- a row's entry by its place in the table
 pub row-at : (table : List ℕ) (k c d : ℕ) → 256 * k + 256 ≤ length table → c < 256 → getD (rowOf 256 table k) c d ≡ getD table (256 * k + c) 0
