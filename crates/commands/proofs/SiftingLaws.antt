@@ -1,6 +1,6 @@
 -- The calls that `sift` makes: one more on the same table, and that under an accepted rule they sift by it.
 use Prim.Native.Nat.{ℕ, _≤_}
-use mathlib.Core.Path.{_≡_, refl, sym, ap, _∙_}
+use mathlib.Core.Path.{_≡_, refl, ap, _∙_}
 use mathlib.Core.Logic.{inl}
 use mathlib.Core.List.{List}
 use native.Mathlib.Omega.{arith}
@@ -44,16 +44,12 @@ pub under-rule : (outcome : Outcome Synthesis) (table : List ℕ) (n : ℕ) {t :
 under-rule outcome table n same e (h, calls, ends) =
     (h, calls-weaken 128 255 (λ h c may. record { count = n; answered = e; fit-on = rw (← same) may }) h calls, ends)
 
--- two answers with counts
-same-counts : {m n : ℕ} → Equations m ≡ Equations n → m ≡ n
-same-counts e = cc
-
 pub sifts-by-rule : SiftsByRule
 sifts-by-rule s table r n bytes read e h calls =
     drops-exactly 128 255 s table r n (omega arith) bytes read e h
     (calls-weaken 128 255
     (λ h c under.
-    let k : under .count ≡ n = same-counts (sym (under .answered) ∙ e) in
+    let k : under .count ≡ n = cc (under .answered) in
     inl (record { same-rows = rw (← k) (under .fit-on .on .same-rows); same-count = under .fit-on .on .same-count ∙ k })) h calls)
 
 pub no-calls-refused : NoCallsRefused

@@ -1,8 +1,6 @@
 -- `print_equations` meets its contract: the answer is that of `build`.
-use Prim.Native.Nat.{_<_}
-use native.Mathlib.Omega.{arith}
 use borrow.Author.Needs.{needs}
-use Rattle.reading.proofs.AllLaws.{all-of}
+use Rattle.reading.proofs.ByteLaws.{slice-bytes}
 use Rattle.commands.proofs.print_equations.Statement.{statement}
 use Rattle.commands.proofs.print_equations.Tie as tie
 
@@ -18,7 +16,7 @@ same-length c = search needs
 returns : tie.Need-returns
 returns c =
     let known = c .before .before .before .before .before .before .before in (
-      all-of (λ b. b < 256) (known .before .args .file .now) 0 (λ i h. omega (arith, known .shared-slice-known .given i)),
+      slice-bytes (known .before .args .file .now) (known .shared-slice-known .given),
       c .before .before .before .before .build .ensures .0,
     )
 

@@ -1,8 +1,6 @@
 -- `print_judged` meets its contract: the answer is that of `judge`.
-use Prim.Native.Nat.{_<_}
-use native.Mathlib.Omega.{arith}
 use borrow.Author.Needs.{needs}
-use Rattle.reading.proofs.AllLaws.{all-of}
+use Rattle.reading.proofs.ByteLaws.{slice-bytes}
 use Rattle.commands.proofs.judging.print_judged.Statement.{statement}
 use Rattle.commands.proofs.judging.print_judged.Tie as tie
 
@@ -23,8 +21,8 @@ returns c =
     let known = c .before .before .before .before .before .before .before in
     let x = known .before .before .args in (
       (
-        all-of (λ b. b < 256) (x .rule .now) 0 (λ i h. omega (arith, known .before .shared-slice-known .given i)),
-        all-of (λ b. b < 256) (x .model .now) 0 (λ i h. omega (arith, known .shared-slice-known2 .given i)),
+        slice-bytes (x .rule .now) (known .before .shared-slice-known .given),
+        slice-bytes (x .model .now) (known .shared-slice-known2 .given),
       ),
       c .before .before .before .before .judge .ensures .0,
     )

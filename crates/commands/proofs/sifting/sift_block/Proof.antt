@@ -1,10 +1,10 @@
 -- `sift_block` meets its contract: what the run keeps has room in the output.
-use Prim.Native.Nat.{_≤_, _<_}
+use Prim.Native.Nat.{_≤_}
 use native.Mathlib.Omega.{arith}
 use lib.ListN.{length}
 use borrow.Author.Needs.{needs}
 use Rattle.io.proofs.Counting.{front}
-use Rattle.reading.proofs.AllLaws.{all-of}
+use Rattle.reading.proofs.ByteLaws.{slice-bytes}
 use Rattle.running.proofs.Outcomes.{kept-room}
 use Rattle.commands.proofs.sifting.sift_block.Statement.{statement}
 use Rattle.commands.proofs.sifting.sift_block.Tie as tie
@@ -38,7 +38,7 @@ returns : tie.Need-returns
 returns c =
     let run = c .before .before .before .before .before .before .before in
     let known = run .before .before .before .before .before in (
-      all-of (λ b. b < 256) (known .before .before .args .scans .now) 0 (λ i h. omega (arith, known .shared-slice-known2 .given i)),
+      slice-bytes (known .before .before .args .scans .now) (known .shared-slice-known2 .given),
       cc (run .run .ensures .0),
     )
 

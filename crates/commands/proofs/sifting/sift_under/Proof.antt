@@ -1,11 +1,9 @@
 -- `sift_under` meets its contract: its calls are on the table that building leaves, and after a refusal there are none.
-use Prim.Native.Nat.{_<_}
 use mathlib.Core.Path.{sym, _∙_, subst}
-use native.Mathlib.Omega.{arith}
 use lib.ListN.{length}
 use borrow.Author.Needs.{needs}
 use Rattle.reading.specs.Rule.{Bytes}
-use Rattle.reading.proofs.AllLaws.{all-of}
+use Rattle.reading.proofs.ByteLaws.{slice-bytes}
 use Rattle.synthesis.specs.Building.{buildingOf}
 use Rattle.running.specs.Calls.{noCalls, none}
 use Rattle.running.specs.Running.{WellFormedTable}
@@ -17,7 +15,7 @@ use Rattle.commands.proofs.sifting.sift_under.Tie as tie
 bytes : (c : tie.After-build) → Bytes (c .before .before .before .before .args .file .now)
 bytes c =
     let known = c .before .before .before in
-    all-of (λ b. b < 256) (known .before .args .file .now) 0 (λ i h. omega (arith, known .shared-slice-known .given i))
+    slice-bytes (known .before .args .file .now) (known .shared-slice-known .given)
 
 build-requires : tie.Need-build-requires
 build-requires c κs = search needs
