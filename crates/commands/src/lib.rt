@@ -6,6 +6,7 @@ mod sifting;
 pub use judging::meets;
 use libc::STDIN_FILENO;
 use libc::STDOUT_FILENO;
+use listing::LINES;
 use listing::Line;
 use reading::NumberedRule;
 use running::State;
@@ -24,9 +25,6 @@ pub struct SiftResult {
     pub answer: Counted,
     pub state: State,
 }
-
-// A listing of 128 equations has no more lines than this.
-const LINES: usize = 32802;
 
 // Prints a line, and says whether it was written.
 fn print_line(line: Line) -> bool

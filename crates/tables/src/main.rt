@@ -3,6 +3,7 @@
 // A case is a table's size and a file's length, each as three bytes, highest first, and then the rule file. The input ends after the last.
 use libc::STDIN_FILENO;
 use libc::STDOUT_FILENO;
+use listing::LINES;
 use listing::Line;
 use reading::NumberedRule;
 use synthesis::Counted;
@@ -17,9 +18,6 @@ ghost use Rattle.listing.specs.Positions.{Within};
 
 // 2^56: 256 times this is 2^64.
 const WRAPPING: usize = 72057594037927936;
-
-// A listing of 128 equations has no more lines than this.
-const LINES: usize = 32802;
 
 // A text of several parts: how long they are together, and the digest of them all.
 struct Summary {
