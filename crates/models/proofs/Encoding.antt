@@ -10,7 +10,7 @@ use borrow.Author.Tests.{ltb-false, eqb-true, eqb-false, le-ltb, ne-eqb, not-fal
 use Rattle.reading.specs.Rule.{All, Bytes}
 use Rattle.reading.specs.Outcome.{Outcome, accepted, refused}
 use Rattle.reading.specs.declared.Answer.the-variants.{Accepted}
-use Rattle.reading.proofs.AllLaws.{all-append}
+use Rattle.reading.proofs.ByteLaws.{bytes-append}
 use Rattle.reading.proofs.Outcomes.{accepted-is, accepted-by, then-accepts, passes}
 use Rattle.models.specs.Phone.{Phone, WellFormedStep, WellFormedPhone, recordBytes, encodeStep, encodeSteps, encodePhone}
 use Rattle.models.specs.File.{statesOf, stepsAt, phoneOf}
@@ -95,7 +95,7 @@ step-is-bytes states few x w = on (eqb (x .label) 256) refl
 steps-are-bytes : (states : ℕ) → states ≤ 256 → (xs : List Step) → All (WellFormedStep states) xs → Bytes (encodeSteps xs)
 steps-are-bytes states few [] w = tt
 steps-are-bytes states few (x ∷ xs) w =
-    all-append (λ b. b < 256) (encodeStep x) (encodeSteps xs) (step-is-bytes states few x (w .0)) (steps-are-bytes states few xs (w .1))
+    bytes-append (encodeStep x) (encodeSteps xs) (step-is-bytes states few x (w .0)) (steps-are-bytes states few xs (w .1))
 
 pub encode-bytes : (y : Phone) → WellFormedPhone y → Bytes (encodePhone y)
 encode-bytes y w =

@@ -1,13 +1,13 @@
 -- Two files that agree in 2,051 bytes say the same, and 2,050 aren't enough.
 use mathlib.Core.Path.{_≡_, refl, _∙_}
 use mathlib.Core.List.{List, [], _∷_, _++_}
-use Prim.Native.Nat.{ℕ, zero, suc, _+_, _*_, _≤_, _<_}
+use Prim.Native.Nat.{ℕ, zero, suc, _+_, _*_, _≤_}
 use native.Mathlib.Omega.{arith}
 use lib.ListN.{length, replicate, length-replicate}
 use lib.Seq.{take-at}
 use borrow.Author.Tests.{lt-ltb, ne-eqb}
 use Rattle.reading.specs.Rule.{All}
-use Rattle.reading.proofs.AllLaws.{all-append}
+use Rattle.reading.proofs.ByteLaws.{bytes-append}
 use Rattle.reading.specs.Outcome.{accepted, refused}
 use Rattle.reading.proofs.Agreement.{Agree, inside, settled}
 use Rattle.reading.proofs.Outcomes.{then-agree, both-agree}
@@ -108,7 +108,7 @@ not-by-fewer = on 512 refl
         let long : length (encodePhone y) ≡ 2050 = omega (arith, turns-length n) in (
           encodePhone y ++ (17 ∷ []),
           y,
-          all-append (λ b. b < 256) (encodePhone y) (17 ∷ []) (encode-bytes y w) (omega arith, tt),
+          bytes-append (encodePhone y) (17 ∷ []) (encode-bytes y w) (omega arith, tt),
           rw (take-at (encodePhone y) (17 ∷ []) 2050 long) (phone-reads y w),
           rw (← long) (full-refused y w full),
         )

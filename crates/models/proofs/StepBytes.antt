@@ -9,7 +9,7 @@ use lib.Dec.{eqb, ltb, leb}
 use borrow.Author.Tests.{ltb-true, ltb-false, leb-false, eqb-true, eqb-false, lt-ltb, lt-leb, ne-eqb, not-false}
 use Rattle.reading.specs.Rule.{All, Bytes}
 use Rattle.reading.specs.Outcome.{Outcome, accepted, refused, andThen}
-use Rattle.reading.proofs.AllLaws.{all-getD}
+use Rattle.reading.proofs.ByteLaws.{byte-at}
 use Rattle.reading.proofs.Outcomes.{accepted-is, accepted-by, then-accepts, passes}
 use Rattle.reading.proofs.Places.{Byte, from-byte, byte-of, first-byte, rest-after}
 use Rattle.models.specs.Phone.{WellFormedStep, recordBytes, encodeStep, encodeSteps}
@@ -81,7 +81,7 @@ module _ (f : List ℕ) (states at left : ℕ) (x : Step) where
       on : (b : Bool) → eqb (getD f at 0) 17 ≡ b → not (b || eqb (getD f at 0) 18) ≡ false → 0 < left
           → cond b (codeStepAt f states at) (silentStepAt f states at) ≡ accepted x → StepStands f states at left x
       on true is k some e′ =
-          code-stands (record { inside = inside; is = eqb-true _ _ is }) (all-getD (λ b. b < 256) f (at + 2) 0 bytes (omega arith)) some e′
+          code-stands (record { inside = inside; is = eqb-true _ _ is }) (byte-at f bytes (at + 2)) some e′
       on false is k some e′ = silent-stands (record { inside = inside; is = eqb-true _ _ (not-false _ k) }) some e′
 
   pub step-fits : Bytes f → at < length f → stepAt f states at left ≡ accepted x → Fits f at left x

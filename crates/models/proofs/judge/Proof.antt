@@ -1,9 +1,7 @@
 -- `judge` meets its contract: each return is a row of what judging answers and leaves.
-use Prim.Native.Nat.{_<_}
-use native.Mathlib.Omega.{arith}
 use borrow.Author.Needs.{needs}
 use Rattle.reading.specs.Rule.{Bytes}
-use Rattle.reading.proofs.AllLaws.{all-of}
+use Rattle.reading.proofs.ByteLaws.{slice-bytes}
 use Rattle.models.proofs.Judgment.{judges-model-refused, judges-rule-refused, Accepts, both-accepted}
 use Rattle.models.proofs.Judgment.{model-has-phone, table-well-formed, judges-meets, judges-breaks}
 use Rattle.models.proofs.judge.Statement.{statement}
@@ -12,11 +10,11 @@ use Rattle.models.proofs.judge.Tie as tie
 -- the files are bytes
 rule-bytes : (c : tie.After-slice-known) → Bytes (c .before .before .before .args .rule .now)
 rule-bytes c =
-    all-of (λ b. b < 256) (c .before .before .before .args .rule .now) 0 (λ i h. omega (arith, c .before .before .shared-slice-known .given i))
+    slice-bytes (c .before .before .before .args .rule .now) (c .before .before .shared-slice-known .given)
 
 model-bytes : (c : tie.After-slice-known) → Bytes (c .before .before .before .args .model .now)
 model-bytes c =
-    all-of (λ b. b < 256) (c .before .before .before .args .model .now) 0 (λ i h. omega (arith, c .before .shared-slice-known2 .given i))
+    slice-bytes (c .before .before .before .args .model .now) (c .before .shared-slice-known2 .given)
 
 -- the model is read and the rule built
 accepts : (c : tie.After-enum-told3) → let b = c .before .before .before .before in let m = b .before .before .before .before in

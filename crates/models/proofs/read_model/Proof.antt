@@ -1,11 +1,10 @@
 -- `read_model` meets its contract: each of its three ways out.
 use mathlib.Core.Path.{_≡_, sym, _∙_, subst}
-use Prim.Native.Nat.{ℕ, _<_}
+use Prim.Native.Nat.{ℕ}
 use mathlib.Core.List.{List}
-use native.Mathlib.Omega.{arith}
 use borrow.Author.Needs.{needs}
 use Rattle.reading.specs.Outcome.{accepted}
-use Rattle.reading.proofs.AllLaws.{all-of}
+use Rattle.reading.proofs.ByteLaws.{slice-bytes}
 use Rattle.models.specs.File.{statesOf}
 use Rattle.models.specs.Loading.{Begun}
 use Rattle.models.specs.declared.PhoneModel.{PhoneModel}
@@ -52,9 +51,8 @@ read-array-requires : tie.Need-read-array-requires
 read-array-requires c κs =
     let k = c .before .before in
     let known = k .before .before .before .before .shared-slice-known .given in
-    let bytes = all-of (λ b. b < 256) (f k) 0 (λ i h. omega (arith, known i)) in
     subst (λ (b : PhoneModel). Begun (f k) (states k) (b .steps) 0 2) (sym (c .before .blank-model .ensures))
-    (none-begun (f k) _ bytes)
+    (none-begun (f k) _ (slice-bytes (f k) known))
 
 enum-told-2 : tie.Need-enum-told-2
 enum-told-2 c = search needs
