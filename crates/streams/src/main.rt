@@ -13,11 +13,11 @@ mod printing;
 
 use libc::STDIN_FILENO;
 use printing::print_buffers;
-use printing::print_counted;
+use printing::print_built;
 use printing::print_ran;
 use running::State;
-use synthesis::Counted;
 use testing::Head;
+use testing::built_count;
 use testing::fill;
 use testing::read_byte;
 use testing::read_long;
@@ -33,14 +33,6 @@ struct Held {
 enum Step {
     Next(Held),
     Ended,
-}
-
-// How many equations were built.
-fn built_count(answer: Counted) -> usize {
-    match answer {
-        Counted::Equations(n) => n,
-        Counted::Refused(_, _) => 0,
-    }
 }
 
 fn take_fill(held: Held, table: &mut [u8]) -> Step {
@@ -74,7 +66,7 @@ fn read_rule(space: &mut [u8], table: &mut [u8]) -> Step {
         return Step::Ended;
     }
     let built = synthesis::build(space, table);
-    print_counted(built);
+    print_built(built);
     Step::Next(Held {
         count: built_count(built),
         state: running::start(),

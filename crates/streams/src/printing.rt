@@ -4,19 +4,12 @@ use running::Checked;
 use running::Ran;
 use synthesis::Counted;
 use testing::digest;
+use testing::print_counted;
 use testing::print_field;
 use testing::print_refusal;
 
-pub fn print_counted(answer: Counted) {
-    match answer {
-        Counted::Equations(n) => {
-            io::write_all(STDOUT_FILENO, b"equations");
-            print_field(n as u64);
-        }
-        Counted::Refused(number, place) => {
-            print_refusal(number, place);
-        }
-    }
+pub fn print_built(answer: Counted) {
+    print_counted(answer);
     io::write_all(STDOUT_FILENO, b"\n");
 }
 

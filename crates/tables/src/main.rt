@@ -8,10 +8,11 @@ use listing::Line;
 use reading::NumberedRule;
 use synthesis::Counted;
 use testing::Head;
+use testing::built_count;
 use testing::digest;
 use testing::fill;
+use testing::print_counted;
 use testing::print_field;
-use testing::print_refusal;
 use testing::read_size;
 ghost use Prim.Native.Nat.{_≤_};
 ghost use Rattle.listing.specs.Positions.{Within};
@@ -23,26 +24,6 @@ const WRAPPING: usize = 72057594037927936;
 struct Summary {
     len: usize,
     digest: u64,
-}
-
-fn print_counted(answer: Counted) {
-    match answer {
-        Counted::Equations(n) => {
-            io::write_all(STDOUT_FILENO, b"equations");
-            print_field(n as u64);
-        }
-        Counted::Refused(number, place) => {
-            print_refusal(number, place);
-        }
-    }
-}
-
-// How many rows were written.
-fn written(answer: Counted) -> usize {
-    match answer {
-        Counted::Equations(n) => n,
-        Counted::Refused(_, _) => 0,
-    }
 }
 
 // The first n rows, as they are handed back.
@@ -157,7 +138,7 @@ fn answer_rule(rule: &[u8], table: &mut [u8]) {
     io::write_all(STDOUT_FILENO, b" ");
     let built = synthesis::build(rule, table);
     print_counted(built);
-    print_table(table, written(built));
+    print_table(table, built_count(built));
     io::write_all(STDOUT_FILENO, b" listing");
     print_summary(text_summary(built, rule, table));
     io::write_all(STDOUT_FILENO, b"\n");

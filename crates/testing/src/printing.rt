@@ -1,5 +1,6 @@
-// Fields of a printed line.
+// Parts of a printed line.
 use libc::STDOUT_FILENO;
+use synthesis::Counted;
 
 // Prints a space and a number.
 pub fn print_field(n: u64) {
@@ -13,4 +14,25 @@ pub fn print_refusal(number: u8, place: usize) {
     print_field(number as u64);
     io::write_all(STDOUT_FILENO, b" at");
     print_field(place as u64);
+}
+
+// Prints what counting or building answers.
+pub fn print_counted(answer: Counted) {
+    match answer {
+        Counted::Equations(n) => {
+            io::write_all(STDOUT_FILENO, b"equations");
+            print_field(n as u64);
+        }
+        Counted::Refused(number, place) => {
+            print_refusal(number, place);
+        }
+    }
+}
+
+// How many equations were built, and so how many rows were written.
+pub fn built_count(answer: Counted) -> usize {
+    match answer {
+        Counted::Equations(n) => n,
+        Counted::Refused(_, _) => 0,
+    }
 }
