@@ -1,7 +1,7 @@
 -- The calls that `sift` makes: one more on the same table, and that under an accepted rule they sift by it.
 use Prim.Native.Nat.{ℕ, _≤_}
 use mathlib.Core.Path.{_≡_, refl, ap, _∙_}
-use mathlib.Core.Logic.{inl}
+use mathlib.Core.Logic.{inl, inr}
 use mathlib.Core.List.{List}
 use native.Mathlib.Omega.{arith}
 use lib.ListN.{length}
@@ -9,14 +9,13 @@ use Rattle.reading.specs.Rule.{Bytes}
 use Rattle.reading.specs.Outcome.{Outcome}
 use Rattle.synthesis.specs.Building.{Synthesis, countedOf, tableAfter}
 use Rattle.synthesis.specs.declared.Counted.the-variants.{Equations}
-use Rattle.running.specs.Running.{runOf, ranOf}
+use Rattle.running.specs.Running.{WellFormedTable, runOf, ranOf}
 use Rattle.running.specs.Calls.{Call, History, withCall, Calls, none, call, OnTableOrRefused}
-use Rattle.running.specs.Running.{WellFormedTable}
 use Rattle.running.specs.declared.State.{State}
 use Rattle.running.proofs.Refusals.{runs-on-tables}
 use Rattle.running.proofs.Histories.{calls-weaken, one-run}
 use Rattle.running.proofs.DemandTwo.{drops-exactly}
-use Rattle.commands.specs.Sifting.{EndsCalls, FitOn, EndsCallsOn, UnderRule}
+use Rattle.commands.specs.Sifting.{EndsCalls, FitOn, EndsCallsOn, GoesOn, UnderRule}
 use Rattle.commands.specs.Promises.{SiftsByRule, NoCallsRefused}
 
 -- fit calls on a table are calls on it
@@ -24,18 +23,24 @@ fit-on : (table : List ℕ) (count : ℕ) (h : History) → Calls 128 255 (FitOn
     → Calls 128 255 (OnTableOrRefused 128 255 table count) h
 fit-on table count = calls-weaken 128 255 (λ h c may. inl (may .on))
 
--- One more call on a well-formed table, with room for its scans: it isn't refused.
-pub ends-call : (table : List ℕ) (count : ℕ) (s : State) (scans output verdicts : List ℕ) {s′ : State} → WellFormedTable 128 255 count table
+-- one more call, with room for its scans
+pub one-more : (table : List ℕ) (count : ℕ) (s : State) (scans output verdicts : List ℕ) {s′ : State}
     → length scans ≤ length output → length scans ≤ length verdicts → Bytes scans
-    → s′ ≡ ranOf s (runOf 128 255 table count s scans (length output) (length verdicts)) .state
-    → EndsCallsOn table count s → EndsCallsOn table count s′
-ends-call table count s scans output verdicts wf ro rv bytes e (h, calls, same) =
-    let c : Call = record { table = table; count = count; scans = scans; output = output; verdicts = verdicts } in
+    → s′ ≡ ranOf s (runOf 128 255 table count s scans (length output) (length verdicts)) .state → GoesOn table count s s′
+one-more table count s scans output verdicts ro rv bytes e =
+    inr (record { table = table; count = count; scans = scans; output = output; verdicts = verdicts }, bytes, ro, rv, e)
+
+-- Fit calls, and maybe one more on the same well-formed table: it isn't refused.
+pub goes-on : (table : List ℕ) (count : ℕ) {s s′ : State} → WellFormedTable 128 255 count table → EndsCallsOn table count s
+    → GoesOn table count s s′ → EndsCallsOn table count s′
+goes-on table count wf (h, calls, same) (inl e) = (h, calls, e ∙ same)
+goes-on table count wf (h, calls, same) (inr (x, bytes, ro, rv, e)) =
+    let c : Call = record { table = table; count = count; scans = x .scans; output = x .output; verdicts = x .verdicts } in
     let inside = one-run 128 255 count table wf h (fit-on table count h calls) .inside in
-    let fits = runs-on-tables 128 255 table count (h .state) scans (length output) (length verdicts) .follows ro rv wf inside in (
+    let fits = runs-on-tables 128 255 table count (h .state) (x .scans) (length (x .output)) (length (x .verdicts)) .follows ro rv wf inside in (
       withCall 128 255 h c,
       call h c calls bytes (record { on = record { same-rows = refl; same-count = refl }; fit = rw fits }),
-      e ∙ ap (λ (s : State). ranOf s (runOf 128 255 table count s scans (length output) (length verdicts)) .state) same,
+      e ∙ ap (λ (s : State). ranOf s (runOf 128 255 table count s (x .scans) (length (x .output)) (length (x .verdicts))) .state) same,
     )
 
 -- calls on the table that building leaves, with its count, are those that `sift` makes under the rule

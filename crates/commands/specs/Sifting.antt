@@ -1,13 +1,15 @@
 -- The calls that `sift` makes, and what it hands back. That their scans are those of standard input, and that the kept ones are written, no
 -- contract can say.
-use Prim.Native.Nat.{ℕ}
+use Prim.Native.Nat.{ℕ, _≤_}
 use mathlib.Core.Path.{_≡_}
+use mathlib.Core.Logic.{_⊎_}
 use mathlib.Core.List.{List}
 use lib.ListN.{length}
+use Rattle.reading.specs.Rule.{Bytes}
 use Rattle.reading.specs.Outcome.{Outcome}
 use Rattle.synthesis.specs.Building.{Synthesis, buildingOf, countedOf, tableAfter}
 use Rattle.synthesis.specs.declared.Counted.the-variants.{Equations}
-use Rattle.running.specs.Running.{checkedOf}
+use Rattle.running.specs.Running.{runOf, checkedOf, ranOf}
 use Rattle.running.specs.Calls.{Call, History, outcomeOf, Calls, OnTable}
 use Rattle.running.specs.declared.Checked.the-variants.{Fit}
 use Rattle.running.specs.declared.State.{State}
@@ -24,6 +26,13 @@ pub record FitOn (table : List ℕ) (count : ℕ) (h : History) (c : Call) : Typ
 
 abbrev pub EndsCallsOn : (table : List ℕ) → (count : ℕ) → State → Type 0
 EndsCallsOn table count = EndsCalls (FitOn table count)
+
+-- s′ is s, or the state after one more call on the table from s, with room for its scans
+abbrev pub GoesOn : (table : List ℕ) → (count : ℕ) → (s s′ : State) → Type 0
+GoesOn table count s s′ =
+    (s′ ≡ s)
+    ⊎ ((c : Call) × Bytes (c .scans) × (length (c .scans) ≤ length (c .output)) × (length (c .scans) ≤ length (c .verdicts))
+    × (s′ ≡ ranOf s (runOf 128 255 table count s (c .scans) (length (c .output)) (length (c .verdicts))) .state))
 
 -- such calls on the table that building leaves, with the count that it answers; where building refuses, there are none
 pub record UnderRule (outcome : Outcome Synthesis) (table : List ℕ) (h : History) (c : Call) : Type 0 where

@@ -12,7 +12,7 @@ ghost use Prim.Native.Nat.{ℕ, _≤_};
 ghost use lib.ListN.{length};
 ghost use Rattle.reading.specs.Rule.{Bytes};
 ghost use Rattle.running.specs.Running.{WellFormedTable, runOf, ranOf};
-ghost use Rattle.commands.specs.Sifting.{EndsCallsOn, Sifts};
+ghost use Rattle.commands.specs.Sifting.{EndsCallsOn, GoesOn, Sifts};
 
 // The state after a block of scans, and whether there may be more.
 struct Turn {
@@ -49,9 +49,8 @@ fn sift_some(
     output: &mut [u8],
     verdicts: &mut [u8],
 ) -> Turn
-    requires { ⌜ WellFormedTable 128 255 count (now table) ⌝ }
     requires { ⌜ (length (now scans) ≤ length (now output)) × (length (now scans) ≤ length (now verdicts)) ⌝ }
-    ensures { λ r. ⌜ (EndsCallsOn (now (table .entry)) count state → EndsCallsOn (now (table .entry)) count (r .state)) ⌝ }
+    ensures { λ r. ⌜ GoesOn (now (table .entry)) count state (r .state) ⌝ }
 {
     let got = libc::read(STDIN_FILENO, scans);
     let n = io::count(got, scans);

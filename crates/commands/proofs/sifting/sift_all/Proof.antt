@@ -5,6 +5,7 @@ use lib.ListN.{length}
 use borrow.Author.Needs.{needs}
 use Rattle.running.specs.Calls.{noCalls, none}
 use Rattle.commands.specs.Sifting.{EndsCallsOn}
+use Rattle.commands.proofs.SiftingLaws.{goes-on}
 use Rattle.commands.proofs.sifting.sift_all.Statement.{statement}
 use Rattle.commands.proofs.sifting.sift_all.Tie as tie
 
@@ -19,7 +20,9 @@ abbrev μ-loop : tie.MeasureT-loop
 turn : (c : tie.After-sift-some Inv-loop μ-loop) →
     let x = c .before .before .before .before .before .before .before .before .before .before .before .args in
     EndsCallsOn (x .table .now) (x .count) (c .sift-some .result .state)
-turn c = c .sift-some .ensures (c .before .before .before .before .before .loop .inv .0)
+turn c =
+    let start = c .before .before .before .before .before .before .before .before .before .before .before in
+    goes-on (start .args .table .now) (start .args .count) (start .pre) (c .before .before .before .before .before .loop .inv .0) (c .sift-some .ensures)
 
 large-buffer-requires : tie.Need-large-buffer-requires Inv-loop μ-loop
 large-buffer-requires c κs = search needs

@@ -1,7 +1,9 @@
 -- `sift_some` meets its contract: the block is one more call.
+use mathlib.Core.Path.{refl}
+use mathlib.Core.Logic.{inl}
 use native.Mathlib.Omega.{arith}
 use borrow.Author.Needs.{needs}
-use Rattle.commands.proofs.SiftingLaws.{ends-call}
+use Rattle.commands.proofs.SiftingLaws.{one-more}
 use Rattle.commands.proofs.sifting.sift_some.Statement.{statement}
 use Rattle.commands.proofs.sifting.sift_some.Tie as tie
 
@@ -15,7 +17,7 @@ same-length : tie.Need-same-length
 same-length c = search needs
 
 returns : tie.Need-returns
-returns c = search needs
+returns c = inl refl
 
 slice-reshare-prefix-sift-block : tie.Need-slice-reshare-prefix-sift-block
 slice-reshare-prefix-sift-block c = search needs
@@ -43,7 +45,7 @@ returns-2 c =
     let x = start .args in
     let e = block .sift-block .ensures in
     let read = slice-aggregate-sift-block (block .before .before .before) in
-    ends-call (x .table .now) (x .count) (x .state) _ (x .output .now) (x .verdicts .now) (start .pre .0) (omega arith) (omega arith) (e .0) (e .1)
+    one-more (x .table .now) (x .count) (x .state) _ (x .output .now) (x .verdicts .now) (omega arith) (omega arith) (e .0) (e .1)
 
 pub sift-some-spec : {M : Type 1} → statement M
 sift-some-spec =
