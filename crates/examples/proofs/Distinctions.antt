@@ -6,13 +6,15 @@ use mathlib.Core.List.{List, [], _∷_}
 use native.Mathlib.Omega.{arith}
 use lib.ListN.{getD}
 use Rattle.reading.specs.Rule.{Rule}
-use Rattle.synthesis.specs.Violation.{ViolatesRule}
+use Rattle.synthesis.specs.Violation.{ViolatesRule, by-body}
 use Rattle.models.specs.Model.{Label, silent, code, Model, Walk, stay, silent-first, code-first, Finite}
 use Rattle.models.specs.Satisfaction.{Satisfies}
 use Rattle.models.specs.Bisimulation.{Bisimilar}
 use Rattle.models.specs.Phone.{modelOf}
 use Rattle.models.proofs.Walks.{walk-append}
 use Rattle.models.proofs.SatisfactionLaws.{satisfies-safe}
+use Rattle.models.proofs.PhoneStates.{phones-finite}
+use Rattle.examples.specs.Examples.{poolRule}
 use Rattle.examples.specs.ModelExamples.{counting, stillPhone, idlePhone, Distinctions}
 use Rattle.examples.proofs.PhoneSteps.{step-at, every-step}
 
@@ -63,6 +65,10 @@ still-satisfies = quiet-satisfies (modelOf stillPhone) (λ s t a. every-step (λ
 idle-satisfies : (r : Rule) → Satisfies (modelOf idlePhone) r ↔ (ViolatesRule r [] → ⊥)
 idle-satisfies = quiet-satisfies (modelOf idlePhone) (λ s t a. every-step (λ s a t. Quiet a) (idlePhone .steps) (tt, tt))
 
+-- the number-pool rule begins with a necessity, so a list without codes doesn't violate it
+no-codes : ViolatesRule poolRule [] → ⊥
+no-codes (by-body x) = elim x [ ]
+
 -- ---- the still phone has no silent step
 
 not-bisimilar : Bisimilar (modelOf stillPhone) (modelOf idlePhone) → ⊥
@@ -73,6 +79,8 @@ not-bisimilar (R, b, x) =
 pub distinctions : Distinctions
 distinctions = record {
   endless = endless;
+  idle-finite = phones-finite idlePhone;
   same-rules = λ r. (λ sat. idle-satisfies r .1 (still-satisfies r .0 sat), λ sat. still-satisfies r .1 (idle-satisfies r .0 sat));
+  idle-satisfies = idle-satisfies poolRule .1 no-codes;
   not-bisimilar = not-bisimilar;
 }

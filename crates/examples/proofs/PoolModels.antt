@@ -49,14 +49,14 @@ module _ (f : List ℕ) (y : Phone) (read : phoneOf f ≡ accepted y) where
       judging-case 128 poolFile f (length table) poolRule 3 y (number-pool .file .reading) (number-pool .file .answers .building table room) read
 
   judges-met : SatisfiesDecided (modelOf y) poolRule → JudgesPool f Meets
-  judges-met sat table room r judged = on (rw (pool-judging table room) at judged)
+  judges-met sat table room r = rw (pool-judging table room) (on, λ e. inl (e, sat))
     where
       on : JudgedAs (accepted (record { rule = poolRule; phone = y })) r → r ≡ Meets
       on (inl x) = x .0
       on (inr x) = absurd (x .1 sat)
 
   judges-broken : (SatisfiesDecided (modelOf y) poolRule → ⊥) → JudgesPool f Breaks
-  judges-broken unsat table room r judged = on (rw (pool-judging table room) at judged)
+  judges-broken unsat table room r = rw (pool-judging table room) (on, λ e. inr (e, unsat))
     where
       on : JudgedAs (accepted (record { rule = poolRule; phone = y })) r → r ≡ Breaks
       on (inl x) = absurd (unsat (x .1))

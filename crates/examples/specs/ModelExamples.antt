@@ -27,10 +27,10 @@ step from label to = record { from = from; label = label; to = to }
 abbrev pub behindPool : (table : List ℕ) → Model → Model
 behindPool table = monitored (suppressing (entry 256 255 (tableLeft poolFile table))) 0
 
--- Judging answers so, with every table of at least 32,768 bytes.
+-- With every table of at least 32,768 bytes this is an answer of judging, and it is the only one.
 abbrev pub JudgesPool : (model : List ℕ) → Judged → Type 0
 JudgesPool f answer =
-    (table : List ℕ) → 32768 ≤ length table → (r : Judged) → JudgedAs (judgingOf 128 poolFile (length table) f) r → r ≡ answer
+    (table : List ℕ) → 32768 ≤ length table → (r : Judged) → JudgedAs (judgingOf 128 poolFile (length table) f) r ↔ (r ≡ answer)
 
 -- Model 16 3, 17 0 37 1, 18 1 2, 17 2 5 0 under the number-pool rule: breaks
 abbrev pub breakingFile : List ℕ
@@ -80,9 +80,12 @@ stillPhone = record { states = 1; steps = [] }
 abbrev pub idlePhone : Phone
 idlePhone = record { states = 1; steps = step 0 256 0 ∷ [] }
 
+-- The idle phone is finite, unlike the one that counts. It satisfies the same rules as the still one, the number-pool rule among them.
 pub record Distinctions : Type 1 where
   pub endless : Finite counting → ⊥
+  pub idle-finite : Finite (modelOf idlePhone)
   pub same-rules : (r : Rule) → Satisfies (modelOf stillPhone) r ↔ Satisfies (modelOf idlePhone) r
+  pub idle-satisfies : Satisfies (modelOf idlePhone) poolRule
   pub not-bisimilar : Bisimilar (modelOf stillPhone) (modelOf idlePhone) → ⊥
 
 pub record ModelExamples : Type 1 where
