@@ -4,5 +4,6 @@ pub mod NumberPool
 pub mod PaperExamples
 pub mod PhoneSteps
 pub mod DrawnModel
+pub mod Shortening
 pub mod Distinctions
 pub mod PoolModels

@@ -27,11 +27,12 @@ use Rattle.models.proofs.BisimulationLaws.{bisimilar-alike}
 use Rattle.models.proofs.DemandThree.{demand-three}
 use Rattle.models.proofs.JudgingLaws.{judging-case}
 use Rattle.examples.specs.Examples.{tableLeft, poolFile, poolRule}
-use Rattle.examples.specs.ModelExamples.{behindPool, JudgesPool, breakingFile, breakingPhone, Breaking}
+use Rattle.examples.specs.ModelExamples.{behind, JudgesPool, breakingFile, breakingPhone, Breaking}
 use Rattle.examples.specs.ModelExamples.{meetingFile, meetingPhone, Meeting, ModelExamples}
 use Rattle.examples.proofs.NumberPool.{number-pool, pool-table}
 use Rattle.examples.proofs.PhoneSteps.{step-at, every-step}
 use Rattle.examples.proofs.DrawnModel.{drawn-bisimilar}
+use Rattle.examples.proofs.Shortening.{shortening}
 use Rattle.examples.proofs.Distinctions.{distinctions}
 
 -- ---- any model file under the number-pool rule
@@ -90,7 +91,7 @@ breaking = record {
   unsatisfied = breaking-unsatisfied;
   judged = judges-broken breakingFile breakingPhone breaking-read (λ sat. breaking-unsafe (decided-safe (modelOf breakingPhone) poolRule sat));
   changed = λ table room alike. breaking-unsatisfied (
-      bisimilar-alike (modelOf breakingPhone) (behindPool table (modelOf breakingPhone)) alike poolRule .1
+      bisimilar-alike (modelOf breakingPhone) (behind poolFile table (modelOf breakingPhone)) alike poolRule .1
       (pool-enforces breakingFile breakingPhone breaking-read (search arith) table room .satisfies));
   drawn = λ table room. drawn-bisimilar (tableLeft poolFile table) (pool-table table room .rows);
 }
@@ -155,4 +156,4 @@ meeting = record {
     satisfied = meeting-holds (ℕ → Type 0) (λ X s. X s) (λ s. s ≡ 0) (λ s h. h) refl
 
 pub model-examples : ModelExamples
-model-examples = record { breaking = breaking; meeting = meeting; distinctions = distinctions }
+model-examples = record { breaking = breaking; meeting = meeting; shortening = shortening; distinctions = distinctions }

@@ -1,13 +1,17 @@
--- The paper's model under the number-pool rule, which it breaks; one that meets the rule; and what tells some definitions from others.
+-- The paper's model under the number-pool rule, which it breaks; one that meets the rule; one that shows a trace behind a monitor only; and what
+-- tells some definitions from others.
 use Prim.Native.Nat.{ℕ, suc, _≤_}
 use mathlib.Core.Path.{_≡_}
 use mathlib.Core.Logic.{_↔_}
 use mathlib.Core.List.{List, [], _∷_}
 use lib.ListN.{length}
+use Rattle.reading.specs.Formula.{falsity, necessity}
 use Rattle.reading.specs.Rule.{Rule}
 use Rattle.reading.specs.Outcome.{accepted}
+use Rattle.synthesis.specs.Violation.{ViolatesRule}
 use Rattle.synthesis.specs.Table.{entry}
-use Rattle.models.specs.Model.{code, Model, Finite}
+use Rattle.synthesis.specs.declared.Counted.the-variants.{Equations}
+use Rattle.models.specs.Model.{code, Model, Walk, Finite}
 use Rattle.models.specs.Satisfaction.{Satisfies}
 use Rattle.models.specs.Bisimulation.{Bisimilar}
 use Rattle.models.specs.Monitored.{suppressing, monitored}
@@ -17,15 +21,15 @@ use Rattle.models.specs.Judging.{judgingOf, JudgedAs}
 use Rattle.models.specs.declared.Step.{Step}
 use Rattle.models.specs.declared.Judged.{Judged}
 use Rattle.models.specs.declared.Judged.the-variants.{Meets, Breaks}
-use Rattle.examples.specs.Examples.{tableLeft, poolFile, poolRule}
+use Rattle.examples.specs.Examples.{pattern, rule, tableLeft, Reads, poolFile, poolRule}
 
 -- label 256 is silent
 abbrev pub step : (from label to : ℕ) → Step
 step from label to = record { from = from; label = label; to = to }
 
--- a model behind the table that building leaves of the number-pool rule
-abbrev pub behindPool : (table : List ℕ) → Model → Model
-behindPool table = monitored (suppressing (entry 256 255 (tableLeft poolFile table))) 0
+-- a model behind the table that building leaves of a rule file
+abbrev pub behind : (s table : List ℕ) → Model → Model
+behind s table = monitored (suppressing (entry 256 255 (tableLeft s table))) 0
 
 -- With every table of at least 32,768 bytes this is an answer of judging, and it is the only one.
 abbrev pub JudgesPool : (model : List ℕ) → Judged → Type 0
@@ -51,8 +55,8 @@ pub record Breaking : Type 1 where
   pub file : phoneOf breakingFile ≡ accepted breakingPhone
   pub unsatisfied : Satisfies (modelOf breakingPhone) poolRule → ⊥
   pub judged : JudgesPool breakingFile Breaks
-  pub changed : (table : List ℕ) → 32768 ≤ length table → Bisimilar (modelOf breakingPhone) (behindPool table (modelOf breakingPhone)) → ⊥
-  pub drawn : (table : List ℕ) → 32768 ≤ length table → Bisimilar (behindPool table (modelOf breakingPhone)) (modelOf drawnPhone)
+  pub changed : (table : List ℕ) → 32768 ≤ length table → Bisimilar (modelOf breakingPhone) (behind poolFile table (modelOf breakingPhone)) → ⊥
+  pub drawn : (table : List ℕ) → 32768 ≤ length table → Bisimilar (behind poolFile table (modelOf breakingPhone)) (modelOf drawnPhone)
 
 -- Not in the paper: a phone that cancels number 5 and syncs, again and again, meets the rule. The monitor doesn't change it.
 abbrev pub meetingFile : List ℕ
@@ -65,7 +69,32 @@ pub record Meeting : Type 1 where
   pub file : phoneOf meetingFile ≡ accepted meetingPhone
   pub satisfied : Satisfies (modelOf meetingPhone) poolRule
   pub judged : JudgesPool meetingFile Meets
-  pub unchanged : (table : List ℕ) → 32768 ≤ length table → Bisimilar (modelOf meetingPhone) (behindPool table (modelOf meetingPhone))
+  pub unchanged : (table : List ℕ) → 32768 ≤ length table → Bisimilar (modelOf meetingPhone) (behind poolFile table (modelOf meetingPhone))
+
+-- The paper's last reading that leads astray: the second half of the article's Proposition 24, which has every trace behind the monitor that
+-- doesn't violate the rule be one of the bare model too. Suppression makes a step silent, and with weak steps a walk may pass over it: the phone
+-- that does 5 and then 6 shows 6 alone behind "after code 5, ff". So this half doesn't hold, and no promise has it.
+abbrev pub neverFile : List ℕ
+neverFile = 1 ∷ 1 ∷ 5 ∷ 5 ∷ 5 ∷ 0 ∷ 3 ∷ []
+
+abbrev pub neverRule : Rule
+neverRule = rule (pattern 1 5 5 ∷ []) (necessity 0 falsity)
+
+abbrev pub shorteningFile : List ℕ
+shorteningFile = 16 ∷ 3 ∷ 17 ∷ 0 ∷ 5 ∷ 1 ∷ 17 ∷ 1 ∷ 6 ∷ 2 ∷ []
+
+abbrev pub shorteningPhone : Phone
+shorteningPhone = record { states = 3; steps = step 0 5 1 ∷ step 1 6 2 ∷ [] }
+
+-- the bare phone's whole trace, which violates the rule, and what is left of it
+pub record Shortening : Type 0 where
+  pub rule-file : Reads neverFile neverRule (Equations 2)
+  pub model-file : phoneOf shorteningFile ≡ accepted shorteningPhone
+  pub bare : Walk (modelOf shorteningPhone) 0 (5 ∷ 6 ∷ []) 2
+  pub violating : ViolatesRule neverRule (5 ∷ 6 ∷ [])
+  pub shown : (table : List ℕ) → 32768 ≤ length table → Walk (behind neverFile table (modelOf shorteningPhone)) (0, 0) (6 ∷ []) (2, 1)
+  pub not-bare : (t : ℕ) → Walk (modelOf shorteningPhone) 0 (6 ∷ []) t → ⊥
+  pub not-violating : ViolatesRule neverRule (6 ∷ []) → ⊥
 
 -- Not in the paper: what isn't finite, and what isn't strongly bisimilar.
 
@@ -91,4 +120,5 @@ pub record Distinctions : Type 1 where
 pub record ModelExamples : Type 1 where
   pub breaking : Breaking
   pub meeting : Meeting
+  pub shortening : Shortening
   pub distinctions : Distinctions
