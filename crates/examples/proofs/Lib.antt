@@ -7,3 +7,5 @@ pub mod DrawnModel
 pub mod Shortening
 pub mod Distinctions
 pub mod PoolModels
+pub mod FullModel
+pub mod RefusalExamples

@@ -1,2 +1,3 @@
 pub mod Examples
 pub mod ModelExamples
+pub mod RefusalExamples

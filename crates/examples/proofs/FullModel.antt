@@ -1,0 +1,46 @@
+-- A model file of 512 steps is refused where one more begins.
+use Prim.Native.Nat.{ℕ, zero, suc, _*_, _+_}
+use mathlib.Core.Path.{_≡_, refl, _∙_}
+use mathlib.Core.List.{List, [], _∷_, _++_}
+use native.Mathlib.Omega.{arith}
+use lib.ListN.{length, replicate, length-replicate}
+use Rattle.reading.specs.Rule.{All}
+use Rattle.reading.specs.Outcome.{accepted, refused}
+use Rattle.models.specs.Phone.{WellFormedStep, encodeSteps}
+use Rattle.models.specs.File.{statesOf, phoneOf}
+use Rattle.models.specs.declared.Step.{Step}
+use Rattle.models.proofs.StepBytes.{steps-full}
+use Rattle.models.proofs.Encoding.{states-read}
+use Rattle.examples.specs.ModelExamples.{step}
+use Rattle.examples.specs.RefusalExamples.{times}
+
+-- n steps from state 0 to itself
+abbrev turns : ℕ → List Step
+turns n = replicate n (step 0 0 0)
+
+turns-well-formed : (n : ℕ) → All (WellFormedStep 1) (turns n)
+turns-well-formed zero = tt
+turns-well-formed (suc n) = (record { from = omega arith; label = omega arith; to = omega arith }, turns-well-formed n)
+
+turns-length : (n : ℕ) → length (encodeSteps (turns n)) ≡ 4 * n
+turns-length zero = refl
+turns-length (suc n) = omega (arith, turns-length n)
+
+turns-bytes : (n : ℕ) (rest : List ℕ) → times n (17 ∷ 0 ∷ 0 ∷ 0 ∷ []) rest ≡ encodeSteps (turns n) ++ rest
+unfolding times
+turns-bytes zero rest = refl
+turns-bytes (suc n) rest = rw (turns-bytes n rest)
+
+-- the number is a variable, so that no list of so many steps is written out
+after-turns : (n : ℕ) → n ≡ 512 → (rest : List ℕ)
+    → phoneOf (16 ∷ 1 ∷ times n (17 ∷ 0 ∷ 0 ∷ 0 ∷ []) (17 ∷ rest)) ≡ refused 14 2050
+unfolding phoneOf
+after-turns n e rest =
+    let f : List ℕ = 16 ∷ 1 ∷ times n (17 ∷ 0 ∷ 0 ∷ 0 ∷ []) (17 ∷ rest) in
+    let states : statesOf f ≡ accepted 1 = states-read 1 _ (omega arith) (omega arith) in
+    let place : 2 + length (encodeSteps (turns n)) ≡ 2050 = omega (arith, turns-length n) in
+    let full : length (turns n) ≡ 512 = length-replicate n (step 0 0 0) ∙ e in
+    rw (states, steps-full f 1 (turns n) 2 512 rest (turns-well-formed n) full (turns-bytes n (17 ∷ rest)), place)
+
+pub step-513 : (rest : List ℕ) → phoneOf (16 ∷ 1 ∷ times 512 (17 ∷ 0 ∷ 0 ∷ 0 ∷ []) (17 ∷ rest)) ≡ refused 14 2050
+step-513 = after-turns 512 refl

@@ -1,0 +1,76 @@
+-- What reading says of the refused files is computed, and with it what counting, building and judging answer.
+use Prim.Native.Nat.{ℕ}
+use mathlib.Core.Path.{_≡_, refl}
+use mathlib.Core.List.{List, [], _∷_}
+use lib.ListN.{length}
+use Rattle.reading.specs.Outcome.{refused}
+use Rattle.reading.specs.File.{patternsAt, formulaAt, formulaOf, ruleOf}
+use Rattle.synthesis.specs.Building.{buildingOf}
+use Rattle.synthesis.proofs.Synthesized.{counted-accepts}
+use Rattle.models.specs.File.{statesOf, stepsAt, phoneOf}
+use Rattle.models.specs.Judging.{judgingOf}
+use Rattle.examples.specs.Examples.{poolFile}
+use Rattle.examples.specs.RefusalExamples.{times, RuleRefusals, RefusesModel, ModelRefusals, RefusalExamples}
+use Rattle.examples.proofs.FileAnswers.{refuses}
+use Rattle.examples.proofs.NumberPool.{number-pool}
+use Rattle.examples.proofs.FullModel.{step-513}
+
+rule-refusals : RuleRefusals
+unfolding times ruleOf patternsAt formulaOf formulaAt
+rule-refusals = record {
+  half = refuses _ 1 2 refl;
+  no-kind-after = refuses _ 3 1 refl;
+  kind-8 = refuses _ 2 1 refl;
+  kind-8-late = refuses _ 2 64 refl;
+  late-pattern = refuses _ 3 1 refl;
+  late-pattern-cut = refuses _ 3 1 refl;
+  late-pattern-65 = refuses _ 3 64 refl;
+  pattern-33 = refuses _ 4 128 refl;
+  pattern-33-cut = refuses _ 4 128 refl;
+  node-65 = refuses _ 4 132 refl;
+  node-65-cut = refuses _ 4 64 refl;
+  pattern-cut = refuses _ 1 3 refl;
+  necessity-cut = refuses _ 1 1 refl;
+  variable-cut = refuses _ 1 2 refl;
+  mask-0 = refuses _ 5 0 refl;
+  first-32 = refuses _ 5 0 refl;
+  last-32 = refuses _ 5 0 refl;
+  pattern-1 = refuses _ 6 4 refl;
+  depth-1 = refuses _ 6 1 refl;
+  guard-above = refuses _ 7 7 refl;
+  guard-outer = refuses _ 7 8 refl;
+  guard-beside = refuses _ 7 10 refl;
+}
+
+refuses-model : (f : List ℕ) (number place : ℕ) → phoneOf f ≡ refused number place → RefusesModel f number place
+unfolding judgingOf
+refuses-model f number place read = record {
+  reading = read;
+  judged = λ table room r.
+      let (z, built, long) = counted-accepts (buildingOf 128 poolFile (length table)) 3 (number-pool .file .answers .building table room) in
+      rw (built, read) (λ e. e, λ e. e);
+}
+
+model-refusals : ModelRefusals
+unfolding times phoneOf statesOf stepsAt
+model-refusals = record {
+  empty = refuses-model _ 11 0 refl;
+  first-kind = refuses-model _ 12 0 refl;
+  no-count = refuses-model _ 11 1 refl;
+  states-0 = refuses-model _ 12 0 refl;
+  states-65 = refuses-model _ 12 0 refl;
+  kind-19 = refuses-model _ 12 2 refl;
+  kind-16 = refuses-model _ 12 2 refl;
+  step-513 = λ rest. refuses-model _ 14 2050 (step-513 rest);
+  code-cut = refuses-model _ 11 5 refl;
+  silent-cut = refuses-model _ 11 4 refl;
+  from-cut = refuses-model _ 11 4 refl;
+  code-from = refuses-model _ 13 2 refl;
+  code-to = refuses-model _ 13 2 refl;
+  silent-from = refuses-model _ 13 2 refl;
+  silent-to = refuses-model _ 13 2 refl;
+  second-step = refuses-model _ 13 5 refl;
+}
+
+pub refusal-examples : RefusalExamples
+refusal-examples = record { rules = rule-refusals; models = model-refusals }
