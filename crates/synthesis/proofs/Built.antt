@@ -1,7 +1,7 @@
 -- The table that building leaves: it is the monitor of the rule's equations, each renamed to its row. The limit on equations and the mark for
 -- dropped are any, the limit not over the mark.
 use Prim.Native.Nat.{ℕ, _*_, _≤_, _<_}
-use mathlib.Core.Path.{_≡_, _∙_, ap, subst}
+use mathlib.Core.Path.{_≡_, sym, _∙_, ap, subst}
 use mathlib.Core.Bool.{false}
 use mathlib.Core.List.{List}
 use native.Mathlib.Omega.{arith}
@@ -10,19 +10,21 @@ use Rattle.reading.specs.Rule.{Rule, Bytes}
 use Rattle.reading.specs.Outcome.{accepted}
 use Rattle.reading.specs.File.{ruleOf}
 use Rattle.synthesis.specs.Monitor.{kept, verdicts, ended, Monitors, Renames}
+use Rattle.synthesis.specs.Opening.{Answers}
 use Rattle.synthesis.specs.Answering.{firstOf, answerOf, hopeless}
 use Rattle.synthesis.specs.Search.{place}
 use Rattle.synthesis.specs.Table.{rowOf, entry, filled}
 use Rattle.synthesis.specs.Building.{equationsOf, Synthesis, synthesisOf, buildingOf, countedOf, tableAfter}
 use Rattle.synthesis.specs.declared.Counted.the-variants.{Equations}
 use Rattle.synthesis.specs.Promises.{TableMonitors, DropsViolations, TableDrops, RefusesHopeless}
-use Rattle.synthesis.specs.Promises.{RowInRange, EntriesInRange, SameAfterRows, TableRest}
+use Rattle.synthesis.specs.Promises.{RowInRange, EntriesInRange, EntryAnswers, EntriesAnswer, SameAfterRows, TableRest}
+use Rattle.synthesis.proofs.AnsweringLaws.{answers-as-defined}
 use Rattle.synthesis.proofs.RuleMonitor.{rule-monitors, hopeless-iff}
 use Rattle.synthesis.proofs.Places.{Member}
 use Rattle.synthesis.proofs.Rows.{entries-length, filled-length, filled-row, filled-rest}
 use Rattle.synthesis.proofs.MonitorLaws.{drops-violations}
 use Rattle.synthesis.proofs.Renaming.{renamed-runs, renamed-monitors}
-use Rattle.synthesis.proofs.Tables.{table-renames, table-range}
+use Rattle.synthesis.proofs.Tables.{table-renames, table-range, table-answers}
 use Rattle.synthesis.proofs.Synthesized.{made, synthesis-accepts, building-accepts, refused-eight, refuses-eight}
 use Rattle.synthesis.proofs.Synthesized.{counted-accepts, counted-refuses, accepts-as}
 use Rattle.synthesis.proofs.Equations.{file-well-formed, first-place, first-member, equations-closed}
@@ -103,24 +105,34 @@ module _ (limit mark : ℕ) (s table : List ℕ) where
           subst (Monitors r t) (first-place limit r)
           (renamed-monitors r (λ e. Member e l) (answerOf r) t (λ e. place e l) renames (firstOf r) (first-member limit r) monitors)
 
+      pub built-answers : (k c : ℕ) → c < 256 → (y : Synthesis) → buildingOf limit s (length table) ≡ accepted y → k < length (y .equations)
+          → EntryAnswers (y .rule) (y .equations) k c (entry 256 mark left k c)
+      built-answers k c b =
+          leaves (λ y t. k < length (y .equations) → EntryAnswers (y .rule) (y .equations) k c (entry 256 mark t k c)) λ r admits h.
+          let l = equationsOf limit r in
+          let few : length l ≤ mark = omega (arith, admits .few) in
+          let is = table-answers 256 mark (answerOf r) l (equations-closed limit r (admits .few)) table (admits .room) few k c h b in
+          let defined = answers-as-defined r (file-well-formed s bytes r (admits .read)) in
+          record { answers = subst (Answers r (getD l k 0) c) (sym (is .0)) (defined .answers (getD l k 0) c); under = is .1 }
+
       -- a code is dropped exactly when the codes kept so far, followed by it, violate the rule
       pub built-drops : (y : Synthesis) → buildingOf limit s (length table) ≡ accepted y → DropsViolations (y .rule) (entry 256 mark left) 0
       built-drops y e = drops-violations (y .rule) (entry 256 mark left) 0 (built-monitors y e)
 
 -- ---- the promises
 
--- What holds of the rule and the table of each accepted synthesis, holds of the file's rule and what building leaves.
-by-count : (limit : ℕ) (s : List ℕ) (size : ℕ) (P : Rule → Type 0) (r : Rule) (n : ℕ) → ruleOf s ≡ accepted r
-    → countedOf (buildingOf limit s size) ≡ Equations n → ((y : Synthesis) → buildingOf limit s size ≡ accepted y → P (y .rule)) → P r
+-- What holds of each accepted synthesis whose equations are so many, holds of that of the file's rule.
+by-count : (limit : ℕ) (s : List ℕ) (size : ℕ) (P : Synthesis → Type 0) (r : Rule) (n : ℕ) → ruleOf s ≡ accepted r
+    → countedOf (buildingOf limit s size) ≡ Equations n
+    → ((y : Synthesis) → buildingOf limit s size ≡ accepted y → n ≡ length (y .equations) → P y) → P (made limit r)
 by-count limit s size P r n read e holds =
     let y = counted-accepts (buildingOf limit s size) n e in
-    let same = accepts-as limit s r read (y .0) (building-accepts limit s size (y .0) (y .1) .1) in
-    subst (λ (z : Synthesis). P (z .rule)) same (holds (y .0) (y .1))
+    subst P (accepts-as limit s r read (y .0) (building-accepts limit s size (y .0) (y .1) .1)) (holds (y .0) (y .1) (y .2))
 
 pub table-monitors : TableMonitors
 table-monitors limit mark s table r n below bytes read e =
-    by-count limit s (length table) (λ r. Monitors r (entry 256 mark (left limit mark s table)) 0) r n read e
-    (built-monitors limit mark s table below bytes)
+    by-count limit s (length table) (λ y. Monitors (y .rule) (entry 256 mark (left limit mark s table)) 0) r n read e
+    (λ y is count. built-monitors limit mark s table below bytes y is)
 
 pub table-drops : TableDrops
 table-drops limit mark s table r n below bytes read e =
@@ -135,6 +147,12 @@ pub entries-in-range : EntriesInRange
 entries-in-range limit mark s table n e k h =
     let y = counted-accepts (buildingOf limit s (length table)) n e in
     rw (y .2) (built-range limit mark s table k (y .0) (y .1) (omega (arith, y .2, h)))
+
+pub entries-answer : EntriesAnswer
+entries-answer limit mark s table r n below bytes read e k c h b =
+    by-count limit s (length table)
+    (λ y. EntryAnswers (y .rule) (y .equations) k c (entry 256 mark (left limit mark s table) k c)) r n read e
+    (λ y is count. built-answers limit mark s table below bytes k c b y is (omega (arith, count, h)))
 
 pub refuses-hopeless : RefusesHopeless
 refuses-hopeless limit s bytes r read =

@@ -1,12 +1,12 @@
 -- The filled table of a closed list of equations answers as they do: it is their monitor, each equation renamed to its place.
 use Prim.Native.Nat.{ℕ, _*_, _≤_, _<_}
-use mathlib.Core.Path.{_≡_, refl, _∙_}
+use mathlib.Core.Path.{_≡_, refl, _∙_, ap}
 use mathlib.Core.Logic.{_⊎_, inl, inr}
 use mathlib.Core.List.{List}
 use native.Mathlib.Omega.{arith}
 use lib.ListN.{length, getD}
 use borrow.Author.Tests.{eq-eqb, ne-eqb}
-use Rattle.synthesis.specs.Monitor.{Answer, dropped, next, Renames}
+use Rattle.synthesis.specs.Monitor.{Answer, dropped, next, cases, Renames}
 use Rattle.synthesis.specs.Search.{place}
 use Rattle.synthesis.specs.Table.{rowOf, meaning, entry, entryFor, filled}
 use Rattle.synthesis.proofs.Places.{Member, place-is}
@@ -46,3 +46,17 @@ module _ (codes mark : ℕ) (answer : ℕ → ℕ → Answer ℕ) (l : List ℕ)
       on : (a : Answer ℕ) → answer (getD l k 0) c ≡ a → (entryFor mark l a ≡ mark) ⊎ (entryFor mark l a < length l)
       on dropped q = inl refl
       on (next e) q = inr (closed k c e h b q)
+
+  -- Each entry, with the equation of its number for the number, is the answer of its row's equation.
+  pub table-answers : length l ≤ mark → (k c : ℕ) → k < length l → c < codes
+      → (cases (entry codes mark (filled mark answer l codes table) k c) dropped (λ j. next (getD l j 0)) ≡ answer (getD l k 0) c)
+      × ((j : ℕ) → entry codes mark (filled mark answer l codes table) k c ≡ next j → j < length l)
+  table-answers few k c h b = rw (filled-entry mark answer l codes table room k c mark h b) (on (answer (getD l k 0) c) refl)
+    where
+      on : (a : Answer ℕ) → answer (getD l k 0) c ≡ a
+          → (cases (meaning mark (entryFor mark l a)) dropped (λ j. next (getD l j 0)) ≡ a)
+          × ((j : ℕ) → meaning mark (entryFor mark l a) ≡ next j → j < length l)
+      on dropped q = rw (eq-eqb mark mark refl) (refl, λ j e. let z : _≡_ {A = ℕ} 0 1 = cc in absurd (omega arith))
+      on (next e) q =
+          let m = closed k c e h b q in
+          rw (ne-eqb (place e l) mark (λ z. omega arith)) (ap next (place-is e l m), λ j p. let z : place e l ≡ j = cc in omega arith)

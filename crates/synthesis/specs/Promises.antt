@@ -11,7 +11,7 @@ use Rattle.reading.specs.Outcome.{accepted, refused}
 use Rattle.reading.specs.File.{ruleOf}
 use Rattle.reading.specs.Nodes.{EnclosingMax, Node}
 use Rattle.synthesis.specs.Violation.{Violates, ViolatesRule}
-use Rattle.synthesis.specs.Monitor.{Answer, dropped, next, kept, ended, Monitors}
+use Rattle.synthesis.specs.Monitor.{Answer, dropped, next, cases, kept, ended, Monitors}
 use Rattle.synthesis.specs.NodeSet.{Has, none}
 use Rattle.synthesis.specs.Opening.{Opens, OpensToFalsity, Answers, IsFirst, ViolatesEquation}
 use Rattle.synthesis.specs.Answering.{opening, opensAround, firstOf, answerOf}
@@ -141,6 +141,17 @@ abbrev pub EntriesInRange : Type 0
 EntriesInRange =
     (limit mark : ℕ) (s table : List ℕ) (n : ℕ) → countedOf (buildingOf limit s (length table)) ≡ Equations n → (k : ℕ) → k < n
     → RowInRange mark n (rowOf 256 (tableAfter mark (buildingOf limit s (length table)) table) k)
+
+-- Row k is that of equation k: each entry, with the equation of its number for the number, is what equation k answers to the code.
+pub record EntryAnswers (r : Rule) (es : List ℕ) (k c : ℕ) (a : Answer ℕ) : Type 0 where
+  pub answers : Answers r (getD es k 0) c (cases a dropped (λ j. next (getD es j 0)))
+  pub under : (j : ℕ) → a ≡ next j → j < length es
+
+abbrev pub EntriesAnswer : Type 0
+EntriesAnswer =
+    (limit mark : ℕ) (s table : List ℕ) (r : Rule) (n : ℕ) → limit ≤ mark → Bytes s → ruleOf s ≡ accepted r
+    → countedOf (buildingOf limit s (length table)) ≡ Equations n → (k c : ℕ) → k < n → c < 256
+    → EntryAnswers r (equationsOf limit r) k c (entry 256 mark (tableAfter mark (buildingOf limit s (length table)) table) k c)
 
 -- Behind the last row nothing changes, and the table keeps its length.
 pub record SameAfterRows (count : ℕ) (before after : List ℕ) : Type 0 where
