@@ -11,6 +11,7 @@ use borrow.Author.Tests.{eq-eqb, eqb-true}
 use Rattle.reading.specs.Pattern.{bit}
 use Rattle.reading.proofs.Bits.{bit-zero, bit-suc}
 use Rattle.synthesis.specs.NodeSet.{Has, has, none, single, union, common}
+use Rattle.synthesis.specs.Promises.{SameMembersSameSet}
 
 -- ---- bits
 
@@ -115,7 +116,7 @@ ext (suc k) a b p q h =
     let l : a % 2 ≡ b % 2 = low (a % 2) (b % 2) (omega arith) (omega arith) (rw (bit-zero a, bit-zero b) at (h 0)) in
     omega arith
 
-pub has-ext : (a b : ℕ) → ((n : ℕ) → Has a n ↔ Has b n) → a ≡ b
+pub has-ext : SameMembersSameSet
 has-ext a b h = ext (a + b) a b (omega arith) (omega arith) h
 
 -- a set without members is none

@@ -132,7 +132,11 @@ ReachesEquations =
     (limit : ℕ) (s : List ℕ) → Bytes s → (r : Rule) (n : ℕ) → ruleOf s ≡ accepted r → countedOf (synthesisOf limit s) ≡ Equations n
     → Reached r (equationsOf limit r)
 
--- Each has a whole row in the table, whose entries are the mark or under the count.
+-- Two numbers with the same members are the same number. So equations that differ as numbers differ as sets, and the count is one of sets.
+abbrev pub SameMembersSameSet : Type 0
+SameMembersSameSet = (a b : ℕ) → ((n : ℕ) → Has a n ↔ Has b n) → a ≡ b
+
+-- Each equation has a whole row in the table, whose entries are the mark or under the count.
 pub record RowInRange (mark count : ℕ) (row : List ℕ) : Type 0 where
   pub whole : length row ≡ 256
   pub range : (c : ℕ) → c < 256 → (getD row c 0 ≡ mark) ⊎ (getD row c 0 < count)
