@@ -185,7 +185,7 @@ module _ (codes : ℕ) (answer : ℕ → ℕ → Answer ℕ) where
           on (yes y) = grows-member l m e grows (closed i c e y (omega arith) h same)
           on (no n) = let z : i ≡ k = omega arith in noted-member (getD l k 0) codes c e l h (rw (← z) same)
 
-  found-closed-below : (turns first : ℕ) → ClosedBelow turns (found codes answer turns first)
+  pub found-closed-below : (turns first : ℕ) → ClosedBelow turns (found codes answer turns first)
   unfolding found
   found-closed-below zero first = λ i c e a. absurd (omega arith)
   found-closed-below (suc k) first = turn-closed k (found codes answer k first) (found-closed-below k first)

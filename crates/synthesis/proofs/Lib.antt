@@ -12,6 +12,8 @@ pub mod Verdicts
 pub mod RuleMonitor
 pub mod Places
 pub mod Finding
+pub mod FindingOrder
+pub mod Numbering
 pub mod Rows
 pub mod MonitorLaws
 pub mod Renaming

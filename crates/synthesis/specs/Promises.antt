@@ -136,6 +136,35 @@ ReachesEquations =
 abbrev pub SameMembersSameSet : Type 0
 SameMembersSameSet = (a b : ℕ) → ((n : ℕ) → Has a n ↔ Has b n) → a ≡ b
 
+-- Equations have the order in which they are found. The search asks code c of equation j before code c′ of equation j′:
+abbrev pub Before : (j c j′ c′ : ℕ) → Type 0
+Before j c j′ c′ = (j < j′) ⊎ ((j ≡ j′) × (c < c′))
+
+-- Equation i is found where a code of an earlier equation leads to it, and all that is asked before leads to equations with smaller numbers.
+pub record FoundBy (codes : ℕ) (answer : ℕ → ℕ → Answer ℕ) (es : List ℕ) (i : ℕ) : Type 0 where
+  pub equation : ℕ
+  pub code : ℕ
+  pub earlier : equation < i
+  pub is-code : code < codes
+  pub leads : answer (getD es equation 0) code ≡ next (getD es i 0)
+  pub before : (j c e : ℕ) → Before j c equation code → c < codes → answer (getD es j 0) c ≡ next e → (k : ℕ) × (k < i) × (getD es k 0 ≡ e)
+
+-- The first equation has number 0, and every other is found so.
+pub record AsFound (codes : ℕ) (answer : ℕ → ℕ → Answer ℕ) (first : ℕ) (es : List ℕ) : Type 0 where
+  pub some : 0 < length es
+  pub starts : getD es 0 0 ≡ first
+  pub found : (i : ℕ) → 0 < i → i < length es → FoundBy codes answer es i
+
+-- This holds of every rule, also of one with too many equations.
+abbrev pub NumberedAsFound : Type 0
+NumberedAsFound = (limit : ℕ) (r : Rule) → AsFound 256 (answerOf r) (firstOf r) (equationsOf limit r)
+
+-- A list of equations as in 6 has no other order that is as found.
+abbrev pub OneNumbering : Type 0
+OneNumbering =
+    (r : Rule) (es es′ : List ℕ) → Reached r es → Reached r es′ → AsFound 256 (answerOf r) (firstOf r) es
+    → AsFound 256 (answerOf r) (firstOf r) es′ → es ≡ es′
+
 -- Each equation has a whole row in the table, whose entries are the mark or under the count.
 pub record RowInRange (mark count : ℕ) (row : List ℕ) : Type 0 where
   pub whole : length row ≡ 256
