@@ -1,4 +1,4 @@
--- The theory: walks and satisfaction, models behind monitors, model files, acceptance and judging. From `StepRows` on, what the proofs by
+-- The theory: walks and satisfaction, models behind monitors, model files, acceptance and judging. From `StructRows` on, what the proofs by
 -- hand share.
 pub mod Walks
 pub mod SatisfactionLaws
@@ -34,6 +34,7 @@ pub mod LinkLaws
 pub mod Searches
 pub mod Refusing
 pub mod Judgment
+pub mod StructRows
 pub mod StepRows
 pub mod LentAgain
 pub mod Loop

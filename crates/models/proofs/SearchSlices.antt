@@ -1,16 +1,27 @@
--- The five slices that `search` and `search_array` take after the cursor.
+-- The cursor that `search` and `search_array` take, and the five slices after it.
+--     the-cursor            the type `Cursor`
 --     last … pairs, links   each of them, and the links that two of them are
 --     slices-vals           their machine values
 --     Rooms                 each fits in memory
 use Prim.Native.Nat.{ℕ}
 use mathlib.Core.List.{List}
 use lib.ListN.{length}
+use mir.Syntax.{Ty}
 use mir.Val.{Val}
 use denote.Builtin.{u8, u16}
 use denote.Ref.{RefT}
 use denote.Slice.{Room, slice-vals}
 use Rattle.models.specs.Exploring.{linksOf}
 use Rattle.models.specs.declared.links.Links.{Links}
+use Rattle.models.proofs.exploring.Cursor as T
+use Rattle.models.proofs.exploring.Cursor.Laws as T′
+use Rattle.models.proofs.StructRows.{PlainStruct}
+
+abbrev pub the-cursor : PlainStruct
+the-cursor = record { type = T.the-type; laws = T′.the-laws; plain = T′.the-plain }
+
+abbrev pub cursorTy : Ty
+cursorTy = T′.mir
 
 abbrev pub Five : Type 0 → Type 0
 Five X = X × (X × (X × (X × (X × Unit {0}))))

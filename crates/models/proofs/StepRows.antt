@@ -1,6 +1,5 @@
--- What a walk over step records uses of the type `Step`: its row with the row's laws, and an array of 512 records in memory.
---     low          the machine value of a record.        vals, tells     it is the only value that the row relates to the record
---     typed        the value has the record's MIR type.        makes, copy     what the row owns is had for nothing, and twice
+-- What a walk over step records uses of the type `Step`, and of an array of 512 records in memory.
+--     R, copy      a record's row, and that what it owns is had twice
 --     lies, back   the array in one cell, with what it owns, is its records side by side;  and these are the array in one cell again
 --     array-known  records side by side are an array that the row relates to its value
 -- Assumes `Given`.
@@ -28,10 +27,14 @@ use denote.Struct.Laws as LL
 use Rattle.models.specs.declared.Step.{Step}
 use Rattle.models.proofs.Step as T
 use Rattle.models.proofs.Step.Laws as T′
+use Rattle.models.proofs.StructRows.{PlainStruct, row-of, vals, tells, makes}
 
 -- ---- a record
+abbrev pub the-step : PlainStruct
+the-step = record { type = T.the-type; laws = T′.the-laws; plain = T′.the-plain }
+
 abbrev pub R : RattleType
-R = T.the-row
+R = row-of the-step
 
 abbrev pub stepTy : Ty
 stepTy = T′.mir
@@ -39,15 +42,6 @@ stepTy = T′.mir
 -- the same as a reference's type names it
 abbrev pub behindTy : Ty
 behindTy = pointee (R .written)
-
-abbrev pub low : Step → Val
-low = LL.val T.the-type T′.the-laws
-
-abbrev pub vals : Step → List Val
-vals = LL.vals T.the-type T′.the-laws
-
-abbrev pub tells : Tells R (Is R) vals
-tells = LL.tells T.the-type T′.the-laws
 
 -- ---- an array of 512 records
 abbrev pub AR : RattleType
@@ -57,24 +51,18 @@ abbrev pub arrayTy : Ty
 arrayTy = tyArray stepTy 512
 
 abbrev pub array-low : List Step → Val
-array-low xs = only (array-vals vals xs)
+array-low xs = only (array-vals (vals the-step) xs)
 
-abbrev pub array-told : Tells AR (Is AR) (array-vals vals)
-array-told = array-tells R vals tells 512
+abbrev pub array-told : Tells AR (Is AR) (array-vals (vals the-step))
+array-told = array-tells R (vals the-step) (tells the-step) 512
 
 module _ {M : Type 1} (𝓤 : URA M) (H : Heap 𝓤) (A : Atoms 𝓤) where
-  abbrev pub makes : Makes 𝓤 H A R (Is R)
-  makes = LL.makes T.the-type T′.the-plain 𝓤 H A
-
   module _ (W : Given 𝓤 H A) where
     abbrev pub copy : Copy 𝓤 H A R
     copy = LL.copy T.the-type T′.the-copy 𝓤 H A W
 
-    pub typed : (x : Step) (v : Val) → Is R x (v ∷ []) → Holds (hasTy stepTy v) × WT v
-    typed x v is = LL.lawful T.the-type T′.the-laws 𝓤 H A W .typed x (v ∷ []) is .0
-
     abbrev pub array-made : Makes 𝓤 H A AR (Is AR)
-    array-made = array-makes 𝓤 H A W R makes 512
+    array-made = array-makes 𝓤 H A W R (makes the-step 𝓤 H A) 512
 
     module _ (xs : List Step) where
       pub array-typed : Is AR xs (array-low xs ∷ []) → Holds (hasTy arrayTy (array-low xs)) × WT (array-low xs)

@@ -20,7 +20,7 @@ ghost use Rattle.models.specs.Searching.{Searching, Searched, remaining,
 
 // Where the search is. found: how many pairs have been found. turn, pair: the place in the list, and the pair, that is being expanded. step:
 // one more than the number of the step that comes next; 0 at the end. dropped: whether a step was dropped.
-struct Cursor {
+pub(crate) struct Cursor {
     found: usize,
     turn: usize,
     pair: usize,

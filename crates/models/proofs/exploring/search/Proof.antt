@@ -27,8 +27,9 @@ use denote.Triple.Walked.{needs, goes-dropped, goes-slice}
 use denote.Exit.{yes}
 use Rattle.models.specs.Searching.{Searching}
 use Rattle.models.proofs.Meeting.{enters}
+use Rattle.models.proofs.StructRows as struct
 use Rattle.models.proofs.StepRows as step
-use Rattle.models.proofs.SearchSlices.{Rooms, table, seen, pairs, links}
+use Rattle.models.proofs.SearchSlices.{the-cursor, Rooms, table, seen, pairs, links}
 use Rattle.models.proofs.steps.step_at.Symbol as step-at-def
 use Rattle.models.proofs.steps.step_at.Symbol.{name as #models·steps·step-at}
 use Rattle.models.proofs.steps.step_at.Met as step-at-thm
@@ -39,12 +40,10 @@ use Rattle.models.proofs.exploring.search.Key.{name as #models·explori
 use Rattle.models.proofs.exploring.search as search
 use Rattle.models.proofs.exploring.search.Statement as stated
 use Rattle.models.proofs.exploring.search.Code as code
-use Rattle.models.proofs.exploring.search.Proof.CursorRow as cursor
 use Rattle.models.proofs.exploring.search.Proof.Invariant as state
 use Rattle.models.proofs.exploring.search.Proof.Invariant.{State, steps, vals, stayed}
 use Rattle.models.proofs.exploring.search.Proof.Calling.{StepAt, Follow}
 use Rattle.models.proofs.exploring.search.Proof.Turn as turn
-mod CursorRow
 mod Invariant
 mod Calling
 mod Turn
@@ -53,7 +52,7 @@ module _ {M : Type 1} (𝓤 : URA M) (H : Heap 𝓤) (A : Atoms 𝓤) (W : Given
     (known-step-at : Triple 𝓤 (𝓣 .C #models·steps·step-at) (StepAt 𝓤 H A mem run))
     (known-follow : Triple 𝓤 (𝓣 .C #models·exploring·follow) (Follow 𝓤 H A mem run)) where
   module _ (κs : Lfts 6) (qs : Shares 6) (a : Args search.signature κs) (steps-room : Room step.R (length (steps κs a .now)))
-      (rooms : Rooms (a .1 .1)) (from-is : Is cursor.R (state.from κs a) (cursor.vals (state.from κs a)))
+      (rooms : Rooms (a .1 .1)) (from-is : Is (struct.row-of the-cursor) (state.from κs a) (struct.vals the-cursor (state.from κs a)))
       (begun : Searching (steps κs a .now) (links (a .1 .1)) (table (a .1 .1) .now) (seen (a .1 .1) .now) (pairs (a .1 .1) .now) (state.from κs a)) where
     -- where the loop begins
     abbrev start : State κs a
@@ -68,14 +67,14 @@ module _ {M : Type 1} (𝓤 : URA M) (H : Heap 𝓤) (A : Atoms 𝓤) (W : Given
         alloc1 ! (λ l₈. alloc1 ! (λ l₉. alloc1 ! (λ l₁₀. alloc1 !
         (λ l₁₁. alloc1 ! (λ l₁₂. alloc1 ! (λ l₁₃. alloc1 ! (λ l₁₄. alloc1 ! (λ l₁₅. alloc0 ! $ params1 ! $
         pass1 ! (init ! 28 refl (tt, (tt, (record { fits = steps-room .0 }, tt)))) $
-        pass1 ! (init ! 26 refl (cursor.typed 𝓤 H A W (state.from κs a) _ from-is)) $
+        pass1 ! (init ! 26 refl (struct.typed the-cursor 𝓤 H A W (state.from κs a) _ from-is)) $
         pass1 ! (init ! 24 refl (tt, (tt, (record { fits = rooms .last-room .0 }, tt)))) $
         pass1 ! (init ! 22 refl (tt, (tt, (record { fits = rooms .earlier-room .0 }, tt)))) $
         pass1 ! (init ! 20 refl (tt, (tt, (record { fits = rooms .table-room .0 }, tt)))) $
         pass1 ! (init ! 18 refl (tt, (tt, (record { fits = rooms .seen-room .0 }, tt)))) $
         pass1 ! (init ! 16 refl (tt, (tt, (record { fits = rooms .pairs-room .0 }, tt)))) $ pass0 ! $
         assigns ! (of-opd ! (load ! (from ! (stop !)) (look ! 26 refl))) (from ! (stop !))
-        (init ! 14 refl (cursor.typed 𝓤 H A W (state.from κs a) _ from-is)) $
+        (init ! 14 refl (struct.typed the-cursor 𝓤 H A W (state.from κs a) _ from-is)) $
         move ! (32 ∷ []) $ use1 W (raw (⋆ 𝓤 H A (state.Owned 𝓤 H A W mem run κs qs a (seen (a .1 .1) .now) (pairs (a .1 .1) .now))))
         (state.begins 𝓤 H A W mem run κs qs a) $
         turn.loops-out 𝓤 H A W mem run κs qs a begun (rooms .seen-room)
@@ -88,10 +87,10 @@ search-spec 𝓤 H 𝓜 𝓖 𝓡 =
     let W = givenOf 𝓤 H 𝓜 𝓖 in
     enters 𝓤 H 𝓜 𝓖 𝓡 search.ended stayed (search.clauses 𝓤 H (𝓖 .A) (𝓜 .mem) (𝓡 .run)) code.env #models·exploring·search code.function
     (code.unfolded 𝓤 H 𝓜 𝓡)
-    (λ κs. (slice-vals, (cursor.vals, (slice-vals, (slice-vals, (slice-vals, (slice-vals, (slice-vals, tt)))))))) (
+    (λ κs. (slice-vals, (struct.vals the-cursor, (slice-vals, (slice-vals, (slice-vals, (slice-vals, (slice-vals, tt)))))))) (
       goes-dropped 𝓤 H (𝓖 .A) W 6 (shrSliceOf (0 ∷ []) tt (plain (λ _. step.R))) yes (λ κs x f. refl),
       (
-        goes-dropped 𝓤 H (𝓖 .A) W 6 (plain (λ _. cursor.R)) yes (λ κs x f. refl),
+        goes-dropped 𝓤 H (𝓖 .A) W 6 (plain (λ _. struct.row-of the-cursor)) yes (λ κs x f. refl),
         (
           goes-dropped 𝓤 H (𝓖 .A) W 6 (shrSliceOf (1 ∷ []) tt (plain (λ _. u16))) yes (λ κs x f. refl),
           (
@@ -107,7 +106,7 @@ search-spec 𝓤 H 𝓜 𝓖 𝓡 =
     (λ κs. (
       shr-slice-tells (named 0) (κs .0) step.R,
       (
-        cursor.tells,
+        struct.tells the-cursor,
         (
           shr-slice-tells (named 1) (κs .1 .0) u16,
           (

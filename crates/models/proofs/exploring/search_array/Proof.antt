@@ -29,7 +29,6 @@ use denote.Array.{array-vals}
 use denote.Builtin.{u8, u16}
 use denote.Slice.{sliceTy, sliceVal, slice-vals, shr-slice-tells, mut-slice-tells}
 use denote.Signature.{plain, shrSliceOf, typesAt}
-use denote.Struct.Laws as LL
 use denote.Triple.Call.{calls-at}
 use denote.Triple.Entry.{Args, onEntry}
 use denote.Triple.Statement.{Triple}
@@ -40,10 +39,9 @@ use Rattle.models.specs.Searching.{Searching}
 use Rattle.models.proofs.Exits.{frees-cell}
 use Rattle.models.proofs.Meeting.{enters}
 use Rattle.models.proofs.Reborrowing.{reborrows}
+use Rattle.models.proofs.StructRows as struct
 use Rattle.models.proofs.StepRows as step
-use Rattle.models.proofs.exploring.Cursor as T
-use Rattle.models.proofs.exploring.Cursor.Laws as T′
-use Rattle.models.proofs.SearchSlices.{Rooms, table, seen, pairs, links}
+use Rattle.models.proofs.SearchSlices.{the-cursor, Rooms, table, seen, pairs, links}
 use Rattle.models.proofs.exploring.search.Symbol as search-def
 use Rattle.models.proofs.exploring.search.Symbol.{name as #models·exploring·search}
 use Rattle.models.proofs.exploring.search.Met as search-thm
@@ -58,7 +56,7 @@ mod Lending
 module _ {M : Type 1} (𝓤 : URA M) (H : Heap 𝓤) (A : Atoms 𝓤) (W : Given 𝓤 H A) (mem : Memory → SProp 𝓤) (run : Routine → Fun 𝓤)
     (C : Calls 𝓤 H) (Λ : Loops 𝓤 H) (fm : FmC 𝓤 H (W .laws) C) (known : Triple 𝓤 (C #models·exploring·search) (Search 𝓤 H A mem run)) where
   walk : (κs : Lfts 5) (qs : Shares 5) (a : Args search-array.signature κs) → Is step.AR (list κs a) (step.array-low (list κs a) ∷ [])
-      → length (list κs a) ≡ 512 → Rooms (a .1 .1) → Is T.the-row (a .1 .0) (LL.vals T.the-type T′.the-laws (a .1 .0))
+      → length (list κs a) ≡ 512 → Rooms (a .1 .1) → Is (struct.row-of the-cursor) (a .1 .0) (struct.vals the-cursor (a .1 .0))
       → Searching (list κs a) (links (a .1 .1)) (table (a .1 .1) .now) (seen (a .1 .1) .now) (pairs (a .1 .1) .now) (a .1 .0)
       → ent 𝓤 (onEntry 𝓤 H A search-array.signature κs qs a (vals κs a))
       (WpFn 𝓤 H C Λ code.function (flat (typesAt (search-array.signature .params) κs) (vals κs a)) (lending.Post 𝓤 H A W mem run κs qs a))
@@ -68,7 +66,7 @@ module _ {M : Type 1} (𝓤 : URA M) (H : Heap 𝓤) (A : Atoms 𝓤) (W : Given
       alloc1 ! (λ l₀. alloc1 ! (λ l₁. alloc1 ! (λ l₂. alloc1 ! (λ l₃. alloc1 ! (λ l₄. alloc1 ! (λ l₅. alloc1 ! (λ l₆. alloc1 ! (λ l₇.
       alloc1 ! (λ l₈. alloc1 ! (λ l₉. alloc1 ! (λ l₁₀. alloc1 ! (λ l₁₁. alloc1 ! (λ l₁₂. alloc1 ! (λ l₁₃. alloc1 ! (λ l₁₄. alloc0 ! $ params1 ! $
       pass1 ! (init ! 26 refl (step.array-typed 𝓤 H A W (list κs a) list-is)) $
-      pass1 ! (init ! 24 refl (LL.lawful T.the-type T′.the-laws 𝓤 H A W .typed (a .1 .0) _ from-is .0)) $
+      pass1 ! (init ! 24 refl (struct.typed the-cursor 𝓤 H A W (a .1 .0) _ from-is)) $
       pass1 ! (init ! 22 refl (tt, (tt, (record { fits = rooms .last-room .0 }, tt)))) $
       pass1 ! (init ! 20 refl (tt, (tt, (record { fits = rooms .earlier-room .0 }, tt)))) $
       pass1 ! (init ! 18 refl (tt, (tt, (record { fits = rooms .table-room .0 }, tt)))) $
@@ -111,10 +109,10 @@ search-array-spec 𝓤 H 𝓜 𝓖 𝓡 =
     let W = givenOf 𝓤 H 𝓜 𝓖 in
     enters 𝓤 H 𝓜 𝓖 𝓡 search-array.ended stayed (search-array.clauses 𝓤 H (𝓖 .A) (𝓜 .mem) (𝓡 .run)) code.env #models·exploring·search-array
     code.function (code.unfolded 𝓤 H 𝓜 𝓡)
-    (λ κs. (array-vals step.vals, (LL.vals T.the-type T′.the-laws, (slice-vals, (slice-vals, (slice-vals, (slice-vals, (slice-vals, tt)))))))) (
+    (λ κs. (array-vals (struct.vals step.the-step), (struct.vals the-cursor, (slice-vals, (slice-vals, (slice-vals, (slice-vals, (slice-vals, tt)))))))) (
       goes-dropped 𝓤 H (𝓖 .A) W 5 (plain (λ _. step.AR)) yes (λ κs x f. refl),
       (
-        goes-dropped 𝓤 H (𝓖 .A) W 5 (plain (λ _. T.the-row)) yes (λ κs x f. refl),
+        goes-dropped 𝓤 H (𝓖 .A) W 5 (plain (λ _. struct.row-of the-cursor)) yes (λ κs x f. refl),
         (
           goes-dropped 𝓤 H (𝓖 .A) W 5 (shrSliceOf (0 ∷ []) tt (plain (λ _. u16))) yes (λ κs x f. refl),
           (
@@ -130,7 +128,7 @@ search-array-spec 𝓤 H 𝓜 𝓖 𝓡 =
     (λ κs. (
       step.array-told,
       (
-        LL.tells T.the-type T′.the-laws,
+        struct.tells the-cursor,
         (
           shr-slice-tells (named 0) (κs .0) u16,
           (

@@ -46,8 +46,9 @@ use Rattle.models.specs.declared.loading.Next.{Next}
 use Rattle.models.proofs.Landing.{init-as}
 use Rattle.models.proofs.Exits.{frees-cell}
 use Rattle.models.proofs.Meeting.{enters}
-use Rattle.models.proofs.StepRows.{R, behindTy, vals, AR, arrayTy, array-low, array-told, array-made, array-typed}
-use Rattle.models.proofs.NextRow.{next-typed}
+use Rattle.models.proofs.StructRows.{vals, makes, typed}
+use Rattle.models.proofs.StepRows.{the-step, R, behindTy, AR, arrayTy, array-low, array-told, array-made, array-typed}
+use Rattle.models.proofs.NextRow.{the-next}
 use Rattle.models.proofs.ReaderSlices.{file, file-val, File, Lent}
 use Rattle.models.proofs.loading.read_steps.Symbol as steps-def
 use Rattle.models.proofs.loading.read_steps.Symbol.{name as #read-steps}
@@ -56,7 +57,7 @@ use Rattle.models.proofs.loading.read_array.Key.{name as #read-array}
 use Rattle.models.proofs.loading.read_array as read-array
 use Rattle.models.proofs.loading.read_array.Statement as stated
 use Rattle.models.proofs.loading.read_array.Code as code
-use Rattle.models.proofs.loading.read_array.Proof.Result.{L, listed, listed-low, listed-is, listed-typed, listed-makes}
+use Rattle.models.proofs.loading.read_array.Proof.Result.{the-loaded, L, listed, listed-low, listed-is}
 use Rattle.models.proofs.loading.read_array.Proof.Loan.{lends-array, array-back}
 use Rattle.models.proofs.loading.read_array.Proof.Called.{ReadSteps, Loaded, to-steps, asks-steps, steps-told}
 mod Result
@@ -93,7 +94,7 @@ module _ {M : Type 1} (𝓤 : URA M) (H : Heap 𝓤) (A : Atoms 𝓤) (W : Given
       (tt, (tt, (tt, tt))) (tt, (tt, (tt, tt)))) $ says ! loaded $ nothing ! $ move ! (1 ∷ 0 ∷ []) $ join ! $ frame ! $
       nothing ! $ owned ! AR (Is AR) (array-made 𝓤 H A W) xs _ is-array $ fjoin ! $
       owned ! usize (Is usize) (uint-makes 𝓤 H A W w64) states _ (refl, states-fits) $ fjoin ! $ move ! (1 ∷ 0 ∷ []) $ fjoin ! $ frame ! $
-      owned ! L (Is L) (listed-makes 𝓤 H A) (listed x zs) _ is $ done !
+      owned ! L (Is L) (makes the-loaded 𝓤 H A) (listed x zs) _ is $ done !
 
   module _ (C : Calls 𝓤 H) (Λ : Loops 𝓤 H) (fm : FmC 𝓤 H (W .laws) C) (known : Triple 𝓤 (C #read-steps) (ReadSteps 𝓤 H A mem run)) where
     abbrev to : ℕ → ℕ → GName → ReadSteps 𝓤 H A mem run .Ghost
@@ -132,7 +133,7 @@ module _ {M : Type 1} (𝓤 : URA M) (H : Heap 𝓤) (A : Atoms 𝓤) (W : Given
         let zs = p .1 in
         split ! $ move ! (1 ∷ []) $ split ! $
         -- [the token of the slice; its last records; the token of the file; the file; true; the claim; _8; …; room for _5; …]
-        land ! (from ! (stop !)) (init-as ! 12 refl (got .0) (next-typed 𝓤 H A W x (got .1))) $
+        land ! (from ! (stop !)) (init-as ! 12 refl (got .0) (typed the-next 𝓤 H A W x _ (got .1))) $
         lft-end ! tt $ move ! (0 ∷ 5 ∷ 1 ∷ []) $
         use3 W (later (given (Is AR zs (array-low zs ∷ [])) (‵ (fat fullShare arrayTy l₄ 0 (array-low zs)))))
         (array-back 𝓤 H A W (α ∷ []) l₄ xs long δ zs) $ await ! tt $ learn ! (λ is-list.
@@ -142,7 +143,7 @@ module _ {M : Type 1} (𝓤 : URA M) (H : Heap 𝓤) (A : Atoms 𝓤) (W : Given
         assigns ! (agg ! (and-then ! (load ! (from ! (fld ! refl (stop !))) (look-in ! 10 (sub ! 1 refl (whole !))))
         (and-then ! (load ! (from ! (stop !)) (look ! 4 refl))
         (and-then ! (load ! (from ! (fld ! refl (stop !))) (look-in ! 10 (sub ! 3 refl (whole !)))) (no-more !))))) (from ! (stop !))
-        (init ! 19 refl (listed-typed x zs 𝓤 H A W is)) $
+        (init ! 19 refl (typed the-loaded 𝓤 H A W (listed x zs) _ is)) $
         returns ! (look ! 19 refl) $ frees-cell ! 19 19 refl refl $ frees-cell ! 17 17 refl refl $ frees-cell ! 15 15 refl refl $
         frees-cell ! 13 13 refl refl $ frees-cell ! 0 11 refl refl $ frees-cell ! 9 9 refl refl $ frees-cell ! 7 7 refl refl $
         frees-cell ! 5 5 refl refl $ frees-cell ! 3 3 refl refl $ free0 ! $ keep ! (0 ∷ 1 ∷ []) $ by ! (exits x zs is (got .2)))))))))))))))))
@@ -153,7 +154,7 @@ read-array-spec 𝓤 H 𝓜 𝓖 𝓡 =
     let W = givenOf 𝓤 H 𝓜 𝓖 in
     enters 𝓤 H 𝓜 𝓖 𝓡 read-array.ended stayed (read-array.clauses 𝓤 H (𝓖 .A) (𝓜 .mem) (𝓡 .run)) code.env #read-array code.function
     (code.unfolded 𝓤 H 𝓜 𝓡)
-    (λ κs. (slice-vals, (uint-vals w64, (array-vals vals, tt)))) (
+    (λ κs. (slice-vals, (uint-vals w64, (array-vals (vals the-step), tt)))) (
       goes-none-slice 𝓤 H (𝓖 .A) W 1 (0 ∷ []) tt (plain (λ _. u8)) yes,
       (goes-none 𝓤 H (𝓖 .A) W 1 (λ _. usize) yes (λ κs x f. refl), (goes-none 𝓤 H (𝓖 .A) W 1 (λ _. AR) yes (λ κs x f. refl), tt)),
     )

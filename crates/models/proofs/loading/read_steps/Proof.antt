@@ -44,8 +44,9 @@ use Rattle.models.proofs.Loop.{loops-down}
 use Rattle.models.proofs.Landing.{init-as}
 use Rattle.models.proofs.Exits.{frees-cell, frees-room}
 use Rattle.models.proofs.Meeting.{enters}
+use Rattle.models.proofs.StructRows.{low, makes, typed}
 use Rattle.models.proofs.StepRows.{R}
-use Rattle.models.proofs.NextRow.{N, next-low, IsNext, next-makes, next-typed}
+use Rattle.models.proofs.NextRow.{the-next, N, IsNext}
 use Rattle.models.proofs.ReaderSlices.{file, file-val, File, lent, Lent}
 use Rattle.models.proofs.loading.next_step.Symbol as next-def
 use Rattle.models.proofs.loading.next_step.Symbol.{name as #next-step}
@@ -96,15 +97,15 @@ module _ {M : Type 1} (𝓤 : URA M) (H : Heap 𝓤) (A : Atoms 𝓤) (W : Given
 
   module _ (states-fits : states < 2 ^ 64) where
     exits : (x : Next) (zs : List Step) → IsNext x → length zs ≡ count → LoadedAs (stepsAt 512 f states 2) zs (x .answer) (x .n)
-        → ent 𝓤 (⋆ 𝓤 H A (Last zs)) (Post (next-low x))
+        → ent 𝓤 (⋆ 𝓤 H A (Last zs)) (Post (low the-next x))
     exits x zs is long loaded =
         qed W (Last zs) ∵
-        suffices ! _ (ends-at 𝓤 H A read-steps.ended stayed (read-steps.clauses 𝓤 H A mem run) W bound (next-low x) x
+        suffices ! _ (ends-at 𝓤 H A read-steps.ended stayed (read-steps.clauses 𝓤 H A mem run) W bound (low the-next x) x
         (tt, (tt, (zs, tt))) (tt, (tt, (long, tt)))) $ says ! loaded $
         nothing ! $ move ! (3 ∷ 0 ∷ []) $ join ! $ move ! (1 ∷ 0 ∷ []) $ join ! $ frame ! $
         -- [the file; the slice]
         nothing ! $ move ! (2 ∷ 0 ∷ []) $ fjoin ! $ owned ! usize (Is usize) (uint-makes 𝓤 H A W w64) states _ (refl, states-fits) $ fjoin ! $
-        move ! (1 ∷ 0 ∷ []) $ fjoin ! $ frame ! $ owned ! N (Is N) (next-makes 𝓤 H A) x _ is $ done !
+        move ! (1 ∷ 0 ∷ []) $ fjoin ! $ frame ! $ owned ! N (Is N) (makes the-next 𝓤 H A) x _ is $ done !
 
     module _ (𝓣 : Tables 𝓤 H) (known-next : Triple 𝓤 (𝓣 .C #next-step) (NextStep 𝓤 H A mem run))
         (known-put : Triple 𝓤 (𝓣 .C #put-step) (PutStep 𝓤 H A mem run)) (room : Room R count) where
@@ -120,7 +121,7 @@ module _ {M : Type 1} (𝓤 : URA M) (H : Heap 𝓤) (A : Atoms 𝓤) (W : Given
             → ent 𝓤 (⋆ 𝓤 H A (I t)) (Wp 𝓤 H (𝓣 .C) (𝓣 .Λ) E body.t-3 (atReturn 𝓤 H E Post))
         ends t e =
             qed W (I t) ∵ exec ! (𝓣 .C) (𝓣 .Λ) E body.t-3 (atRet E Post) $
-            assigns ! (of-opd ! (load ! (from ! (stop !)) (look ! 0 refl))) (from ! (stop !)) (init ! 10 refl (next-typed 𝓤 H A W (t .next) (t .is))) $
+            assigns ! (of-opd ! (load ! (from ! (stop !)) (look ! 0 refl))) (from ! (stop !)) (init ! 10 refl (typed the-next 𝓤 H A W (t .next) _ (t .is))) $
             returns ! (look ! 10 refl) $ frees-cell ! 10 13 refl refl $ frees-cell ! 10 12 refl refl $ frees-cell ! 10 11 refl refl $
             frees-cell ! 10 10 refl refl $ frees-cell ! 0 9 refl refl $ frees-room ! 4 8 refl refl $ frees-room ! 4 7 refl refl $
             frees-room ! 4 6 refl refl $ frees-room ! 4 5 refl refl $ frees-room ! 4 4 refl refl $ free0 ! $
@@ -153,7 +154,7 @@ module _ {M : Type 1} (𝓤 : URA M) (H : Heap 𝓤) (A : Atoms 𝓤) (W : Given
           (and-then ! (load ! (from ! (stop !)) (look ! 18 refl)) (and-then ! (lit ! tt) (and-then ! (lit ! tt) (no-more !))))) (λ w.
           use1 W (later (some (λ (r : Next). given (Answered κ b o γ f states 0 2 r w) (‵ (flft κ q)))))
           (next-told κ b o γ f states 0 2 𝓤 H A W mem run q w) $ await ! tt $ pick ! (λ r. learn ! (λ got.
-          land ! (from ! (stop !)) (init-as ! 14 refl (got .0) (next-typed 𝓤 H A W r (got .1))) $
+          land ! (from ! (stop !)) (init-as ! 14 refl (got .0) (typed the-next 𝓤 H A W r _ (got .1))) $
           keep ! (14 ∷ 0 ∷ 1 ∷ 2 ∷ 3 ∷ 12 ∷ 10 ∷ 8 ∷ 6 ∷ 4 ∷ 22 ∷ 20 ∷ 18 ∷ 16 ∷ 23 ∷ 21 ∷ 19 ∷ 17 ∷ 15 ∷ 13 ∷ 11 ∷ 9 ∷ 7 ∷ 5 ∷ []) $
           by ! (looped l₀ l₁ l₂ l₃ l₄ l₅ l₆ l₇ l₈ l₉ (state f states count r ys 0 (got .1) refl (got .2 ys begun))))))))))))))))
         where

@@ -40,7 +40,8 @@ use Rattle.models.specs.Phone.{noStep}
 use Rattle.models.specs.declared.Step.{Step}
 use Rattle.models.proofs.Exits.{frees-cell}
 use Rattle.models.proofs.Meeting.{enters}
-use Rattle.models.proofs.StepRows.{R, stepTy, low, vals, tells, makes, typed}
+use Rattle.models.proofs.StructRows.{low, vals, tells, makes, typed}
+use Rattle.models.proofs.StepRows.{the-step, R, stepTy}
 use Rattle.models.proofs.steps.put_step.Key.{name as #put-step}
 use Rattle.models.proofs.steps.put_step as put-step
 use Rattle.models.proofs.steps.put_step.Statement as stated
@@ -56,7 +57,7 @@ module _ {M : Type 1} (𝓤 : URA M) (H : Heap 𝓤) (A : Atoms 𝓤) (W : Given
 
   -- the machine values of the arguments
   abbrev at : Vals put-step.signature (κ, tt)
-  at = (sliceVal (b, o) (length ys) ∷ [], (vint w64 i ∷ [], (low s ∷ [], tt)))
+  at = (sliceVal (b, o) (length ys) ∷ [], (vint w64 i ∷ [], (low the-step s ∷ [], tt)))
 
   abbrev Post : Val → SProp 𝓤
   Post = walkOf 𝓤 H A put-step.ended stayed (put-step.clauses 𝓤 H A mem run) .post (((κ, tt), (q, tt), tt, x, at), tt)
@@ -70,7 +71,7 @@ module _ {M : Type 1} (𝓤 : URA M) (H : Heap 𝓤) (A : Atoms 𝓤) (W : Given
   -- what is had at the end
   abbrev Last : List (Item 𝓤)
   Last = ‵ (fobs γ (codedHoleys R .code (heres R zs))) ∷ ‵ (fbor κ (Held R (length zs) b o γ)) ∷ ‵ (flft κ q)
-      ∷ ‵ (fsep (usize .own i (vint w64 i ∷ [])) (fsep (R .own s (low s ∷ [])) ftrue)) ∷ []
+      ∷ ‵ (fsep (usize .own i (vint w64 i ∷ [])) (fsep (R .own s (low the-step s ∷ [])) ftrue)) ∷ []
 
   exits : Room R (length ys) → ent 𝓤 (⋆ 𝓤 H A Last) (Post vunit)
   exits gn =
@@ -83,13 +84,13 @@ module _ {M : Type 1} (𝓤 : URA M) (H : Heap 𝓤) (A : Atoms 𝓤) (W : Given
       fjoin ! $ fjoin ! $ frame ! $ feqI ! (List Val) (vunit ∷ []) (vunit ∷ []) refl $ done !
 
   module _ (C : Calls 𝓤 H) (Λ : Loops 𝓤 H) where
-    walk : Room R (length ys) → i < 2 ^ 64 → Is R s (low s ∷ []) → i < length ys → ent 𝓤 (onEntry 𝓤 H A put-step.signature (κ, tt) (q, tt) x at)
-        (WpFn 𝓤 H C Λ code.function (sliceVal (b, o) (length ys) ∷ vint w64 i ∷ low s ∷ []) Post)
+    walk : Room R (length ys) → i < 2 ^ 64 → Is R s (low the-step s ∷ []) → i < length ys → ent 𝓤 (onEntry 𝓤 H A put-step.signature (κ, tt) (q, tt) x at)
+        (WpFn 𝓤 H C Λ code.function (sliceVal (b, o) (length ys) ∷ vint w64 i ∷ low the-step s ∷ []) Post)
     walk gn gi gs inside =
         let six : i * 6 < 2 ^ 64 = omega (arith, gn .0, gn .1) in
-        let wt = typed 𝓤 H A W s (low s) gs in
+        let wt = typed the-step 𝓤 H A W s _ gs in
         qed W ((‵ (flft κ q) ⊛ ‵ ftrue) ∷ ‵ (owns (MutSlice (named 0) κ R ∷ usize ∷ R ∷ []) x at) ∷ []) ∵
-        enter ! C Λ code.function (sliceVal (b, o) (length ys) ∷ vint w64 i ∷ low s ∷ []) _ $
+        enter ! C Λ code.function (sliceVal (b, o) (length ys) ∷ vint w64 i ∷ low the-step s ∷ []) _ $
         alloc1 ! (λ l₀. alloc1 ! (λ l₁. alloc1 ! (λ l₂. alloc1 ! (λ l₃. alloc1 ! (λ l₄. alloc1 ! (λ l₅. alloc0 ! $ params1 ! $
         pass1 ! (init ! 8 refl (tt, (tt, (record { fits = gn .0 }, tt)))) $ pass1 ! (init ! 6 refl (tt, record { fits = gi })) $
         pass1 ! (init ! 4 refl wt) $ pass0 ! $
@@ -101,14 +102,14 @@ module _ {M : Type 1} (𝓤 : URA M) (H : Heap 𝓤) (A : Atoms 𝓤) (W : Given
         rewrite ! 0 (λ (p : ℕ). ‵ (fat fullShare tyPtr l₅ 0 (vptr b p))) (sym (place-is 6 o i)) refl $
         -- the borrow is opened, and the old record taken out
         move ! (13 ∷ []) $ fsplit ! $ fsplit ! $ move ! (1 ∷ []) $ fsplit ! $ move ! (16 ∷ []) $ split ! $ move ! (2 ∷ 3 ∷ 0 ∷ []) $
-        opens-slice ! tt R ys b o $ elem-out ! R (Is R) (shows 𝓤 H A R) vals tells fullShare ys i noStep b o inside (λ _.
+        opens-slice ! tt R ys b o $ elem-out ! R (Is R) (shows 𝓤 H A R) (vals the-step) (tells the-step) fullShare ys i noStep b o inside (λ _.
         -- [the record at i; what it owns; the others; the open borrow; obs; auth; true; the slice's fact; i's and s's; _5; …; _0; …]
-        use1 W (‵ (fat fullShare stepTy b (place 6 o i) (low (getD ys i noStep)))) (W .laws .raw-at fullShare stepTy b (place 6 o i) _) $
+        use1 W (‵ (fat fullShare stepTy b (place 6 o i) (low the-step (getD ys i noStep)))) (W .laws .raw-at fullShare stepTy b (place 6 o i) _) $
         assigns ! (of-opd ! (load ! (from ! (stop !)) (look ! 13 refl))) (from ! (hop ! (look ! 9 refl) (stop !))) (store ! 0 refl wt) $
-        use1 W (‵ (cellAt fullShare (R .mir) (low s ∷ []) b (place 6 o i))) (W .laws .at-raw fullShare stepTy b (place 6 o i) (low s)) $
+        use1 W (‵ (cellAt fullShare (R .mir) (low the-step s ∷ []) b (place 6 o i))) (W .laws .at-raw fullShare stepTy b (place 6 o i) (low the-step s)) $
         -- the new record goes in, and the borrow is closed
-        move ! (1 ∷ []) $ drop ! $ owned ! R (Is R) (makes 𝓤 H A) s _ gs $ move ! (1 ∷ 0 ∷ []) $
-        elem-put ! R fullShare ys i s (low s ∷ []) b o inside $ closes-slice ! tt R ys zs (length-set ys i s) b o $
+        move ! (1 ∷ []) $ drop ! $ owned ! R (Is R) (makes the-step 𝓤 H A) s _ gs $ move ! (1 ∷ 0 ∷ []) $
+        elem-put ! R fullShare ys i s (low the-step s ∷ []) b o inside $ closes-slice ! tt R ys zs (length-set ys i s) b o $
         -- [obs; the borrow; the token; true; the slice's fact; i's and s's; _5; …; _0; …]
         assigns ! (of-opd ! (unit-lit !)) (from ! (stop !)) (init ! 16 refl (tt, tt)) $ returns ! (look ! 16 refl) $
         frees-cell ! 16 16 refl refl $ frees-cell ! 14 14 refl refl $ frees-cell ! 12 12 refl refl $ frees-cell ! 10 10 refl refl $
@@ -120,11 +121,11 @@ put-step-spec 𝓤 H 𝓜 𝓖 𝓡 =
     let W = givenOf 𝓤 H 𝓜 𝓖 in
     enters 𝓤 H 𝓜 𝓖 𝓡 put-step.ended stayed (put-step.clauses 𝓤 H (𝓖 .A) (𝓜 .mem) (𝓡 .run)) code.env #put-step code.function
     (code.unfolded 𝓤 H 𝓜 𝓡)
-    (λ κs. (slice-vals, (uint-vals w64, (vals, tt)))) (
+    (λ κs. (slice-vals, (uint-vals w64, (vals the-step, tt)))) (
       goes-slice 𝓤 H (𝓖 .A) W 1 0 tt (plain (λ _. R)),
       (goes-none 𝓤 H (𝓖 .A) W 1 (λ _. usize) yes (λ κs x f. refl), (goes-none 𝓤 H (𝓖 .A) W 1 (λ _. R) yes (λ κs x f. refl), tt)),
     )
-    (λ κs. (mut-slice-tells (named 0) (κs .0) R, (uint-tells w64, (tells, tt))))
+    (λ κs. (mut-slice-tells (named 0) (κs .0) R, (uint-tells w64, (tells the-step, tt))))
     (λ κs qs bounds a g are. needs 𝓤 _ _
     (walk 𝓤 H (𝓖 .A) W (𝓜 .mem) (𝓡 .run) (κs .0) (qs .0) (a .0 .ptr .0) (a .0 .ptr .1) (a .0 .name) (a .0 .now) (a .1 .0) (a .1 .1 .0)
     (tables 𝓤 H 𝓜 𝓡 code.env .C) (tables 𝓤 H 𝓜 𝓡 code.env .Λ) (are .0 .0 .1) (are .1 .0 .1) (are .1 .1 .0)))

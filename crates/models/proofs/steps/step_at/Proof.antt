@@ -37,8 +37,8 @@ use Rattle.models.specs.declared.Step.{Step}
 use Rattle.models.specs.Phone.{noStep}
 use Rattle.models.proofs.Exits.{frees-cell}
 use Rattle.models.proofs.Meeting.{enters}
-use Rattle.models.proofs.StepRows as rows
-use Rattle.models.proofs.StepRows.{R, stepTy, low}
+use Rattle.models.proofs.StructRows.{low, vals, tells, makes, typed}
+use Rattle.models.proofs.StepRows.{the-step, R, stepTy, copy}
 use Rattle.models.proofs.steps.step_at.Key.{name as #models·steps·step-at}
 use Rattle.models.proofs.steps.step_at as step-at
 use Rattle.models.proofs.steps.step_at.Statement as stated
@@ -56,7 +56,7 @@ module _ {M : Type 1} (𝓤 : URA M) (H : Heap 𝓤) (A : Atoms 𝓤) (W : Given
   elem = getD ys i noStep
 
   abbrev mach : Val
-  mach = low elem
+  mach = low the-step elem
 
   -- the machine values that x has
   abbrev at : Vals step-at.signature (κ, tt)
@@ -72,7 +72,7 @@ module _ {M : Type 1} (𝓤 : URA M) (H : Heap 𝓤) (A : Atoms 𝓤) (W : Given
       suffices ! _ (ends-at 𝓤 H A step-at.ended stayed (step-at.clauses 𝓤 H A mem run) W (((κ, tt), (q, tt), tt, x, at), tt) mach elem (tt, (tt, tt))
       (tt, (tt, tt))) $ says ! refl $
       nothing ! $ move ! (1 ∷ 0 ∷ []) $ join ! $ nothing ! $ move ! (3 ∷ 0 ∷ []) $ fjoin ! $ move ! (2 ∷ 0 ∷ []) $ fjoin ! $ move ! (1 ∷ 0 ∷ []) $
-      frame ! $ frame ! $ owned ! R (Is R) (rows.makes 𝓤 H A) elem _ g $ done !
+      frame ! $ frame ! $ owned ! R (Is R) (makes the-step 𝓤 H A) elem _ g $ done !
 
   module _ (C : Calls 𝓤 H) (Λ : Loops 𝓤 H) where
     walk : Room R (length ys) → i < 2 ^ 64 → i < length ys → ent 𝓤 (onEntry 𝓤 H A step-at.signature (κ, tt) (q, tt) x at)
@@ -89,9 +89,9 @@ module _ {M : Type 1} (𝓤 : URA M) (H : Heap 𝓤) (A : Atoms 𝓤) (W : Given
         (from ! (stop !)) (init ! 2 refl (tt, tt)) $
         rewrite ! 2 (λ (p : ℕ). ‵ (fat fullShare tyPtr l₄ 0 (vptr b p))) (sym (place-is 6 o i)) refl $
         move ! (13 ∷ []) $ fsplit ! $ fsplit ! $ move ! (1 ∷ []) $ fsplit ! $ move ! (16 ∷ []) $ split ! $ move ! (3 ∷ 0 ∷ []) $
-        looks-slice ! tt R (Is R) (shows 𝓤 H A R) rows.vals rows.tells (rows.copy 𝓤 H A W) ys b o
-        (λ q′. elem-out ! R (Is R) (shows 𝓤 H A R) rows.vals rows.tells q′ ys i noStep b o l (λ g.
-        let wt = rows.typed 𝓤 H A W elem mach g in
+        looks-slice ! tt R (Is R) (shows 𝓤 H A R) (vals the-step) (tells the-step) (copy 𝓤 H A W) ys b o
+        (λ q′. elem-out ! R (Is R) (shows 𝓤 H A R) (vals the-step) (tells the-step) q′ ys i noStep b o l (λ g.
+        let wt = typed the-step 𝓤 H A W elem mach g in
         -- [steps[i]; what it owns; the others; what shuts; the fractured borrow; true; res; the slice's fact; i's; _5; …; _4; …; _3; …; _0; …]
         use1 W (‵ (fat q′ stepTy b (place 6 o i) mach)) (W .laws .raw-at q′ stepTy b (place 6 o i) mach) $
         assigns ! (of-opd ! (load ! (from ! (hop ! (look ! 11 refl) (stop !))) (look ! 0 refl))) (from ! (stop !)) (init ! 9 refl wt) $

@@ -36,12 +36,12 @@ use Rattle.models.specs.declared.Step.{Step}
 use Rattle.models.specs.declared.exploring.Cursor.{Cursor}
 use Rattle.models.proofs.Loop.{Less}
 use Rattle.models.proofs.LentAgain.{OnLoan, lends-again-at, comes-back-at}
+use Rattle.models.proofs.StructRows as struct
 use Rattle.models.proofs.StepRows as step
-use Rattle.models.proofs.SearchSlices.{last, earlier, table, seen, pairs, links, slices-vals}
+use Rattle.models.proofs.SearchSlices.{the-cursor, last, earlier, table, seen, pairs, links, slices-vals}
 use Rattle.models.proofs.steps.step_at as step-at
 use Rattle.models.proofs.exploring.follow as follow
 use Rattle.models.proofs.exploring.search as search
-use Rattle.models.proofs.exploring.search.Proof.CursorRow as cursor
 use Rattle.models.proofs.exploring.search.Proof.Invariant as state
 use Rattle.models.proofs.exploring.search.Proof.Invariant.{State, steps, from, left}
 
@@ -133,7 +133,7 @@ module _ {M : Type 1} (𝓤 : URA M) (H : Heap 𝓤) (A : Atoms 𝓤) (W : Given
       (qs .1 .0, (qs .1 .1 .0, (qs .1 .1 .1 .0, (fullShare, (fullShare, tt))))),
       tt,
       (t .at, (s, (last (a .1 .1), (earlier (a .1 .1), (table (a .1 .1), (lent (seen (a .1 .1)) (n .2) (t .marks), (lent (pairs (a .1 .1)) (n .3) (t .queue), tt))))))),
-      (cursor.vals (t .at), (u ∷ [], slices-vals (a .1 .1))),
+      (struct.vals the-cursor (t .at), (u ∷ [], slices-vals (a .1 .1))),
     ),
     tt,
   )
@@ -185,7 +185,7 @@ module _ {M : Type 1} (𝓤 : URA M) (H : Heap 𝓤) (A : Atoms 𝓤) (W : Given
           -- [the step; last; earlier; table; seen; pairs]
           nothing ! $ move ! (6 ∷ 0 ∷ []) $ fjoin ! $ move ! (5 ∷ 0 ∷ []) $ fjoin ! $ move ! (4 ∷ 0 ∷ []) $ fjoin ! $ move ! (3 ∷ 0 ∷ []) $ fjoin ! $
           move ! (2 ∷ 0 ∷ []) $ fjoin ! $ move ! (1 ∷ 0 ∷ []) $ fjoin ! $
-          owned ! cursor.R (Is cursor.R) (cursor.makes 𝓤 H A) (t .at) _ (t .cursor-is) $ fjoin ! $ done !
+          owned ! (struct.row-of the-cursor) (Is (struct.row-of the-cursor)) (struct.makes the-cursor 𝓤 H A) (t .at) _ (t .cursor-is) $ fjoin ! $ done !
 
       pub lends : ent 𝓤 (⋆ 𝓤 H A (‵ (step.R .own s (u ∷ [])) ∷ (‵ (flft (κs .0) (qs .0)) ⊛ ‵ ftrue) ∷ Beside))
           (H .⇛ (ex 𝓤 (λ (n : Loan). sep 𝓤 (Follow 𝓤 H A mem run .pre (to-follow s u n)) (⋆ 𝓤 H A (Left n)))))
@@ -220,13 +220,13 @@ module _ {M : Type 1} (𝓤 : URA M) (H : Heap 𝓤) (A : Atoms 𝓤) (W : Given
         → s ≡ getD xs index noStep → Searching xs (links (a .1 .1)) (table (a .1 .1) .now) ms ps c
 
     -- where the loop is then
-    abbrev next : (c : Cursor) (w : Val) (ms ps : List ℕ) → Kept c ms ps → Is cursor.R c (w ∷ []) → State κs a
+    abbrev next : (c : Cursor) (w : Val) (ms ps : List ℕ) → Kept c ms ps → Is (struct.row-of the-cursor) c (w ∷ []) → State κs a
     next c w ms ps kept cursor-is = record {
       at = c;
       marks = ms;
       queue = ps;
       searching = kept (steps κs a .now) (t .searching) is;
-      cursor-is = subst (Is cursor.R c) (cursor.tells c (w ∷ []) cursor-is) cursor-is;
+      cursor-is = subst (Is (struct.row-of the-cursor) c) (struct.tells the-cursor c (w ∷ []) cursor-is) cursor-is;
     }
 
     -- the last values of what `follow` was given
@@ -239,21 +239,21 @@ module _ {M : Type 1} (𝓤 : URA M) (H : Heap 𝓤) (A : Atoms 𝓤) (W : Given
 
     pub backs : Room u8 (length (seen (a .1 .1) .now)) → Room u16 (length (pairs (a .1 .1) .now)) → (n : Loan) (w : Val)
         → ent 𝓤 (⋆ 𝓤 H A (raw (Follow 𝓤 H A mem run .post (to-follow s u n) w) ∷ Left n))
-        (H .⇛ (ex 𝓤 (λ (t′ : State κs a). guard 𝓤 (Less (left κs a) t′ t × (w ≡ cursor.low (t′ .at))) (⋆ 𝓤 H A (Owned t′)))))
+        (H .⇛ (ex 𝓤 (λ (t′ : State κs a). guard 𝓤 (Less (left κs a) t′ t × (w ≡ struct.low the-cursor (t′ .at))) (⋆ 𝓤 H A (Owned t′)))))
     backs marks-room queue-room n w =
         qed W (later (some (λ (c : Cursor).
         ((‵ (flft (κs .1 .0) (qs .1 .0)) ⊛ ‵ (flft (κs .1 .1 .0) (qs .1 .1 .0)) ⊛ ‵ (flft (κs .1 .1 .1 .0) (qs .1 .1 .1 .0))
-        ⊛ ‵ (flft (n .0 ∷ []) fullShare) ⊛ ‵ (flft (n .1 ∷ []) fullShare) ⊛ ‵ ftrue) ⊛ ‵ (cursor.R .own c (w ∷ []))) ⊛ Ensured n c)) ∷ Left n) ∵
+        ⊛ ‵ (flft (n .0 ∷ []) fullShare) ⊛ ‵ (flft (n .1 ∷ []) fullShare) ⊛ ‵ ftrue) ⊛ ‵ (struct.row-of the-cursor .own c (w ∷ []))) ⊛ Ensured n c)) ∷ Left n) ∵
         updating ! $ await ! tt $ pick ! (λ c. split ! $ move ! (1 ∷ []) $ pick ! (λ ends. split ! $ move ! (1 ∷ []) $ split ! $
         heard ! (Kept c (ends .1 .1 .1 .1 .1 .0) (ends .1 .1 .1 .1 .1 .1 .0)) (λ kept. heard ! (remaining c < remaining (t .at)) (λ less.
         -- of the last values, those of both slices
         fsplit ! $ drop ! $ fsplit ! $ drop ! $ fsplit ! $ drop ! $ fsplit ! $ drop ! $ fsplit ! $ drop ! $ fsplit ! $ fsplit ! $ move ! (2 ∷ []) $
         fsplit ! $ fsplit ! $
-        move ! (5 ∷ []) $ split ! $ move ! (1 ∷ []) $ peeks ! cursor.R (Is cursor.R) (shows 𝓤 H A cursor.R) c (w ∷ []) (λ cursor-is.
+        move ! (5 ∷ []) $ split ! $ move ! (1 ∷ []) $ peeks ! (struct.row-of the-cursor) (Is (struct.row-of the-cursor)) (shows 𝓤 H A (struct.row-of the-cursor)) c (w ∷ []) (λ cursor-is.
         -- [the cursor; the tokens; pairs' last, its length, true; seen's last, its length; what was left]
         keep ! (1 ∷ 2 ∷ 5 ∷ 7 ∷ 8 ∷ 9 ∷ 10 ∷ 11 ∷ 12 ∷ 13 ∷ []) $ group ! 10 $
         use1 W (later (raw (⋆ 𝓤 H A (Owned (next c w (ends .1 .1 .1 .1 .1 .0) (ends .1 .1 .1 .1 .1 .1 .0) kept cursor-is)))))
         (regains marks-room queue-room n (next c w (ends .1 .1 .1 .1 .1 .0) (ends .1 .1 .1 .1 .1 .1 .0) kept cursor-is)) $ await ! tt $ at-once ! $
-        show ! (λ (z : State κs a). guard 𝓤 (Less (left κs a) z t × (w ≡ cursor.low (z .at))) (⋆ 𝓤 H A (Owned z)))
+        show ! (λ (z : State κs a). guard 𝓤 (Less (left κs a) z t × (w ≡ struct.low the-cursor (z .at))) (⋆ 𝓤 H A (Owned z)))
         (next c w (ends .1 .1 .1 .1 .1 .0) (ends .1 .1 .1 .1 .1 .1 .0) kept cursor-is) $
-        check ! (less, ap only (cursor.tells c (w ∷ []) cursor-is)) $ done !)))))
+        check ! (less, ap only (struct.tells the-cursor c (w ∷ []) cursor-is)) $ done !)))))

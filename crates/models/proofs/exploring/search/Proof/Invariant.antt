@@ -30,11 +30,11 @@ use denote.Exit.{yes}
 use Rattle.models.specs.Searching.{Searching, remaining}
 use Rattle.models.specs.declared.Step.{Step}
 use Rattle.models.specs.declared.exploring.Cursor.{Cursor}
+use Rattle.models.proofs.StructRows as struct
 use Rattle.models.proofs.StepRows as step
 use Rattle.models.proofs.Exits.{unsaid}
-use Rattle.models.proofs.SearchSlices.{last, earlier, table, seen, pairs, links, slices-vals}
+use Rattle.models.proofs.SearchSlices.{the-cursor, last, earlier, table, seen, pairs, links, slices-vals}
 use Rattle.models.proofs.exploring.search as search
-use Rattle.models.proofs.exploring.search.Proof.CursorRow as cursor
 
 -- at exit nothing is had of what is shared or plain
 abbrev pub stayed : Stays (search.ended .signature .params) (search.ended .kept)
@@ -67,7 +67,7 @@ module _ (κs : Lfts 6) (a : Args search.signature κs) where
   from = a .1 .0
 
   abbrev pub vals : Vals search.signature κs
-  vals = (slice-vals steps, (cursor.vals from, slices-vals (a .1 .1)))
+  vals = (slice-vals steps, (struct.vals the-cursor from, slices-vals (a .1 .1)))
 
   -- what a turn begins with
   pub record State : Type 0 where
@@ -75,7 +75,7 @@ module _ (κs : Lfts 6) (a : Args search.signature κs) where
     pub marks : List ℕ
     pub queue : List ℕ
     pub searching : Searching (steps .now) (links (a .1 .1)) (table (a .1 .1) .now) marks queue at
-    pub cursor-is : Is cursor.R at (cursor.vals at)
+    pub cursor-is : Is (struct.row-of the-cursor) at (struct.vals the-cursor at)
 
   -- how much may still be followed
   abbrev pub left : State → ℕ
@@ -125,7 +125,7 @@ module _ {M : Type 1} (𝓤 : URA M) (H : Heap 𝓤) (A : Atoms 𝓤) (W : Given
       qed W ((‵ (flft (κs .0) (qs .0)) ⊛ ‵ (flft (κs .1 .0) (qs .1 .0)) ⊛ ‵ (flft (κs .1 .1 .0) (qs .1 .1 .0))
       ⊛ ‵ (flft (κs .1 .1 .1 .0) (qs .1 .1 .1 .0)) ⊛ ‵ (flft (κs .1 .1 .1 .1 .0) (qs .1 .1 .1 .1 .0))
       ⊛ ‵ (flft (κs .1 .1 .1 .1 .1 .0) (qs .1 .1 .1 .1 .1 .0)) ⊛ ‵ ftrue)
-      ∷ ‵ (owns (ShrSlice (named 0) (κs .0) step.R ∷ cursor.R ∷ ShrSlice (named 1) (κs .1 .0) u16 ∷ ShrSlice (named 2) (κs .1 .1 .0) u16
+      ∷ ‵ (owns (ShrSlice (named 0) (κs .0) step.R ∷ struct.row-of the-cursor ∷ ShrSlice (named 1) (κs .1 .0) u16 ∷ ShrSlice (named 2) (κs .1 .1 .0) u16
       ∷ ShrSlice (named 3) (κs .1 .1 .1 .0) u8 ∷ MutSlice (named 4) (κs .1 .1 .1 .1 .0) u8 ∷ MutSlice (named 5) (κs .1 .1 .1 .1 .1 .0) u16 ∷ [])
       a (vals κs a)) ∷ []) ∵
       split ! $ frame ! $ split ! $ frame ! $ split ! $ frame ! $ split ! $ frame ! $ split ! $ frame ! $ split ! $ frame ! $ drop ! $

@@ -38,14 +38,14 @@ use Rattle.models.proofs.Loop.{tests, Less, AfterLoop, loops-down}
 use Rattle.models.proofs.Landing.{store-as}
 use Rattle.models.proofs.Exits.{frees-cell, frees-room}
 use Rattle.models.proofs.Reborrowing.{reborrows}
+use Rattle.models.proofs.StructRows as struct
 use Rattle.models.proofs.StepRows as step
-use Rattle.models.proofs.SearchSlices.{last, earlier, table, seen, pairs, links}
+use Rattle.models.proofs.SearchSlices.{the-cursor, cursorTy, last, earlier, table, seen, pairs, links}
 use Rattle.models.proofs.steps.step_at as step-at
 use Rattle.models.proofs.steps.step_at.Symbol.{name as #models·steps·step-at}
 use Rattle.models.proofs.exploring.follow.Symbol.{name as #models·exploring·follow}
 use Rattle.models.proofs.exploring.search as search
 use Rattle.models.proofs.exploring.search.Code.Mir as mir-of
-use Rattle.models.proofs.exploring.search.Proof.CursorRow as cursor
 use Rattle.models.proofs.exploring.search.Proof.Invariant as state
 use Rattle.models.proofs.exploring.search.Proof.Invariant.{State, steps, left}
 use Rattle.models.proofs.exploring.search.Proof.Calling as calling
@@ -73,8 +73,8 @@ module _ {M : Type 1} (𝓤 : URA M) (H : Heap 𝓤) (A : Atoms 𝓤) (W : Given
     (l₀ l₁ l₂ l₃ l₄ l₅ l₆ l₇ l₈ l₉ l₁₀ l₁₁ l₁₂ l₁₃ l₁₄ l₁₅ : ℕ) where
   -- the locals
   abbrev pub En : Env 𝓤 H
-  En = (tyBool, l₀) ∷ (shared 0 step.behindTy, l₁) ∷ (cursor.cursorTy, l₂) ∷ (shared 1 (tyInt w16), l₃) ∷ (shared 2 (tyInt w16), l₄)
-      ∷ (shared 3 (tyInt w8), l₅) ∷ (unique 4 (tyInt w8), l₆) ∷ (unique 5 (tyInt w16), l₇) ∷ (cursor.cursorTy, l₈) ∷ (tyBool, l₉)
+  En = (tyBool, l₀) ∷ (shared 0 step.behindTy, l₁) ∷ (cursorTy, l₂) ∷ (shared 1 (tyInt w16), l₃) ∷ (shared 2 (tyInt w16), l₄)
+      ∷ (shared 3 (tyInt w8), l₅) ∷ (unique 4 (tyInt w8), l₆) ∷ (unique 5 (tyInt w16), l₇) ∷ (cursorTy, l₈) ∷ (tyBool, l₉)
       ∷ (step.stepTy, l₁₀) ∷ (tyInt w64, l₁₁) ∷ (tyRef erased mut (tyInt w8), l₁₂) ∷ (on (tyInt w8), l₁₃)
       ∷ (tyRef erased mut (tyInt w16), l₁₄) ∷ (on (tyInt w16), l₁₅) ∷ []
 
@@ -89,13 +89,13 @@ module _ {M : Type 1} (𝓤 : URA M) (H : Heap 𝓤) (A : Atoms 𝓤) (W : Given
       ∷ ‵ (froom (on (tyInt w8)) l₁₃ 0) ∷ ‵ (fdies (on (tyInt w8)) l₁₃)
       ∷ ‵ (froom (tyRef erased mut (tyInt w8)) l₁₂ 0) ∷ ‵ (fdies (tyRef erased mut (tyInt w8)) l₁₂)
       ∷ ‵ (froom (tyInt w64) l₁₁ 0) ∷ ‵ (fdies (tyInt w64) l₁₁) ∷ ‵ (froom step.stepTy l₁₀ 0) ∷ ‵ (fdies step.stepTy l₁₀)
-      ∷ ‵ (froom tyBool l₉ 0) ∷ ‵ (fdies tyBool l₉) ∷ ‵ (fat fullShare cursor.cursorTy l₈ 0 (cursor.low (t .at))) ∷ ‵ (fdies cursor.cursorTy l₈)
+      ∷ ‵ (froom tyBool l₉ 0) ∷ ‵ (fdies tyBool l₉) ∷ ‵ (fat fullShare cursorTy l₈ 0 (struct.low the-cursor (t .at))) ∷ ‵ (fdies cursorTy l₈)
       ∷ ‵ (fat fullShare (unique 5 (tyInt w16)) l₇ 0 (val (pairs (a .1 .1)))) ∷ ‵ (fdies (unique 5 (tyInt w16)) l₇)
       ∷ ‵ (fat fullShare (unique 4 (tyInt w8)) l₆ 0 (val (seen (a .1 .1)))) ∷ ‵ (fdies (unique 4 (tyInt w8)) l₆)
       ∷ ‵ (fat fullShare (shared 3 (tyInt w8)) l₅ 0 (val (table (a .1 .1)))) ∷ ‵ (fdies (shared 3 (tyInt w8)) l₅)
       ∷ ‵ (fat fullShare (shared 2 (tyInt w16)) l₄ 0 (val (earlier (a .1 .1)))) ∷ ‵ (fdies (shared 2 (tyInt w16)) l₄)
       ∷ ‵ (fat fullShare (shared 1 (tyInt w16)) l₃ 0 (val (last (a .1 .1)))) ∷ ‵ (fdies (shared 1 (tyInt w16)) l₃)
-      ∷ ‵ (fat fullShare cursor.cursorTy l₂ 0 (cursor.low (state.from κs a))) ∷ ‵ (fdies cursor.cursorTy l₂)
+      ∷ ‵ (fat fullShare cursorTy l₂ 0 (struct.low the-cursor (state.from κs a))) ∷ ‵ (fdies cursorTy l₂)
       ∷ ‵ (fat fullShare (shared 0 step.behindTy) l₁ 0 (val (steps κs a))) ∷ ‵ (fdies (shared 0 step.behindTy) l₁)
       ∷ ‵ (froom tyBool l₀ 0) ∷ ‵ (fdies tyBool l₀) ∷ []
 
@@ -142,7 +142,7 @@ module _ {M : Type 1} (𝓤 : URA M) (H : Heap 𝓤) (A : Atoms 𝓤) (W : Given
         heard ! (s ≡ getD (steps κs a .now) (index t) noStep) (λ is. split ! $ move ! (1 ∷ []) $
         peeks ! step.R (Is step.R) (shows 𝓤 H A step.R) s (u ∷ []) (λ step-is.
         -- [the step; the token of steps; the rest; _15; …; _14; …; _0; …]
-        land ! (from ! (stop !)) (init ! 13 refl (step.typed 𝓤 H A W s u step-is)) $
+        land ! (from ! (stop !)) (init ! 13 refl (struct.typed step.the-step 𝓤 H A W s u step-is)) $
         reborrows ! 21 9 7 refl refl refl refl refl refl refl refl (marks-room .0) $
         reborrows ! 19 5 3 refl refl refl refl refl refl refl refl (queue-room .0) $
         use3 W (later (some (λ (n : Loan). raw (Follow 𝓤 H A mem run .pre (to-follow t s u n))
@@ -155,9 +155,9 @@ module _ {M : Type 1} (𝓤 : URA M) (H : Heap 𝓤) (A : Atoms 𝓤) (W : Given
         (and-then ! (load ! (from ! (stop !)) (look ! 24 refl))
         (and-then ! (load ! (from ! (stop !)) (look ! 22 refl)) (and-then ! (load ! (from ! (stop !)) (look ! 6 refl))
         (and-then ! (load ! (from ! (stop !)) (look ! 2 refl)) (no-more !)))))))) (λ w.
-        use2 W (later (some (λ (t′ : State κs a). given (Less (left κs a) t′ t × (w ≡ cursor.low (t′ .at))) (raw (Owned t′)))))
+        use2 W (later (some (λ (t′ : State κs a). given (Less (left κs a) t′ t × (w ≡ struct.low the-cursor (t′ .at))) (raw (Owned t′)))))
         (calling.backs 𝓤 H A W mem run κs qs a begun t s u is marks-room queue-room n w) $ await ! tt $ pick ! (λ t′. learn ! (λ then.
-        land-last ! (from ! (stop !)) (store-as ! 15 refl (then .1) (cursor.typed 𝓤 H A W (t′ .at) _ (t′ .cursor-is))) $
+        land-last ! (from ! (stop !)) (store-as ! 15 refl (then .1) (struct.typed the-cursor 𝓤 H A W (t′ .at) _ (t′ .cursor-is))) $
         forget ! 1 refl $ forget ! 3 refl $ forget ! 5 refl $ forget ! 7 refl $ forget ! 9 refl $ forget ! 11 refl $ forget ! 13 refl $
         again ! (Less (left κs a)) Inv t t′ (then .0)))))))))))
         (λ none-left. exec ! (𝓣 .C) (𝓣 .Λ) En mir-of.t-3 (atRet En Post) $

@@ -32,7 +32,6 @@ use denote.Slice.{sliceVal, ShrSlice, MutSlice, finally}
 use denote.Lend.{lends-shr-slice}
 use denote.Signature.{plain, typesAt}
 use denote.Steps.{nothing, peeks, heard}
-use denote.Struct.Laws as LL
 use denote.Triple.Clauses.{Lasts, lasts}
 use denote.Triple.Entry.{Args, Vals, onEntry}
 use denote.Triple.Spec.{tripleOf}
@@ -42,10 +41,9 @@ use denote.Exit.{yes}
 use Rattle.models.specs.Searching.{Searching, Searched}
 use Rattle.models.specs.declared.Step.{Step}
 use Rattle.models.proofs.Exits.{unsaid}
+use Rattle.models.proofs.StructRows as struct
 use Rattle.models.proofs.StepRows as step
-use Rattle.models.proofs.exploring.Cursor as T
-use Rattle.models.proofs.exploring.Cursor.Laws as T′
-use Rattle.models.proofs.SearchSlices.{table, seen, pairs, links, slices-vals}
+use Rattle.models.proofs.SearchSlices.{the-cursor, table, seen, pairs, links, slices-vals}
 use Rattle.models.proofs.exploring.search as search
 use Rattle.models.proofs.exploring.search_array as search-array
 
@@ -73,7 +71,7 @@ module _ (κs : Lfts 5) (a : Args search-array.signature κs) where
   list = a .0
 
   abbrev pub vals : Vals search-array.signature κs
-  vals = (step.array-low list ∷ [], (LL.vals T.the-type T′.the-laws (a .1 .0), slices-vals (a .1 .1)))
+  vals = (step.array-low list ∷ [], (struct.vals the-cursor (a .1 .0), slices-vals (a .1 .1)))
 
   -- the array as a slice, where it lies at b
   abbrev lent : (b : ℕ) → GName → RefT (List Step)
@@ -102,7 +100,7 @@ module _ {M : Type 1} (𝓤 : URA M) (H : Heap 𝓤) (A : Atoms 𝓤) (W : Given
 
   -- what the parameters after the array own
   abbrev Others : Fml
-  Others = owns (T.the-row ∷ ShrSlice (named 0) (κs .0) u16 ∷ ShrSlice (named 1) (κs .1 .0) u16 ∷ ShrSlice (named 2) (κs .1 .1 .0) u8
+  Others = owns (struct.row-of the-cursor ∷ ShrSlice (named 0) (κs .0) u16 ∷ ShrSlice (named 1) (κs .1 .0) u16 ∷ ShrSlice (named 2) (κs .1 .1 .0) u8
       ∷ MutSlice (named 3) (κs .1 .1 .1 .0) u8 ∷ MutSlice (named 4) (κs .1 .1 .1 .1 .0) u16 ∷ []) (a .1) (vals κs a .1)
 
   -- the array in its cell, as a slice, and what is to come back

@@ -1,5 +1,5 @@
 -- `read_steps` as `read_array` calls it: what it asks, and what it gives back.
-use mathlib.Core.Path.{_≡_, refl, ap, subst}
+use mathlib.Core.Path.{_≡_, refl}
 use Prim.Native.Nat.{ℕ, _<_, _^_}
 use mathlib.Core.List.{List, [], _∷_}
 use lib.ListN.{length}
@@ -21,7 +21,7 @@ use denote.Plain.{uint-makes}
 use denote.Builtin.{u8, usize}
 use denote.Ref.{RefT}
 use denote.Slice.{sliceVal, finally, shr-slice-copy}
-use denote.Steps.{only, nothing, owned, heard, facts}
+use denote.Steps.{nothing, owned, heard, facts}
 use denote.Triple.Statement.{Contract}
 use denote.Triple.Entry.{Vals}
 use denote.Triple.Spec.{tripleOf}
@@ -31,8 +31,9 @@ use Rattle.models.specs.File.{stepsAt}
 use Rattle.models.specs.Loading.{Begun, LoadedAs}
 use Rattle.models.specs.declared.Step.{Step}
 use Rattle.models.specs.declared.loading.Next.{Next}
+use Rattle.models.proofs.StructRows.{low, told}
 use Rattle.models.proofs.StepRows.{R}
-use Rattle.models.proofs.NextRow.{N, next-low, IsNext, next-tells}
+use Rattle.models.proofs.NextRow.{the-next, N, IsNext}
 use Rattle.models.proofs.ReaderSlices.{file, file-val, File, lent, Lent}
 use Rattle.models.proofs.loading.read_steps as read-steps
 
@@ -54,7 +55,7 @@ module _ (κ ν : Lft) (b o : ℕ) (γ : GName) (f : List ℕ) (states : ℕ) (b
 
   -- what is known of the result r, which the machine has as w, and of the last records
   abbrev pub Loaded : Val → Next × List Step → Type 0
-  Loaded w (r, zs) = (w ≡ next-low r) × IsNext r × Read r zs
+  Loaded w (r, zs) = (w ≡ low the-next r) × IsNext r × Read r zs
 
   module _ {M : Type 1} (𝓤 : URA M) (H : Heap 𝓤) (A : Atoms 𝓤) (W : Given 𝓤 H A) (mem : Memory → SProp 𝓤) (run : Routine → Fun 𝓤) (q : Share) where
     abbrev pub to-steps : ReadSteps 𝓤 H A mem run .Ghost
@@ -90,5 +91,5 @@ module _ (κ ν : Lft) (b o : ℕ) (γ : GName) (f : List ℕ) (states : ℕ) (b
         fsplit ! $ drop ! $ fsplit ! $ drop ! $ fsplit ! $ fsplit ! $ move ! (3 ∷ []) $ split ! $ move ! (1 ∷ []) $
         facts ! N (Is N) (shows 𝓤 H A N) r (w ∷ []) (λ is. split ! $ move ! (1 ∷ []) $ split ! $
         -- [the token of ν; true; the token of κ; the last list; …]
-        let e = next-tells r (w ∷ []) is in
-        at-once ! $ show ! (Given-back w) (r, ws .1 .1 .0) $ check ! (ap only e, subst (Is N r) e is, loaded) $ keep ! (2 ∷ 0 ∷ 3 ∷ []) $ done !))))
+        let next = told the-next r w is in
+        at-once ! $ show ! (Given-back w) (r, ws .1 .1 .0) $ check ! (next .0, next .1, loaded) $ keep ! (2 ∷ 0 ∷ 3 ∷ []) $ done !))))

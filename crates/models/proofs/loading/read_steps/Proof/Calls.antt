@@ -1,5 +1,5 @@
 -- The two functions that `read_steps` calls: what each asks of its caller, and what it gives back.
-use mathlib.Core.Path.{_≡_, refl, ap, subst}
+use mathlib.Core.Path.{_≡_, refl, ap}
 use Prim.Native.Nat.{ℕ, _<_, _^_}
 use mathlib.Core.List.{List, [], _∷_}
 use lib.ListN.{length, set}
@@ -30,8 +30,9 @@ use denote.Triple.Walked.{says}
 use Rattle.models.specs.Loading.{Begun, NextRead}
 use Rattle.models.specs.declared.Step.{Step}
 use Rattle.models.specs.declared.loading.Next.{Next}
-use Rattle.models.proofs.StepRows.{R, low, makes}
-use Rattle.models.proofs.NextRow.{N, next-low, IsNext, next-tells}
+use Rattle.models.proofs.StructRows.{low, makes, told}
+use Rattle.models.proofs.StepRows.{the-step, R}
+use Rattle.models.proofs.NextRow.{the-next, N, IsNext}
 use Rattle.models.proofs.ReaderSlices.{file, file-val, File, lent}
 use Rattle.models.proofs.loading.next_step as next-step
 use Rattle.models.proofs.steps.put_step as put-step
@@ -58,7 +59,7 @@ module _ (κ : Lft) (b o : ℕ) (γ : GName) (f : List ℕ) (states n at : ℕ) 
 
   -- what is known of the result r, which the machine has as w
   abbrev pub Answered : Next → Val → Type 0
-  Answered r w = (w ≡ next-low r) × IsNext r × Told r
+  Answered r w = (w ≡ low the-next r) × IsNext r × Told r
 
   module _ {M : Type 1} (𝓤 : URA M) (H : Heap 𝓤) (A : Atoms 𝓤) (W : Given 𝓤 H A) (mem : Memory → SProp 𝓤) (run : Routine → Fun 𝓤) (q : Share) where
     abbrev pub to-next : NextStep 𝓤 H A mem run .Ghost
@@ -83,10 +84,10 @@ module _ (κ : Lft) (b o : ℕ) (γ : GName) (f : List ℕ) (states n at : ℕ) 
         qed W (raw (NextStep 𝓤 H A mem run .post to-next w) ∷ []) ∵ updating ! $
         use1 W (later (some (λ (r : Next). ((‵ (flft κ q) ⊛ ‵ ftrue) ⊛ ‵ (N .own r (w ∷ [])))
         ⊛ some (λ (ws : Lasts next-step.ended (κ, tt) a). ‵ (lasts next-step.ended (κ, tt) a ws) ⊛ raw (fact 𝓤 (Told r)))))) (id⊢ 𝓤 _) $
-        await ! tt $ pick ! (λ r. split ! $ move ! (1 ∷ []) $ pick ! (λ ws. split ! $ drop ! $ heard ! (Told r) (λ told.
+        await ! tt $ pick ! (λ r. split ! $ move ! (1 ∷ []) $ pick ! (λ ws. split ! $ drop ! $ heard ! (Told r) (λ says-so.
         split ! $ move ! (1 ∷ []) $ facts ! N (Is N) (shows 𝓤 H A N) r (w ∷ []) (λ is.
-        let e = next-tells r (w ∷ []) is in
-        at-once ! $ show ! (λ (r : Next). guard 𝓤 (Answered r w) (A .lft κ q)) r $ check ! (ap only e, subst (Is N r) e is, told) $
+        let next = told the-next r w is in
+        at-once ! $ show ! (λ (r : Next). guard 𝓤 (Answered r w) (A .lft κ q)) r $ check ! (next .0, next .1, says-so) $
         split ! $ keep ! (0 ∷ []) $ done !))))
 
 -- ---- put_step
@@ -99,13 +100,13 @@ module _ (ν : Lft) (b o : ℕ) (δ : GName) (count : ℕ) (ys : List Step) (i :
 
   module _ {M : Type 1} (𝓤 : URA M) (H : Heap 𝓤) (A : Atoms 𝓤) (W : Given 𝓤 H A) (mem : Memory → SProp 𝓤) (run : Routine → Fun 𝓤) where
     abbrev pub to-put : PutStep 𝓤 H A mem run .Ghost
-    to-put = (((ν, tt), (fullShare, tt), tt, (steps, (i, (s, tt))), (steps-val ∷ [], (vint w64 i ∷ [], (low s ∷ [], tt)))), tt)
+    to-put = (((ν, tt), (fullShare, tt), tt, (steps, (i, (s, tt))), (steps-val ∷ [], (vint w64 i ∷ [], (low the-step s ∷ [], tt)))), tt)
 
-    pub asks-put : i < 2 ^ 64 → Is R s (low s ∷ []) → i < length ys
+    pub asks-put : i < 2 ^ 64 → Is R s (low the-step s ∷ []) → i < length ys
         → ent 𝓤 (⋆ 𝓤 H A (‵ (flft ν fullShare) ∷ ‵ (MutSlice (named 0) ν R .own steps (steps-val ∷ [])) ∷ [])) (PutStep 𝓤 H A mem run .pre to-put)
     asks-put i-fits is inside =
         qed W (‵ (flft ν fullShare) ∷ ‵ (MutSlice (named 0) ν R .own steps (steps-val ∷ [])) ∷ []) ∵ says ! inside $
-        nothing ! $ move ! (1 ∷ 0 ∷ []) $ join ! $ frame ! $ nothing ! $ owned ! R (Is R) (makes 𝓤 H A) s _ is $ fjoin ! $
+        nothing ! $ move ! (1 ∷ 0 ∷ []) $ join ! $ frame ! $ nothing ! $ owned ! R (Is R) (makes the-step 𝓤 H A) s _ is $ fjoin ! $
         owned ! usize (Is usize) (uint-makes 𝓤 H A W w64) i _ (refl, i-fits) $ fjoin ! $ move ! (1 ∷ 0 ∷ []) $ fjoin ! $ done !
 
     pub put-told : (w : Val) → ent 𝓤 (PutStep 𝓤 H A mem run .post to-put w)

@@ -30,8 +30,9 @@ use Rattle.models.specs.Loading.{NextRead}
 use Rattle.models.specs.declared.Step.{Step}
 use Rattle.models.specs.declared.loading.Next.{Next}
 use Rattle.models.proofs.Reborrowing.{reborrows}
+use Rattle.models.proofs.StructRows.{low, typed}
 use Rattle.models.proofs.StepRows.{R, behindTy}
-use Rattle.models.proofs.NextRow.{nextTy, next-low, IsNext, next-typed, step-is, n-fits, at-fits}
+use Rattle.models.proofs.NextRow.{the-next, nextTy, IsNext, step-is, n-fits, at-fits}
 use Rattle.models.proofs.ReaderSlices.{file-val, File, lent, Lent}
 use Rattle.models.proofs.LentAgain.{OnLoan, lends-again-at, comes-back-at}
 use Rattle.models.proofs.Loop.{tests, Less, AfterLoop}
@@ -87,7 +88,7 @@ module _ {M : Type 1} (𝓤 : URA M) (H : Heap 𝓤) (A : Atoms 𝓤) (W : Given
     -- what stands before a turn, at what is read: next (0), the file (1, 2), the records (3, 4), room for the locals of a turn (5 to 9) and for
     -- the result (10), the parameters (11 to 13), and that each local dies
     abbrev Before : Next → List Step → List (Item 𝓤)
-    Before x ys = ‵ (fat fullShare nextTy l₄ 0 (next-low x)) ∷ ‵ (flft κ q) ∷ ‵ (File κ b o γ f) ∷ ‵ (flft κ′ q′) ∷ ‵ (Lent κ′ b′ o′ γ′ count ys)
+    Before x ys = ‵ (fat fullShare nextTy l₄ 0 (low the-next x)) ∷ ‵ (flft κ q) ∷ ‵ (File κ b o γ f) ∷ ‵ (flft κ′ q′) ∷ ‵ (Lent κ′ b′ o′ γ′ count ys)
         ∷ ‵ (froom tyBool l₅ 0) ∷ ‵ (froom tyUnit l₆ 0) ∷ ‵ (froom againTy l₇ 0) ∷ ‵ (froom (sliceTy againTy) l₈ 0) ∷ ‵ (froom (tyInt w64) l₉ 0)
         ∷ ‵ (froom nextTy l₀ 0)
         ∷ ‵ (fat fullShare fileTy l₁ 0 (file-val b o f)) ∷ ‵ (fat fullShare (tyInt w64) l₂ 0 (vint w64 states))
@@ -159,7 +160,7 @@ module _ {M : Type 1} (𝓤 : URA M) (H : Heap 𝓤) (A : Atoms 𝓤) (W : Given
           (and-then ! (load ! (from ! (fld ! refl (stop !))) (look-in ! 4 (sub ! 4 refl (whole !)))) (no-more !))))) (λ u.
           use1 W (later (some (λ (r : Next). given (Answered κ b o γ f states (x .n + 1) (x .at) r u) (‵ (flft κ q)))))
           (next-told κ b o γ f states (x .n + 1) (x .at) 𝓤 H A W mem run q u) $ await ! tt $ pick ! (λ r. learn ! (λ got.
-          land-last ! (from ! (stop !)) (store-as ! 4 refl (got .0) (next-typed 𝓤 H A W r (got .1))) $
+          land-last ! (from ! (stop !)) (store-as ! 4 refl (got .0) (typed the-next 𝓤 H A W r _ (got .1))) $
           forget ! 5 refl $ forget ! 6 refl $ forget ! 7 refl $ forget ! 8 refl $ forget ! 9 refl $ move ! (4 ∷ 0 ∷ 1 ∷ 3 ∷ 2 ∷ []) $
           let told = got .2 zs begun in
           again ! (Less (left f states count)) Inv t (state f states count r zs (x .n + 1) (got .1) (same ∙ t .long) told) (omega (arith, begun .few, told .number-is))))))))))
