@@ -36,6 +36,7 @@ pub mod Refusing
 pub mod Judgment
 pub mod StructRows
 pub mod StepRows
+pub mod Locals
 pub mod LentAgain
 pub mod Loop
 pub mod Landing

@@ -14,7 +14,7 @@ use contract.Monad.{Fun}
 use contract.Lifetimes.{Lfts, Shares}
 use contract.Running.{givenOf, tables, tablesOf}
 use types.Kit.{Given, raw, ⋆, _$_, _∵_, !, qed, move, use1}
-use types.Run.{look, init, stop, from, load, of-opd, assigns, enter, alloc1, alloc0, params1, pass1, pass0}
+use types.Run.{init, from, of-opd, enter, alloc1, alloc0, params1, pass1, pass0}
 use denote.RattleType.{flat}
 use denote.Laws.{Is}
 use denote.Builtin.{u8, u16}
@@ -26,6 +26,7 @@ use denote.Triple.Table.{cited}
 use denote.Triple.Walked.{needs, goes-dropped, goes-slice}
 use denote.Exit.{yes}
 use Rattle.models.specs.Searching.{Searching}
+use Rattle.models.proofs.Locals.{passes-slice, reads-local, sets-local}
 use Rattle.models.proofs.Meeting.{enters}
 use Rattle.models.proofs.StructRows as struct
 use Rattle.models.proofs.StepRows as step
@@ -66,15 +67,14 @@ module _ {M : Type 1} (𝓤 : URA M) (H : Heap 𝓤) (A : Atoms 𝓤) (W : Given
         alloc1 ! (λ l₀. alloc1 ! (λ l₁. alloc1 ! (λ l₂. alloc1 ! (λ l₃. alloc1 ! (λ l₄. alloc1 ! (λ l₅. alloc1 ! (λ l₆. alloc1 ! (λ l₇.
         alloc1 ! (λ l₈. alloc1 ! (λ l₉. alloc1 ! (λ l₁₀. alloc1 !
         (λ l₁₁. alloc1 ! (λ l₁₂. alloc1 ! (λ l₁₃. alloc1 ! (λ l₁₄. alloc1 ! (λ l₁₅. alloc0 ! $ params1 ! $
-        pass1 ! (init ! 28 refl (tt, (tt, (record { fits = steps-room .0 }, tt)))) $
+        passes-slice ! 28 refl (steps-room .0) $
         pass1 ! (init ! 26 refl (struct.typed the-cursor 𝓤 H A W (state.from κs a) _ from-is)) $
-        pass1 ! (init ! 24 refl (tt, (tt, (record { fits = rooms .last-room .0 }, tt)))) $
-        pass1 ! (init ! 22 refl (tt, (tt, (record { fits = rooms .earlier-room .0 }, tt)))) $
-        pass1 ! (init ! 20 refl (tt, (tt, (record { fits = rooms .table-room .0 }, tt)))) $
-        pass1 ! (init ! 18 refl (tt, (tt, (record { fits = rooms .seen-room .0 }, tt)))) $
-        pass1 ! (init ! 16 refl (tt, (tt, (record { fits = rooms .pairs-room .0 }, tt)))) $ pass0 ! $
-        assigns ! (of-opd ! (load ! (from ! (stop !)) (look ! 26 refl))) (from ! (stop !))
-        (init ! 14 refl (struct.typed the-cursor 𝓤 H A W (state.from κs a) _ from-is)) $
+        passes-slice ! 24 refl (rooms .last-room .0) $
+        passes-slice ! 22 refl (rooms .earlier-room .0) $
+        passes-slice ! 20 refl (rooms .table-room .0) $
+        passes-slice ! 18 refl (rooms .seen-room .0) $
+        passes-slice ! 16 refl (rooms .pairs-room .0) $ pass0 ! $
+        sets-local ! (of-opd ! (reads-local ! 26 refl)) 14 refl (struct.typed the-cursor 𝓤 H A W (state.from κs a) _ from-is) $
         move ! (32 ∷ []) $ use1 W (raw (⋆ 𝓤 H A (state.Owned 𝓤 H A W mem run κs qs a (seen (a .1 .1) .now) (pairs (a .1 .1) .now))))
         (state.begins 𝓤 H A W mem run κs qs a) $
         turn.loops-out 𝓤 H A W mem run κs qs a begun (rooms .seen-room)

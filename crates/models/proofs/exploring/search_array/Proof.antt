@@ -21,7 +21,7 @@ use contract.Lifetimes.{Lfts, Shares}
 use contract.Running.{givenOf, tables, tablesOf}
 use types.Kit.{Given, ‵, raw, given, _⊛_, some, later, _$_, _∵_, !, qed, move, use2, split, pick, learn, rewrite, await, done}
 use types.Part.{agg}
-use types.Run.{look, init, stop, from, load, lit, of-opd, addr, and-then, no-more, assigns, land, returns, enter, alloc1, alloc0, params1, pass1, pass0, free0}
+use types.Run.{look, init, stop, from, lit, of-opd, addr, and-then, no-more, land, returns, enter, alloc1, alloc0, params1, pass1, pass0, free0}
 use sound.WpLaws.{FmC, fmOf}
 use denote.RattleType.{flat}
 use denote.Laws.{Is}
@@ -36,6 +36,7 @@ use denote.Triple.Table.{cited}
 use denote.Triple.Walked.{needs, goes-dropped, goes-gave-slice}
 use denote.Exit.{yes}
 use Rattle.models.specs.Searching.{Searching}
+use Rattle.models.proofs.Locals.{passes-slice, reads-local, sets-local}
 use Rattle.models.proofs.Exits.{frees-cell}
 use Rattle.models.proofs.Meeting.{enters}
 use Rattle.models.proofs.Reborrowing.{reborrows}
@@ -67,17 +68,15 @@ module _ {M : Type 1} (𝓤 : URA M) (H : Heap 𝓤) (A : Atoms 𝓤) (W : Given
       alloc1 ! (λ l₈. alloc1 ! (λ l₉. alloc1 ! (λ l₁₀. alloc1 ! (λ l₁₁. alloc1 ! (λ l₁₂. alloc1 ! (λ l₁₃. alloc1 ! (λ l₁₄. alloc0 ! $ params1 ! $
       pass1 ! (init ! 26 refl (step.array-typed 𝓤 H A W (list κs a) list-is)) $
       pass1 ! (init ! 24 refl (struct.typed the-cursor 𝓤 H A W (a .1 .0) _ from-is)) $
-      pass1 ! (init ! 22 refl (tt, (tt, (record { fits = rooms .last-room .0 }, tt)))) $
-      pass1 ! (init ! 20 refl (tt, (tt, (record { fits = rooms .earlier-room .0 }, tt)))) $
-      pass1 ! (init ! 18 refl (tt, (tt, (record { fits = rooms .table-room .0 }, tt)))) $
-      pass1 ! (init ! 16 refl (tt, (tt, (record { fits = rooms .seen-room .0 }, tt)))) $
-      pass1 ! (init ! 14 refl (tt, (tt, (record { fits = rooms .pairs-room .0 }, tt)))) $ pass0 ! $
+      passes-slice ! 22 refl (rooms .last-room .0) $
+      passes-slice ! 20 refl (rooms .earlier-room .0) $
+      passes-slice ! 18 refl (rooms .table-room .0) $
+      passes-slice ! 16 refl (rooms .seen-room .0) $
+      passes-slice ! 14 refl (rooms .pairs-room .0) $ pass0 ! $
       -- the array in its slot, and the three slices
-      assigns ! (of-opd ! (load ! (from ! (stop !)) (look ! 26 refl))) (from ! (stop !))
-      (init ! 12 refl (step.array-typed 𝓤 H A W (list κs a) list-is)) $
-      assigns ! (addr ! (from ! (stop !))) (from ! (stop !)) (init ! 10 refl (tt, tt)) $
-      assigns ! (agg ! (and-then ! (load ! (from ! (stop !)) (look ! 10 refl)) (and-then ! (lit ! tt) (no-more !)))) (from ! (stop !))
-      (init ! 8 refl (tt, (tt, (record { fits = omega arith }, tt)))) $
+      sets-local ! (of-opd ! (reads-local ! 26 refl)) 12 refl (step.array-typed 𝓤 H A W (list κs a) list-is) $
+      sets-local ! (addr ! (from ! (stop !))) 10 refl (tt, tt) $
+      sets-local ! (agg ! (and-then ! (reads-local ! 10 refl) (and-then ! (lit ! tt) (no-more !)))) 8 refl (tt, (tt, (record { fits = omega arith }, tt))) $
       reborrows ! 16 6 4 refl refl refl refl refl refl refl refl (rooms .seen-room .0) $
       reborrows ! 14 2 0 refl refl refl refl refl refl refl refl (rooms .pairs-room .0) $
       rewrite ! 8 (λ (n : ℕ). ‵ (fat fullShare (sliceTy (tyRef erased imm step.behindTy)) l₁₀ 0 (sliceVal (l₈, 0) n)))
@@ -88,11 +87,11 @@ module _ {M : Type 1} (𝓤 : URA M) (H : Heap 𝓤) (A : Atoms 𝓤) (W : Given
       (lending.lends 𝓤 H A W mem run κs qs a begun long l₈) $ await ! tt $ pick ! (λ n. split ! $
       -- [what search asks; lent; _14; …; _13; …; _9; …; what frees _8; _7; …; _0; …]
       calls-at ! fm (Search 𝓤 H A mem run) known (lending.to-search 𝓤 H A W mem run κs qs a l₈ n)
-      (and-then ! (load ! (from ! (stop !)) (look ! 10 refl))
-      (and-then ! (load ! (from ! (stop !)) (look ! 25 refl)) (and-then ! (load ! (from ! (stop !)) (look ! 23 refl))
-      (and-then ! (load ! (from ! (stop !)) (look ! 21 refl))
-      (and-then ! (load ! (from ! (stop !)) (look ! 19 refl)) (and-then ! (load ! (from ! (stop !)) (look ! 6 refl))
-      (and-then ! (load ! (from ! (stop !)) (look ! 2 refl)) (no-more !)))))))) (λ w.
+      (and-then ! (reads-local ! 10 refl)
+      (and-then ! (reads-local ! 25 refl) (and-then ! (reads-local ! 23 refl)
+      (and-then ! (reads-local ! 21 refl)
+      (and-then ! (reads-local ! 19 refl) (and-then ! (reads-local ! 6 refl)
+      (and-then ! (reads-local ! 2 refl) (no-more !)))))))) (λ w.
       use2 W (later (given (Holds (hasTy tyBool w) × WT w)
       (‵ (lending.Cell 𝓤 H A W mem run κs qs a l₈) ⊛ raw (lending.Post 𝓤 H A W mem run κs qs a w))))
       (lending.returned 𝓤 H A W mem run κs qs a long l₈ n w) $ await ! tt $ learn ! (λ typed. split ! $

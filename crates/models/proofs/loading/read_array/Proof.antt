@@ -19,8 +19,8 @@ use contract.Running.{givenOf, tables, tablesOf}
 use types.Kit.{Given, ‵, raw, _⊛_, ⋆, some, given, later, _$_, _∵_, !, qed, by, suffices, await, done}
 use types.Kit.{move, keep, drop, use1, use2, use3, split, join, pick, learn, rewrite, fsplit, fjoin, frame}
 use types.Tokens.{lft-new, lft-end}
-use types.Part.{whole, sub, look-in, agg}
-use types.Run.{look, init, stop, fld, from, load, lit, of-opd, addr, and-then, no-more, assigns, land, returns}
+use types.Part.{agg}
+use types.Run.{look, init, stop, from, lit, of-opd, addr, and-then, no-more, land, returns}
 use types.Run.{enter, alloc1, alloc0, params1, pass1, pass0, free0}
 use sound.WpLaws.{FmC, fmOf}
 use denote.RattleType.{owns}
@@ -43,6 +43,7 @@ use Rattle.models.specs.File.{stepsAt}
 use Rattle.models.specs.Loading.{Begun, LoadedAs}
 use Rattle.models.specs.declared.Step.{Step}
 use Rattle.models.specs.declared.loading.Next.{Next}
+use Rattle.models.proofs.Locals.{passes-slice, passes-word, reads-local, reads-field, sets-local}
 use Rattle.models.proofs.Landing.{init-as}
 use Rattle.models.proofs.Exits.{frees-cell}
 use Rattle.models.proofs.Meeting.{enters}
@@ -107,12 +108,11 @@ module _ {M : Type 1} (𝓤 : URA M) (H : Heap 𝓤) (A : Atoms 𝓤) (W : Given
         qed W ((‵ (flft κ q) ⊛ ‵ ftrue) ∷ ‵ (owns (ShrSlice (named 0) κ u8 ∷ usize ∷ AR ∷ []) a at) ∷ []) ∵
         enter ! C Λ code.function (v ∷ vint w64 states ∷ array-low xs ∷ []) _ $
         alloc1 ! (λ l₀. alloc1 ! (λ l₁. alloc1 ! (λ l₂. alloc1 ! (λ l₃. alloc1 ! (λ l₄. alloc1 ! (λ l₅. alloc1 ! (λ l₆. alloc1 ! (λ l₇.
-        alloc1 ! (λ l₈. alloc0 ! $ params1 ! $ pass1 ! (init ! 14 refl (tt, (tt, (record { fits = file-room .0 }, tt)))) $
-        pass1 ! (init ! 12 refl (tt, record { fits = states-fits })) $ pass1 ! (init ! 10 refl wt) $ pass0 ! $
-        assigns ! (of-opd ! (load ! (from ! (stop !)) (look ! 10 refl))) (from ! (stop !)) (init ! 8 refl wt) $
-        assigns ! (addr ! (from ! (stop !))) (from ! (stop !)) (init ! 4 refl (tt, tt)) $
-        assigns ! (agg ! (and-then ! (load ! (from ! (stop !)) (look ! 4 refl)) (and-then ! (lit ! tt) (no-more !)))) (from ! (stop !))
-        (init ! 2 refl (tt, (tt, (record { fits = omega arith }, tt)))) $
+        alloc1 ! (λ l₈. alloc0 ! $ params1 ! $ passes-slice ! 14 refl (file-room .0) $
+        passes-word ! 12 refl states-fits $ pass1 ! (init ! 10 refl wt) $ pass0 ! $
+        sets-local ! (of-opd ! (reads-local ! 10 refl)) 8 refl wt $
+        sets-local ! (addr ! (from ! (stop !))) 4 refl (tt, tt) $
+        sets-local ! (agg ! (and-then ! (reads-local ! 4 refl) (and-then ! (lit ! tt) (no-more !)))) 2 refl (tt, (tt, (record { fits = omega arith }, tt))) $
         rewrite ! 2 (λ (n : ℕ). ‵ (fat fullShare (sliceTy (tyRef erased mut behindTy)) l₇ 0 (sliceVal (l₄, 0) n))) (sym long) refl $
         -- the array is lent
         move ! (19 ∷ []) $ fsplit ! $ move ! (1 ∷ []) $ fsplit ! $ drop ! $ fsplit ! $ move ! (1 ∷ []) $ drop ! $
@@ -124,8 +124,8 @@ module _ {M : Type 1} (𝓤 : URA M) (H : Heap 𝓤) (A : Atoms 𝓤) (W : Given
         use3 W (raw (ReadSteps 𝓤 H A mem run .pre (to α l₄ δ)) ⊛ ‵ (File κ b o γ f))
         (asks-steps κ (α ∷ []) b o γ f states l₄ δ xs 𝓤 H A W mem run q states-fits begun) $ split ! $
         -- [what read_steps asks; the file; true; the claim; _8; …; _5; …; what frees _4; _3; …; _0; …]
-        calls-at ! fm (ReadSteps 𝓤 H A mem run) known (to α l₄ δ) (and-then ! (load ! (from ! (stop !)) (look ! 17 refl))
-        (and-then ! (load ! (from ! (stop !)) (look ! 15 refl)) (and-then ! (load ! (from ! (stop !)) (look ! 6 refl)) (no-more !)))) (λ w.
+        calls-at ! fm (ReadSteps 𝓤 H A mem run) known (to α l₄ δ) (and-then ! (reads-local ! 17 refl)
+        (and-then ! (reads-local ! 15 refl) (and-then ! (reads-local ! 6 refl) (no-more !)))) (λ w.
         use1 W (later (some (λ (p : Next × List Step). given (Loaded κ (α ∷ []) b o γ f states l₄ δ xs w p)
         (‵ (flft κ q) ⊛ ‵ (flft (α ∷ []) fullShare) ⊛ ‵ (finally R δ (p .1))))))
         (steps-told κ (α ∷ []) b o γ f states l₄ δ xs 𝓤 H A W mem run q w) $ await ! tt $ pick ! (λ p. learn ! (λ got.
@@ -139,11 +139,10 @@ module _ {M : Type 1} (𝓤 : URA M) (H : Heap 𝓤) (A : Atoms 𝓤) (W : Given
         (array-back 𝓤 H A W (α ∷ []) l₄ xs long δ zs) $ await ! tt $ learn ! (λ is-list.
         let is = listed-is x zs (got .1) is-list in
         -- [_4; the token of the file; the file; true; _8; …; _5; …; what frees _4; _3; …; _0; …]
-        assigns ! (of-opd ! (load ! (from ! (stop !)) (look ! 0 refl))) (from ! (stop !)) (init ! 4 refl (array-typed 𝓤 H A W zs is-list)) $
-        assigns ! (agg ! (and-then ! (load ! (from ! (fld ! refl (stop !))) (look-in ! 10 (sub ! 1 refl (whole !))))
-        (and-then ! (load ! (from ! (stop !)) (look ! 4 refl))
-        (and-then ! (load ! (from ! (fld ! refl (stop !))) (look-in ! 10 (sub ! 3 refl (whole !)))) (no-more !))))) (from ! (stop !))
-        (init ! 19 refl (typed the-loaded 𝓤 H A W (listed x zs) _ is)) $
+        sets-local ! (of-opd ! (reads-local ! 0 refl)) 4 refl (array-typed 𝓤 H A W zs is-list) $
+        sets-local ! (agg ! (and-then ! (reads-field ! 10 1 refl refl refl)
+        (and-then ! (reads-local ! 4 refl)
+        (and-then ! (reads-field ! 10 3 refl refl refl) (no-more !))))) 19 refl (typed the-loaded 𝓤 H A W (listed x zs) _ is) $
         returns ! (look ! 19 refl) $ frees-cell ! 19 19 refl refl $ frees-cell ! 17 17 refl refl $ frees-cell ! 15 15 refl refl $
         frees-cell ! 13 13 refl refl $ frees-cell ! 0 11 refl refl $ frees-cell ! 9 9 refl refl $ frees-cell ! 7 7 refl refl $
         frees-cell ! 5 5 refl refl $ frees-cell ! 3 3 refl refl $ free0 ! $ keep ! (0 ∷ 1 ∷ []) $ by ! (exits x zs is (got .2)))))))))))))))))

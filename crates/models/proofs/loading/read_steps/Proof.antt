@@ -18,8 +18,8 @@ use contract.Monad.{Fun}
 use contract.Running.{givenOf, tables, tablesOf}
 use types.Kit.{Given, Item, ‵, raw, _⊛_, ⋆, some, given, later, atRet, _$_, _∵_, !, qed, by, suffices, await, done}
 use types.Kit.{move, keep, drop, use1, use2, split, join, pick, learn, fsplit, fjoin, frame}
-use types.Run.{look, init, stop, from, load, lit, of-opd, and-then, no-more, assigns, land, returns}
-use types.Run.{enter, exec, alloc1, alloc0, params1, pass1, pass0, free0}
+use types.Run.{look, stop, from, lit, of-opd, and-then, no-more, land, returns}
+use types.Run.{enter, exec, alloc1, alloc0, params1, pass0, free0}
 use sound.WpLaws.{fmOf}
 use denote.RattleType.{owns}
 use denote.Laws.{Is}
@@ -40,6 +40,7 @@ use Rattle.models.specs.File.{stepsAt}
 use Rattle.models.specs.Loading.{Begun, LoadedAs}
 use Rattle.models.specs.declared.Step.{Step}
 use Rattle.models.specs.declared.loading.Next.{Next}
+use Rattle.models.proofs.Locals.{passes-slice, passes-word, reads-local, sets-local}
 use Rattle.models.proofs.Loop.{loops-down}
 use Rattle.models.proofs.Landing.{init-as}
 use Rattle.models.proofs.Exits.{frees-cell, frees-room}
@@ -121,7 +122,7 @@ module _ {M : Type 1} (𝓤 : URA M) (H : Heap 𝓤) (A : Atoms 𝓤) (W : Given
             → ent 𝓤 (⋆ 𝓤 H A (I t)) (Wp 𝓤 H (𝓣 .C) (𝓣 .Λ) E body.t-3 (atReturn 𝓤 H E Post))
         ends t e =
             qed W (I t) ∵ exec ! (𝓣 .C) (𝓣 .Λ) E body.t-3 (atRet E Post) $
-            assigns ! (of-opd ! (load ! (from ! (stop !)) (look ! 0 refl))) (from ! (stop !)) (init ! 10 refl (typed the-next 𝓤 H A W (t .next) _ (t .is))) $
+            sets-local ! (of-opd ! (reads-local ! 0 refl)) 10 refl (typed the-next 𝓤 H A W (t .next) _ (t .is)) $
             returns ! (look ! 10 refl) $ frees-cell ! 10 13 refl refl $ frees-cell ! 10 12 refl refl $ frees-cell ! 10 11 refl refl $
             frees-cell ! 10 10 refl refl $ frees-cell ! 0 9 refl refl $ frees-room ! 4 8 refl refl $ frees-room ! 4 7 refl refl $
             frees-room ! 4 6 refl refl $ frees-room ! 4 5 refl refl $ frees-room ! 4 4 refl refl $ free0 ! $
@@ -142,16 +143,16 @@ module _ {M : Type 1} (𝓤 : URA M) (H : Heap 𝓤) (A : Atoms 𝓤) (W : Given
           ∷ ‵ (owns (ShrSlice (named 0) κ u8 ∷ usize ∷ MutSlice (named 1) κ′ R ∷ []) a vals) ∷ []) ∵
           enter ! (𝓣 .C) (𝓣 .Λ) code.function (v ∷ vint w64 states ∷ v′ ∷ []) _ $
           alloc1 ! (λ l₀. alloc1 ! (λ l₁. alloc1 ! (λ l₂. alloc1 ! (λ l₃. alloc1 ! (λ l₄. alloc1 ! (λ l₅. alloc1 ! (λ l₆. alloc1 ! (λ l₇.
-          alloc1 ! (λ l₈. alloc1 ! (λ l₉. alloc0 ! $ params1 ! $ pass1 ! (init ! 16 refl (tt, (tt, (record { fits = file-room .0 }, tt)))) $
-          pass1 ! (init ! 14 refl (tt, record { fits = states-fits })) $ pass1 ! (init ! 12 refl (tt, (tt, (record { fits = room .0 }, tt)))) $ pass0 ! $
+          alloc1 ! (λ l₈. alloc1 ! (λ l₉. alloc0 ! $ params1 ! $ passes-slice ! 16 refl (file-room .0) $
+          passes-word ! 14 refl states-fits $ passes-slice ! 12 refl (room .0) $ pass0 ! $
           -- [_9; …; _0; …; the tokens; what the parameters own]
           move ! (21 ∷ []) $ fsplit ! $ move ! (1 ∷ []) $ fsplit ! $ drop ! $ fsplit ! $ move ! (1 ∷ []) $ drop ! $
           move ! (22 ∷ []) $ split ! $ move ! (1 ∷ []) $ split ! $ move ! (1 ∷ []) $ drop ! $ move ! (1 ∷ 3 ∷ []) $
           use2 W (raw (NextStep 𝓤 H A mem run .pre first-ask) ⊛ ‵ (File κ b o γ f))
           (asks-next κ b o γ f states 0 2 𝓤 H A W mem run q states-fits (omega arith) (omega arith) (ys, begun)) $ split ! $
           -- [what next_step asks; the file; the token of the slice; the slice; _9; …; _0; …]
-          calls-at ! (fmOf 𝓤 H (W .laws) 𝓣) (NextStep 𝓤 H A mem run) known-next first-ask (and-then ! (load ! (from ! (stop !)) (look ! 20 refl))
-          (and-then ! (load ! (from ! (stop !)) (look ! 18 refl)) (and-then ! (lit ! tt) (and-then ! (lit ! tt) (no-more !))))) (λ w.
+          calls-at ! (fmOf 𝓤 H (W .laws) 𝓣) (NextStep 𝓤 H A mem run) known-next first-ask (and-then ! (reads-local ! 20 refl)
+          (and-then ! (reads-local ! 18 refl) (and-then ! (lit ! tt) (and-then ! (lit ! tt) (no-more !))))) (λ w.
           use1 W (later (some (λ (r : Next). given (Answered κ b o γ f states 0 2 r w) (‵ (flft κ q)))))
           (next-told κ b o γ f states 0 2 𝓤 H A W mem run q w) $ await ! tt $ pick ! (λ r. learn ! (λ got.
           land ! (from ! (stop !)) (init-as ! 14 refl (got .0) (typed the-next 𝓤 H A W r _ (got .1))) $

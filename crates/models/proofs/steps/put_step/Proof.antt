@@ -18,8 +18,7 @@ use ghost.Atoms.{Atoms}
 use contract.Monad.{Fun}
 use contract.Running.{givenOf, tables}
 use types.Kit.{Given, Item, ‵, _⊛_, ⋆, _$_, _∵_, !, qed, by, use1, move, keep, drop, split, join, rewrite, fsplit, fjoin, feqI, suffices, frame, done}
-use types.Part.{whole, sub, look-in}
-use types.Run.{look, store, init, stop, hop, fld, from, load, lit, unit-lit, of-opd, bin, assigns, returns}
+use types.Run.{look, store, init, stop, hop, from, lit, unit-lit, of-opd, bin, assigns, returns}
 use types.Run.{enter, alloc1, alloc0, params1, pass1, pass0, free0}
 use denote.RattleType.{owns}
 use denote.Shadow.{pureI}
@@ -38,6 +37,7 @@ use denote.Triple.Walked.{says, needs, Stays, stay-slice, stay-none, walkOf, end
 use denote.Exit.{yes}
 use Rattle.models.specs.Phone.{noStep}
 use Rattle.models.specs.declared.Step.{Step}
+use Rattle.models.proofs.Locals.{passes-slice, passes-word, reads-local, reads-field, sets-local}
 use Rattle.models.proofs.Exits.{frees-cell}
 use Rattle.models.proofs.Meeting.{enters}
 use Rattle.models.proofs.StructRows.{low, vals, tells, makes, typed}
@@ -92,26 +92,24 @@ module _ {M : Type 1} (𝓤 : URA M) (H : Heap 𝓤) (A : Atoms 𝓤) (W : Given
         qed W ((‵ (flft κ q) ⊛ ‵ ftrue) ∷ ‵ (owns (MutSlice (named 0) κ R ∷ usize ∷ R ∷ []) x at) ∷ []) ∵
         enter ! C Λ code.function (sliceVal (b, o) (length ys) ∷ vint w64 i ∷ low the-step s ∷ []) _ $
         alloc1 ! (λ l₀. alloc1 ! (λ l₁. alloc1 ! (λ l₂. alloc1 ! (λ l₃. alloc1 ! (λ l₄. alloc1 ! (λ l₅. alloc0 ! $ params1 ! $
-        pass1 ! (init ! 8 refl (tt, (tt, (record { fits = gn .0 }, tt)))) $ pass1 ! (init ! 6 refl (tt, record { fits = gi })) $
+        passes-slice ! 8 refl (gn .0) $ passes-word ! 6 refl gi $
         pass1 ! (init ! 4 refl wt) $ pass0 ! $
         -- the place of the record
-        assigns ! (bin ! (load ! (from ! (stop !)) (look ! 6 refl)) (lit ! tt) (record { fits = six })) (from ! (stop !))
-        (init ! 2 refl (tt, record { fits = six })) $
-        assigns ! (bin ! (load ! (from ! (fld ! refl (stop !))) (look-in ! 8 (sub ! 0 refl (whole !)))) (load ! (from ! (stop !)) (look ! 2 refl)) tt)
-        (from ! (stop !)) (init ! 0 refl (tt, tt)) $
+        sets-local ! (bin ! (reads-local ! 6 refl) (lit ! tt) (record { fits = six })) 2 refl (tt, record { fits = six }) $
+        sets-local ! (bin ! (reads-field ! 8 0 refl refl refl) (reads-local ! 2 refl) tt) 0 refl (tt, tt) $
         rewrite ! 0 (λ (p : ℕ). ‵ (fat fullShare tyPtr l₅ 0 (vptr b p))) (sym (place-is 6 o i)) refl $
         -- the borrow is opened, and the old record taken out
         move ! (13 ∷ []) $ fsplit ! $ fsplit ! $ move ! (1 ∷ []) $ fsplit ! $ move ! (16 ∷ []) $ split ! $ move ! (2 ∷ 3 ∷ 0 ∷ []) $
         opens-slice ! tt R ys b o $ elem-out ! R (Is R) (shows 𝓤 H A R) (vals the-step) (tells the-step) fullShare ys i noStep b o inside (λ _.
         -- [the record at i; what it owns; the others; the open borrow; obs; auth; true; the slice's fact; i's and s's; _5; …; _0; …]
         use1 W (‵ (fat fullShare stepTy b (place 6 o i) (low the-step (getD ys i noStep)))) (W .laws .raw-at fullShare stepTy b (place 6 o i) _) $
-        assigns ! (of-opd ! (load ! (from ! (stop !)) (look ! 13 refl))) (from ! (hop ! (look ! 9 refl) (stop !))) (store ! 0 refl wt) $
+        assigns ! (of-opd ! (reads-local ! 13 refl)) (from ! (hop ! (look ! 9 refl) (stop !))) (store ! 0 refl wt) $
         use1 W (‵ (cellAt fullShare (R .mir) (low the-step s ∷ []) b (place 6 o i))) (W .laws .at-raw fullShare stepTy b (place 6 o i) (low the-step s)) $
         -- the new record goes in, and the borrow is closed
         move ! (1 ∷ []) $ drop ! $ owned ! R (Is R) (makes the-step 𝓤 H A) s _ gs $ move ! (1 ∷ 0 ∷ []) $
         elem-put ! R fullShare ys i s (low the-step s ∷ []) b o inside $ closes-slice ! tt R ys zs (length-set ys i s) b o $
         -- [obs; the borrow; the token; true; the slice's fact; i's and s's; _5; …; _0; …]
-        assigns ! (of-opd ! (unit-lit !)) (from ! (stop !)) (init ! 16 refl (tt, tt)) $ returns ! (look ! 16 refl) $
+        sets-local ! (of-opd ! (unit-lit !)) 16 refl (tt, tt) $ returns ! (look ! 16 refl) $
         frees-cell ! 16 16 refl refl $ frees-cell ! 14 14 refl refl $ frees-cell ! 12 12 refl refl $ frees-cell ! 10 10 refl refl $
         frees-cell ! 8 8 refl refl $ frees-cell ! 6 6 refl refl $ free0 ! $ keep ! (0 ∷ 1 ∷ 2 ∷ 5 ∷ []) $ by ! (exits gn))))))))
 

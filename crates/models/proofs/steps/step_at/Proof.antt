@@ -18,8 +18,7 @@ use ghost.Atoms.{Atoms}
 use contract.Monad.{Fun}
 use contract.Running.{givenOf, tables}
 use types.Kit.{Given, ‵, _⊛_, ⋆, _$_, _∵_, !, qed, by, use1, move, keep, split, join, rewrite, fsplit, fjoin, suffices, frame, done}
-use types.Part.{whole, sub, look-in}
-use types.Run.{look, init, stop, hop, fld, from, load, lit, of-opd, bin, assigns, returns, enter, alloc1, alloc0, params1, pass1, pass0, free0}
+use types.Run.{look, stop, hop, from, load, lit, of-opd, bin, returns, enter, alloc1, alloc0, params1, pass0, free0}
 use denote.RattleType.{owns}
 use denote.Laws.{Is, shows}
 use denote.Plain.{uint-vals, uint-tells}
@@ -35,6 +34,7 @@ use denote.Triple.Walked.{says, needs, Stays, stay-none-slice, stay-none, walkOf
 use denote.Exit.{yes}
 use Rattle.models.specs.declared.Step.{Step}
 use Rattle.models.specs.Phone.{noStep}
+use Rattle.models.proofs.Locals.{passes-slice, passes-word, reads-local, reads-field, sets-local}
 use Rattle.models.proofs.Exits.{frees-cell}
 use Rattle.models.proofs.Meeting.{enters}
 use Rattle.models.proofs.StructRows.{low, vals, tells, makes, typed}
@@ -82,11 +82,9 @@ module _ {M : Type 1} (𝓤 : URA M) (H : Heap 𝓤) (A : Atoms 𝓤) (W : Given
         qed W ((‵ (flft κ q) ⊛ ‵ ftrue) ∷ ‵ (owns (ShrSlice (named 0) κ R ∷ usize ∷ []) x at) ∷ []) ∵ enter ! C Λ code.function
         (sliceVal (b, o) (length ys) ∷ vint w64 i ∷ []) _ $
         alloc1 ! (λ l₀. alloc1 ! (λ l₁. alloc1 ! (λ l₂. alloc1 ! (λ l₃. alloc1 ! (λ l₄. alloc1 ! (λ l₅. alloc0 ! $ params1 ! $
-        pass1 ! (init ! 8 refl (tt, (tt, (record { fits = gn .0 }, tt)))) $ pass1 ! (init ! 6 refl (tt, record { fits = gi })) $ pass0 ! $
-        assigns ! (bin ! (load ! (from ! (stop !)) (look ! 6 refl)) (lit ! tt) (record { fits = six })) (from ! (stop !))
-        (init ! 4 refl (tt, record { fits = six })) $
-        assigns ! (bin ! (load ! (from ! (fld ! refl (stop !))) (look-in ! 8 (sub ! 0 refl (whole !)))) (load ! (from ! (stop !)) (look ! 4 refl)) tt)
-        (from ! (stop !)) (init ! 2 refl (tt, tt)) $
+        passes-slice ! 8 refl (gn .0) $ passes-word ! 6 refl gi $ pass0 ! $
+        sets-local ! (bin ! (reads-local ! 6 refl) (lit ! tt) (record { fits = six })) 4 refl (tt, record { fits = six }) $
+        sets-local ! (bin ! (reads-field ! 8 0 refl refl refl) (reads-local ! 4 refl) tt) 2 refl (tt, tt) $
         rewrite ! 2 (λ (p : ℕ). ‵ (fat fullShare tyPtr l₄ 0 (vptr b p))) (sym (place-is 6 o i)) refl $
         move ! (13 ∷ []) $ fsplit ! $ fsplit ! $ move ! (1 ∷ []) $ fsplit ! $ move ! (16 ∷ []) $ split ! $ move ! (3 ∷ 0 ∷ []) $
         looks-slice ! tt R (Is R) (shows 𝓤 H A R) (vals the-step) (tells the-step) (copy 𝓤 H A W) ys b o
@@ -94,8 +92,8 @@ module _ {M : Type 1} (𝓤 : URA M) (H : Heap 𝓤) (A : Atoms 𝓤) (W : Given
         let wt = typed the-step 𝓤 H A W elem mach g in
         -- [steps[i]; what it owns; the others; what shuts; the fractured borrow; true; res; the slice's fact; i's; _5; …; _4; …; _3; …; _0; …]
         use1 W (‵ (fat q′ stepTy b (place 6 o i) mach)) (W .laws .raw-at q′ stepTy b (place 6 o i) mach) $
-        assigns ! (of-opd ! (load ! (from ! (hop ! (look ! 11 refl) (stop !))) (look ! 0 refl))) (from ! (stop !)) (init ! 9 refl wt) $
-        assigns ! (of-opd ! (load ! (from ! (stop !)) (look ! 9 refl))) (from ! (stop !)) (init ! 19 refl wt) $
+        sets-local ! (of-opd ! (load ! (from ! (hop ! (look ! 11 refl) (stop !))) (look ! 0 refl))) 9 refl wt $
+        sets-local ! (of-opd ! (reads-local ! 9 refl)) 19 refl wt $
         use1 W (‵ (cellAt q′ (R .mir) (mach ∷ []) b (place 6 o i))) (W .laws .at-raw q′ stepTy b (place 6 o i) mach) $
         elem-back ! R q′ ys i noStep (mach ∷ []) b o l $ shuts-slice ! tt R q′ ys b o $
         returns ! (look ! 16 refl) $ frees-cell ! 16 16 refl refl $ frees-cell ! 14 14 refl refl $ frees-cell ! 12 12 refl refl $

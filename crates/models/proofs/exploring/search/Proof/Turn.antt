@@ -19,8 +19,7 @@ use ghost.Atoms.{Atoms}
 use contract.Monad.{Fun, fact}
 use contract.Lifetimes.{Lfts, Shares}
 use types.Kit.{Given, Item, ‵, raw, given, _⊛_, ⋆, some, later, Sq, runs, anyQ, atRet, _$_, !, by, move, drop, use1, use2, use3, split, pick, learn, await}
-use types.Part.{whole, sub, look-in}
-use types.Run.{look, init, forget, stop, fld, from, load, lit, of-opd, bin, and-then, no-more, assigns, land, land-last, returns, free0, exec, again, Below}
+use types.Run.{look, init, forget, stop, from, lit, of-opd, bin, and-then, no-more, land, land-last, returns, free0, exec, again, Below}
 use sound.WpLaws.{fmOf}
 use denote.Laws.{Is, shows}
 use denote.Builtin.{u8, u16}
@@ -34,6 +33,7 @@ use denote.Triple.Statement.{Triple}
 use Rattle.models.specs.Phone.{noStep}
 use Rattle.models.specs.Searching.{Searching}
 use Rattle.models.specs.declared.Step.{Step}
+use Rattle.models.proofs.Locals.{reads-local, reads-field, sets-local}
 use Rattle.models.proofs.Loop.{tests, Less, AfterLoop, loops-down}
 use Rattle.models.proofs.Landing.{store-as}
 use Rattle.models.proofs.Exits.{frees-cell, frees-room}
@@ -124,17 +124,14 @@ module _ {M : Type 1} (𝓤 : URA M) (H : Heap 𝓤) (A : Atoms 𝓤) (W : Given
         (AfterLoop 𝓤 H 𝓣 En mir-of.t-3 Post))))
     unfolding afterTurn
     turns t =
-        assigns ! (bin ! (lit ! tt) (load ! (from ! (fld ! refl (stop !))) (look-in ! 15 (sub ! 3 refl (whole !)))) tt) (from ! (stop !))
-        (init ! 13 refl (tt, tt)) $
-        tests ! (load ! (from ! (stop !)) (look ! 13 refl)) (λ some-left.
-        assigns ! (bin ! (load ! (from ! (fld ! refl (stop !))) (look-in ! 15 (sub ! 3 refl (whole !)))) (lit ! tt) (more t some-left))
-        (from ! (stop !))
-        (init ! 9 refl (tt, record { fits = calling.index-fits 𝓤 H A W mem run κs qs a begun t (more t some-left) })) $
+        sets-local ! (bin ! (lit ! tt) (reads-field ! 15 3 refl refl refl) tt) 13 refl (tt, tt) $
+        tests ! (reads-local ! 13 refl) (λ some-left.
+        sets-local ! (bin ! (reads-field ! 15 3 refl refl refl) (lit ! tt) (more t some-left)) 9 refl (tt, record { fits = calling.index-fits 𝓤 H A W mem run κs qs a begun t (more t some-left) }) $
         use1 W (raw (StepAt 𝓤 H A mem run .pre (to-step-at t)) ⊛ raw (⋆ 𝓤 H A (calling.Beside 𝓤 H A W mem run κs qs a begun t)))
         (calling.asks 𝓤 H A W mem run κs qs a begun t (more t some-left)) $ split ! $
         -- [what step_at asks; the rest of what is owned; _15; …; _14; …; _0; …]
         calls-at ! (fmOf 𝓤 H (W .laws) 𝓣) (StepAt 𝓤 H A mem run) known-step-at (to-step-at t)
-        (and-then ! (load ! (from ! (stop !)) (look ! 30 refl)) (and-then ! (load ! (from ! (stop !)) (look ! 10 refl)) (no-more !))) (λ u.
+        (and-then ! (reads-local ! 30 refl) (and-then ! (reads-local ! 10 refl) (no-more !))) (λ u.
         use1 W (later (some (λ (s : Step). ((‵ (flft (κs .0) (qs .0)) ⊛ ‵ ftrue) ⊛ ‵ (step.R .own s (u ∷ [])))
         ⊛ some (λ (ws : Lasts step-at.ended (κs .0, tt) (steps κs a, (index t, tt))). ‵ (lasts step-at.ended (κs .0, tt) (steps κs a, (index t, tt)) ws)
         ⊛ raw (fact 𝓤 (s ≡ getD (steps κs a .now) (index t) noStep)))))) (id⊢ 𝓤 _) $
@@ -150,19 +147,18 @@ module _ {M : Type 1} (𝓤 : URA M) (H : Heap 𝓤) (A : Atoms 𝓤) (W : Given
         (calling.lends 𝓤 H A W mem run κs qs a begun t s u is (more t some-left)) $ await ! tt $ pick ! (λ n. split ! $
         -- [what follow asks; what is left; _15; …; _14; …; _0; …]
         calls-at-last ! (fmOf 𝓤 H (W .laws) 𝓣) (Follow 𝓤 H A mem run) known-follow (to-follow t s u n)
-        (and-then ! (load ! (from ! (stop !)) (look ! 16 refl))
-        (and-then ! (load ! (from ! (stop !)) (look ! 12 refl)) (and-then ! (load ! (from ! (stop !)) (look ! 26 refl))
-        (and-then ! (load ! (from ! (stop !)) (look ! 24 refl))
-        (and-then ! (load ! (from ! (stop !)) (look ! 22 refl)) (and-then ! (load ! (from ! (stop !)) (look ! 6 refl))
-        (and-then ! (load ! (from ! (stop !)) (look ! 2 refl)) (no-more !)))))))) (λ w.
+        (and-then ! (reads-local ! 16 refl)
+        (and-then ! (reads-local ! 12 refl) (and-then ! (reads-local ! 26 refl)
+        (and-then ! (reads-local ! 24 refl)
+        (and-then ! (reads-local ! 22 refl) (and-then ! (reads-local ! 6 refl)
+        (and-then ! (reads-local ! 2 refl) (no-more !)))))))) (λ w.
         use2 W (later (some (λ (t′ : State κs a). given (Less (left κs a) t′ t × (w ≡ struct.low the-cursor (t′ .at))) (raw (Owned t′)))))
         (calling.backs 𝓤 H A W mem run κs qs a begun t s u is marks-room queue-room n w) $ await ! tt $ pick ! (λ t′. learn ! (λ then.
         land-last ! (from ! (stop !)) (store-as ! 15 refl (then .1) (struct.typed the-cursor 𝓤 H A W (t′ .at) _ (t′ .cursor-is))) $
         forget ! 1 refl $ forget ! 3 refl $ forget ! 5 refl $ forget ! 7 refl $ forget ! 9 refl $ forget ! 11 refl $ forget ! 13 refl $
         again ! (Less (left κs a)) Inv t t′ (then .0)))))))))))
         (λ none-left. exec ! (𝓣 .C) (𝓣 .Λ) En mir-of.t-3 (atRet En Post) $
-        assigns ! (of-opd ! (load ! (from ! (fld ! refl (stop !))) (look-in ! 15 (sub ! 4 refl (whole !))))) (from ! (stop !))
-        (init ! 31 refl (tt, tt)) $
+        sets-local ! (of-opd ! (reads-field ! 15 4 refl refl refl)) 31 refl (tt, tt) $
         returns ! (look ! 31 refl) $ frees-cell ! 31 31 refl refl $ frees-cell ! 29 29 refl refl $ frees-cell ! 27 27 refl refl $
         frees-cell ! 25 25 refl refl $ frees-cell ! 23 23 refl refl $ frees-cell ! 21 21 refl refl $ frees-cell ! 19 19 refl refl $
         frees-cell ! 17 17 refl refl $ frees-cell ! 15 15 refl refl $ frees-cell ! 13 13 refl refl $ frees-room ! 11 11 refl refl $

@@ -19,8 +19,7 @@ use ghost.Atoms.{Atoms}
 use contract.Monad.{Fun}
 use types.Kit.{Given, Item, ‵, raw, _⊛_, ⋆, some, given, later, anyQ, _$_, _∵_, !, qed, by, move, use1, use2, use3, split, pick, learn, await}
 use types.Tokens.{lft-new, lft-end}
-use types.Part.{whole, sub, look-in}
-use types.Run.{look, init, forget, stop, fld, from, load, lit, of-opd, bin, and-then, no-more, assigns}
+use types.Run.{forget, stop, from, lit, of-opd, bin, and-then, no-more}
 use types.Run.{land, land-last, exec, again, Below}
 use sound.WpLaws.{FmC, fmOf}
 use denote.Slice.{sliceTy, sliceVal, MutSlice, Room, finally}
@@ -29,6 +28,7 @@ use denote.Triple.Call.{calls-at, calls-at-last}
 use Rattle.models.specs.Loading.{NextRead}
 use Rattle.models.specs.declared.Step.{Step}
 use Rattle.models.specs.declared.loading.Next.{Next}
+use Rattle.models.proofs.Locals.{reads-local, reads-field, sets-local}
 use Rattle.models.proofs.Reborrowing.{reborrows}
 use Rattle.models.proofs.StructRows.{low, typed}
 use Rattle.models.proofs.StepRows.{R, behindTy}
@@ -123,9 +123,8 @@ module _ {M : Type 1} (𝓤 : URA M) (H : Heap 𝓤) (A : Atoms 𝓤) (W : Given
           let same : length zs ≡ length ys = length-set ys (x .n) (x .step) in
           qed W (Inv t) ∵ exec ! (𝓣 .C) (𝓣 .Λ) Locals body.turn-1 (anyQ (afterTurn 𝓤 H (Below 𝓤 H A (Less (left f states count)) Inv t)
           (AfterLoop 𝓤 H 𝓣 Locals body.t-3 Post))) $
-          assigns ! (of-opd ! (load ! (from ! (fld ! refl (stop !))) (look-in ! 0 (sub ! 0 refl (whole !))))) (from ! (stop !))
-          (init ! 5 refl (tt, tt)) $
-          tests ! (load ! (from ! (stop !)) (look ! 5 refl))
+          sets-local ! (of-opd ! (reads-field ! 0 0 refl refl refl)) 5 refl (tt, tt) $
+          tests ! (reads-local ! 5 refl)
           (λ h.
           let begun = t .read .one-more (is-true (x .more) h) in
           let inside : x .n < length ys = omega (arith, begun .few, begun-length begun, same) in
@@ -139,9 +138,9 @@ module _ {M : Type 1} (𝓤 : URA M) (H : Heap 𝓤) (A : Atoms 𝓤) (W : Given
           use2 W (raw (PutStep 𝓤 H A mem run .pre (put α δ t)))
           (asks-put (α ∷ []) b′ o′ δ count ys (x .n) (x .step) 𝓤 H A W mem run (n-fits x (t .is)) (step-is x (t .is)) inside) $
           -- [what put_step asks; what is on loan; next; the token of the file; the file; _5; …]
-          calls-at ! fm (PutStep 𝓤 H A mem run) known-put (put α δ t) (and-then ! (load ! (from ! (stop !)) (look ! 8 refl))
-          (and-then ! (load ! (from ! (fld ! refl (stop !))) (look-in ! 2 (sub ! 3 refl (whole !))))
-          (and-then ! (load ! (from ! (fld ! refl (stop !))) (look-in ! 2 (sub ! 2 refl (whole !)))) (no-more !)))) (λ w.
+          calls-at ! fm (PutStep 𝓤 H A mem run) known-put (put α δ t) (and-then ! (reads-local ! 8 refl)
+          (and-then ! (reads-field ! 2 3 refl refl refl)
+          (and-then ! (reads-field ! 2 2 refl refl refl) (no-more !)))) (λ w.
           use1 W (later (given (w ≡ vunit) (‵ (flft (α ∷ []) fullShare) ⊛ ‵ (finally R δ zs))))
           (put-told (α ∷ []) b′ o′ δ count ys (x .n) (x .step) 𝓤 H A W mem run w) $ await ! tt $ learn ! (λ e. split ! $
           land ! (from ! (stop !)) (init-as ! 7 refl e (tt, tt)) $
@@ -150,14 +149,13 @@ module _ {M : Type 1} (𝓤 : URA M) (H : Heap 𝓤) (A : Atoms 𝓤) (W : Given
           (comes-back-at R κ′ (α ∷ []) q′ γ′ b′ o′ 𝓤 H A W (named 1) (named 0) ys count (t .long) room δ zs (same ∙ t .long)) $
           await ! tt $ split ! $
           -- [the slice; its token; next; the token of the file; the file; _5; …]
-          assigns ! (bin ! (load ! (from ! (fld ! refl (stop !))) (look-in ! 2 (sub ! 3 refl (whole !)))) (lit ! tt) (record { fits = one-fits }))
-          (from ! (stop !)) (init ! 9 refl (tt, record { fits = one-fits })) $ move ! (3 ∷ 4 ∷ []) $
+          sets-local ! (bin ! (reads-field ! 2 3 refl refl refl) (lit ! tt) (record { fits = one-fits })) 9 refl (tt, record { fits = one-fits }) $ move ! (3 ∷ 4 ∷ []) $
           use2 W (raw (NextStep 𝓤 H A mem run .pre (ask t)) ⊛ ‵ (File κ b o γ f))
           (asks-next κ b o γ f states (x .n + 1) (x .at) 𝓤 H A W mem run q states-fits one-fits (at-fits x (t .is)) (zs, begun)) $ split ! $
           -- [what next_step asks; the file; the slice; its token; next; _5; …]
-          calls-at-last ! fm (NextStep 𝓤 H A mem run) known-next (ask t) (and-then ! (load ! (from ! (stop !)) (look ! 11 refl))
-          (and-then ! (load ! (from ! (stop !)) (look ! 12 refl)) (and-then ! (load ! (from ! (stop !)) (look ! 9 refl))
-          (and-then ! (load ! (from ! (fld ! refl (stop !))) (look-in ! 4 (sub ! 4 refl (whole !)))) (no-more !))))) (λ u.
+          calls-at-last ! fm (NextStep 𝓤 H A mem run) known-next (ask t) (and-then ! (reads-local ! 11 refl)
+          (and-then ! (reads-local ! 12 refl) (and-then ! (reads-local ! 9 refl)
+          (and-then ! (reads-field ! 4 4 refl refl refl) (no-more !))))) (λ u.
           use1 W (later (some (λ (r : Next). given (Answered κ b o γ f states (x .n + 1) (x .at) r u) (‵ (flft κ q)))))
           (next-told κ b o γ f states (x .n + 1) (x .at) 𝓤 H A W mem run q u) $ await ! tt $ pick ! (λ r. learn ! (λ got.
           land-last ! (from ! (stop !)) (store-as ! 4 refl (got .0) (typed the-next 𝓤 H A W r _ (got .1))) $
