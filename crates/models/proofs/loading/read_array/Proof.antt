@@ -140,9 +140,9 @@ module _ {M : Type 1} (𝓤 : URA M) (H : Heap 𝓤) (A : Atoms 𝓤) (W : Given
         let is = listed-is x zs (got .1) is-list in
         -- [_4; the token of the file; the file; true; _8; …; _5; …; what frees _4; _3; …; _0; …]
         sets-local ! (of-opd ! (reads-local ! 0 refl)) 4 refl (array-typed 𝓤 H A W zs is-list) $
-        sets-local ! (agg ! (and-then ! (reads-field ! 10 1 refl refl refl)
+        sets-local ! (agg ! (and-then ! (reads-field ! 10 1 {d = 8} refl refl refl)
         (and-then ! (reads-local ! 4 refl)
-        (and-then ! (reads-field ! 10 3 refl refl refl) (no-more !))))) 19 refl (typed the-loaded 𝓤 H A W (listed x zs) _ is) $
+        (and-then ! (reads-field ! 10 3 {d = 32} refl refl refl) (no-more !))))) 19 refl (typed the-loaded 𝓤 H A W (listed x zs) _ is) $
         returns ! (look ! 19 refl) $ frees-cell ! 19 19 refl refl $ frees-cell ! 17 17 refl refl $ frees-cell ! 15 15 refl refl $
         frees-cell ! 13 13 refl refl $ frees-cell ! 0 11 refl refl $ frees-cell ! 9 9 refl refl $ frees-cell ! 7 7 refl refl $
         frees-cell ! 5 5 refl refl $ frees-cell ! 3 3 refl refl $ free0 ! $ keep ! (0 ∷ 1 ∷ []) $ by ! (exits x zs is (got .2)))))))))))))))))

@@ -139,8 +139,8 @@ module _ {M : Type 1} (𝓤 : URA M) (H : Heap 𝓤) (A : Atoms 𝓤) (W : Given
           (asks-put (α ∷ []) b′ o′ δ count ys (x .n) (x .step) 𝓤 H A W mem run (n-fits x (t .is)) (step-is x (t .is)) inside) $
           -- [what put_step asks; what is on loan; next; the token of the file; the file; _5; …]
           calls-at ! fm (PutStep 𝓤 H A mem run) known-put (put α δ t) (and-then ! (reads-local ! 8 refl)
-          (and-then ! (reads-field ! 2 3 refl refl refl)
-          (and-then ! (reads-field ! 2 2 refl refl refl) (no-more !)))) (λ w.
+          (and-then ! (reads-field ! 2 3 {d = 32} refl refl refl)
+          (and-then ! (reads-field ! 2 2 {d = 24} refl refl refl) (no-more !)))) (λ w.
           use1 W (later (given (w ≡ vunit) (‵ (flft (α ∷ []) fullShare) ⊛ ‵ (finally R δ zs))))
           (put-told (α ∷ []) b′ o′ δ count ys (x .n) (x .step) 𝓤 H A W mem run w) $ await ! tt $ learn ! (λ e. split ! $
           land ! (from ! (stop !)) (init-as ! 7 refl e (tt, tt)) $
@@ -149,13 +149,13 @@ module _ {M : Type 1} (𝓤 : URA M) (H : Heap 𝓤) (A : Atoms 𝓤) (W : Given
           (comes-back-at R κ′ (α ∷ []) q′ γ′ b′ o′ 𝓤 H A W (named 1) (named 0) ys count (t .long) room δ zs (same ∙ t .long)) $
           await ! tt $ split ! $
           -- [the slice; its token; next; the token of the file; the file; _5; …]
-          sets-local ! (bin ! (reads-field ! 2 3 refl refl refl) (lit ! tt) (record { fits = one-fits })) 9 refl (tt, record { fits = one-fits }) $ move ! (3 ∷ 4 ∷ []) $
+          sets-local ! (bin ! (reads-field ! 2 3 {d = 32} refl refl refl) (lit ! tt) (record { fits = one-fits })) 9 refl (tt, record { fits = one-fits }) $ move ! (3 ∷ 4 ∷ []) $
           use2 W (raw (NextStep 𝓤 H A mem run .pre (ask t)) ⊛ ‵ (File κ b o γ f))
           (asks-next κ b o γ f states (x .n + 1) (x .at) 𝓤 H A W mem run q states-fits one-fits (at-fits x (t .is)) (zs, begun)) $ split ! $
           -- [what next_step asks; the file; the slice; its token; next; _5; …]
           calls-at-last ! fm (NextStep 𝓤 H A mem run) known-next (ask t) (and-then ! (reads-local ! 11 refl)
           (and-then ! (reads-local ! 12 refl) (and-then ! (reads-local ! 9 refl)
-          (and-then ! (reads-field ! 4 4 refl refl refl) (no-more !))))) (λ u.
+          (and-then ! (reads-field ! 4 4 {d = 40} refl refl refl) (no-more !))))) (λ u.
           use1 W (later (some (λ (r : Next). given (Answered κ b o γ f states (x .n + 1) (x .at) r u) (‵ (flft κ q)))))
           (next-told κ b o γ f states (x .n + 1) (x .at) 𝓤 H A W mem run q u) $ await ! tt $ pick ! (λ r. learn ! (λ got.
           land-last ! (from ! (stop !)) (store-as ! 4 refl (got .0) (typed the-next 𝓤 H A W r _ (got .1))) $
