@@ -18,19 +18,18 @@ use types.Run.{init, from, of-opd, enter, alloc1, alloc0, params1, pass1, pass0}
 use denote.RattleType.{flat}
 use denote.Laws.{Is}
 use denote.Builtin.{u8, u16}
-use denote.Slice.{Room, slice-vals, shr-slice-tells, mut-slice-tells}
+use denote.Slice.{Room, slice-vals, shr-slice-tells}
 use denote.Signature.{plain, shrSliceOf, typesAt}
 use denote.Triple.Entry.{Args, onEntry}
 use denote.Triple.Statement.{Triple}
 use denote.Triple.Table.{cited}
 use denote.Triple.Walked.{needs, goes-dropped, goes-slice}
 use denote.Exit.{yes}
-use Rattle.models.specs.Searching.{Searching}
 use Rattle.models.proofs.Locals.{passes-slice, reads-local, sets-local}
 use Rattle.models.proofs.Meeting.{enters}
 use Rattle.models.proofs.StructRows as struct
 use Rattle.models.proofs.StepRows as step
-use Rattle.models.proofs.SearchSlices.{the-cursor, Rooms, table, seen, pairs, links}
+use Rattle.models.proofs.SearchSlices.{AtStart, slices-spell, slices-tell, rooms-of, the-cursor, Rooms, seen, pairs}
 use Rattle.models.proofs.steps.step_at.Symbol as step-at-def
 use Rattle.models.proofs.steps.step_at.Symbol.{name as #models·steps·step-at}
 use Rattle.models.proofs.steps.step_at.Met as step-at-thm
@@ -54,7 +53,7 @@ module _ {M : Type 1} (𝓤 : URA M) (H : Heap 𝓤) (A : Atoms 𝓤) (W : Given
     (known-follow : Triple 𝓤 (𝓣 .C #models·exploring·follow) (Follow 𝓤 H A mem run)) where
   module _ (κs : Lfts 6) (qs : Shares 6) (a : Args search.signature κs) (steps-room : Room step.R (length (steps κs a .now)))
       (rooms : Rooms (a .1 .1)) (from-is : Is (struct.row-of the-cursor) (state.from κs a) (struct.vals the-cursor (state.from κs a)))
-      (begun : Searching (steps κs a .now) (links (a .1 .1)) (table (a .1 .1) .now) (seen (a .1 .1) .now) (pairs (a .1 .1) .now) (state.from κs a)) where
+      (begun : AtStart (a .1 .1) (steps κs a .now) (state.from κs a)) where
     -- where the loop begins
     abbrev start : State κs a
     start = record { at = state.from κs a; marks = seen (a .1 .1) .now; queue = pairs (a .1 .1) .now; searching = begun; cursor-is = from-is }
@@ -87,7 +86,7 @@ search-spec 𝓤 H 𝓜 𝓖 𝓡 =
     let W = givenOf 𝓤 H 𝓜 𝓖 in
     enters 𝓤 H 𝓜 𝓖 𝓡 search.ended stayed (search.clauses 𝓤 H (𝓖 .A) (𝓜 .mem) (𝓡 .run)) code.env #models·exploring·search code.function
     (code.unfolded 𝓤 H 𝓜 𝓡)
-    (λ κs. (slice-vals, (struct.vals the-cursor, (slice-vals, (slice-vals, (slice-vals, (slice-vals, (slice-vals, tt)))))))) (
+    (λ κs. (slice-vals, (struct.vals the-cursor, slices-spell 1 (κs .1)))) (
       goes-dropped 𝓤 H (𝓖 .A) W 6 (shrSliceOf (0 ∷ []) tt (plain (λ _. step.R))) yes (λ κs x f. refl),
       (
         goes-dropped 𝓤 H (𝓖 .A) W 6 (plain (λ _. struct.row-of the-cursor)) yes (λ κs x f. refl),
@@ -103,34 +102,10 @@ search-spec 𝓤 H 𝓜 𝓖 𝓡 =
         ),
       ),
     )
-    (λ κs. (
-      shr-slice-tells (named 0) (κs .0) step.R,
-      (
-        struct.tells the-cursor,
-        (
-          shr-slice-tells (named 1) (κs .1 .0) u16,
-          (
-            shr-slice-tells (named 2) (κs .1 .1 .0) u16,
-            (
-              shr-slice-tells (named 3) (κs .1 .1 .1 .0) u8,
-              (
-                mut-slice-tells (named 4) (κs .1 .1 .1 .1 .0) u8,
-                (mut-slice-tells (named 5) (κs .1 .1 .1 .1 .1 .0) u16, tt),
-              ),
-            ),
-          ),
-        ),
-      ),
-    ))
+    (λ κs. (shr-slice-tells (named 0) (κs .0) step.R, (struct.tells the-cursor, slices-tell 1 (κs .1))))
     (λ κs qs bounds a g are. needs 𝓤 _ _ (walk 𝓤 H (𝓖 .A) W (𝓜 .mem) (𝓡 .run) (tablesOf 𝓤 H 𝓜 (tables 𝓤 H 𝓜 𝓡 code.env))
     (cited 𝓤 H (StepAt 𝓤 H (𝓖 .A) (𝓜 .mem) (𝓡 .run)) 𝓜 𝓡 code.env #models·steps·step-at step-at-def.routine code.calls-models·steps·step-at
     (step-at-thm.met 𝓤 H 𝓜 𝓖 𝓡))
     (cited 𝓤 H (Follow 𝓤 H (𝓖 .A) (𝓜 .mem) (𝓡 .run)) 𝓜 𝓡 code.env #models·exploring·follow follow-def.routine code.calls-models·exploring·follow
     (follow-thm.met 𝓤 H 𝓜 𝓖 𝓡)) κs qs a
-    (are .0 .0 .1) (record {
-      last-room = are .1 .1 .0 .0 .1;
-      earlier-room = are .1 .1 .1 .0 .0 .1;
-      table-room = are .1 .1 .1 .1 .0 .0 .1;
-      seen-room = are .1 .1 .1 .1 .1 .0 .0 .1;
-      pairs-room = are .1 .1 .1 .1 .1 .1 .0 .0 .1;
-    }) (are .1 .0)))
+    (are .0 .0 .1) (rooms-of 1 (κs .1) (a .1 .1) (are .1 .1)) (are .1 .0)))

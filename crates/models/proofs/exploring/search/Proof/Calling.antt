@@ -38,7 +38,7 @@ use Rattle.models.proofs.Loop.{Less}
 use Rattle.models.proofs.LentAgain.{OnLoan, lends-again-at, comes-back-at}
 use Rattle.models.proofs.StructRows as struct
 use Rattle.models.proofs.StepRows as step
-use Rattle.models.proofs.SearchSlices.{the-cursor, last, earlier, table, seen, pairs, links, slices-vals}
+use Rattle.models.proofs.SearchSlices.{AtStart, Tokens, the-cursor, last, earlier, table, seen, pairs, links, slices-vals}
 use Rattle.models.proofs.steps.step_at as step-at
 use Rattle.models.proofs.exploring.follow as follow
 use Rattle.models.proofs.exploring.search as search
@@ -59,7 +59,7 @@ Loan = ℕ × ℕ × GName × GName
 
 module _ {M : Type 1} (𝓤 : URA M) (H : Heap 𝓤) (A : Atoms 𝓤) (W : Given 𝓤 H A) (mem : Memory → SProp 𝓤) (run : Routine → Fun 𝓤)
     (κs : Lfts 6) (qs : Shares 6) (a : Args search.signature κs)
-    (begun : Searching (steps κs a .now) (links (a .1 .1)) (table (a .1 .1) .now) (seen (a .1 .1) .now) (pairs (a .1 .1) .now) (from κs a)) (t : State κs a) where
+    (begun : AtStart (a .1 .1) (steps κs a .now) (from κs a)) (t : State κs a) where
   abbrev Steps : Fml
   Steps = state.Steps 𝓤 H A W mem run κs qs a
 
@@ -126,11 +126,18 @@ module _ {M : Type 1} (𝓤 : URA M) (H : Heap 𝓤) (A : Atoms 𝓤) (W : Given
   QueueOnLoan n = OnLoan u16 (κs .1 .1 .1 .1 .1 .0) (n .1 ∷ []) (qs .1 .1 .1 .1 .1 .0) (pairs (a .1 .1) .name) (pairs (a .1 .1) .ptr .0) (pairs (a .1 .1) .ptr .1)
       (n .3) (t .queue)
 
+  -- the lifetimes at which it all goes to `follow`, and the shares of their tokens
+  abbrev lifetimes : Loan → Lfts 5
+  lifetimes n = (κs .1 .0, (κs .1 .1 .0, (κs .1 .1 .1 .0, (n .0 ∷ [], (n .1 ∷ [], tt)))))
+
+  abbrev tokens : Shares 5
+  tokens = (qs .1 .0, (qs .1 .1 .0, (qs .1 .1 .1 .0, (fullShare, (fullShare, tt)))))
+
   abbrev pub to-follow : Step → Val → Loan → Follow 𝓤 H A mem run .Ghost
   to-follow s u n = (
     (
-      (κs .1 .0, (κs .1 .1 .0, (κs .1 .1 .1 .0, (n .0 ∷ [], (n .1 ∷ [], tt))))),
-      (qs .1 .0, (qs .1 .1 .0, (qs .1 .1 .1 .0, (fullShare, (fullShare, tt))))),
+      lifetimes n,
+      tokens,
       tt,
       (t .at, (s, (last (a .1 .1), (earlier (a .1 .1), (table (a .1 .1), (lent (seen (a .1 .1)) (n .2) (t .marks), (lent (pairs (a .1 .1)) (n .3) (t .queue), tt))))))),
       (struct.vals the-cursor (t .at), (u ∷ [], slices-vals (a .1 .1))),
@@ -151,9 +158,7 @@ module _ {M : Type 1} (𝓤 : URA M) (H : Heap 𝓤) (A : Atoms 𝓤) (W : Given
   -- both slices are had again, at the lists of any state
   abbrev Regained : Loan → State κs a → List (Item 𝓤)
   Regained n t′ =
-      (‵ (flft (κs .1 .0) (qs .1 .0)) ⊛ ‵ (flft (κs .1 .1 .0) (qs .1 .1 .0)) ⊛ ‵ (flft (κs .1 .1 .1 .0) (qs .1 .1 .1 .0))
-      ⊛ ‵ (flft (n .0 ∷ []) fullShare) ⊛ ‵ (flft (n .1 ∷ []) fullShare) ⊛ ‵ ftrue)
-      ∷ ‵ (finally u16 (n .3) (t′ .queue)) ∷ ‵ (finally u8 (n .2) (t′ .marks)) ∷ Left n
+      Tokens (lifetimes n) tokens ∷ ‵ (finally u16 (n .3) (t′ .queue)) ∷ ‵ (finally u8 (n .2) (t′ .marks)) ∷ Left n
 
   module _ (marks-room : Room u8 (length (seen (a .1 .1) .now))) (queue-room : Room u16 (length (pairs (a .1 .1) .now))) where
     regains : (n : Loan) (t′ : State κs a) → ent 𝓤 (⋆ 𝓤 H A (Regained n t′)) (H .⇛ (⋆ 𝓤 H A (Owned t′)))
@@ -242,8 +247,7 @@ module _ {M : Type 1} (𝓤 : URA M) (H : Heap 𝓤) (A : Atoms 𝓤) (W : Given
         (H .⇛ (ex 𝓤 (λ (t′ : State κs a). guard 𝓤 (Less (left κs a) t′ t × (w ≡ struct.low the-cursor (t′ .at))) (⋆ 𝓤 H A (Owned t′)))))
     backs marks-room queue-room n w =
         qed W (later (some (λ (c : Cursor).
-        ((‵ (flft (κs .1 .0) (qs .1 .0)) ⊛ ‵ (flft (κs .1 .1 .0) (qs .1 .1 .0)) ⊛ ‵ (flft (κs .1 .1 .1 .0) (qs .1 .1 .1 .0))
-        ⊛ ‵ (flft (n .0 ∷ []) fullShare) ⊛ ‵ (flft (n .1 ∷ []) fullShare) ⊛ ‵ ftrue) ⊛ ‵ (struct.row-of the-cursor .own c (w ∷ []))) ⊛ Ensured n c)) ∷ Left n) ∵
+        (Tokens (lifetimes n) tokens ⊛ ‵ (struct.row-of the-cursor .own c (w ∷ []))) ⊛ Ensured n c)) ∷ Left n) ∵
         updating ! $ await ! tt $ pick ! (λ c. split ! $ move ! (1 ∷ []) $ pick ! (λ ends. split ! $ move ! (1 ∷ []) $ split ! $
         heard ! (Kept c (ends .1 .1 .1 .1 .1 .0) (ends .1 .1 .1 .1 .1 .1 .0)) (λ kept. heard ! (remaining c < remaining (t .at)) (λ less.
         -- of the last values, those of both slices

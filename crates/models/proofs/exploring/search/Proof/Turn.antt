@@ -31,7 +31,6 @@ use denote.Triple.Clauses.{Lasts, lasts}
 use denote.Triple.Entry.{Args}
 use denote.Triple.Statement.{Triple}
 use Rattle.models.specs.Phone.{noStep}
-use Rattle.models.specs.Searching.{Searching}
 use Rattle.models.specs.declared.Step.{Step}
 use Rattle.models.proofs.Locals.{reads-local, reads-field, sets-local}
 use Rattle.models.proofs.Loop.{tests, Less, AfterLoop, loops-down}
@@ -40,7 +39,7 @@ use Rattle.models.proofs.Exits.{frees-cell, frees-room}
 use Rattle.models.proofs.Reborrowing.{reborrows}
 use Rattle.models.proofs.StructRows as struct
 use Rattle.models.proofs.StepRows as step
-use Rattle.models.proofs.SearchSlices.{the-cursor, cursorTy, last, earlier, table, seen, pairs, links}
+use Rattle.models.proofs.SearchSlices.{AtStart, the-cursor, cursorTy, last, earlier, table, seen, pairs}
 use Rattle.models.proofs.steps.step_at as step-at
 use Rattle.models.proofs.steps.step_at.Symbol.{name as #models·steps·step-at}
 use Rattle.models.proofs.exploring.follow.Symbol.{name as #models·exploring·follow}
@@ -68,7 +67,7 @@ on τ = sliceTy (tyRef erased mut τ)
 
 module _ {M : Type 1} (𝓤 : URA M) (H : Heap 𝓤) (A : Atoms 𝓤) (W : Given 𝓤 H A) (mem : Memory → SProp 𝓤) (run : Routine → Fun 𝓤)
     (κs : Lfts 6) (qs : Shares 6) (a : Args search.signature κs)
-    (begun : Searching (steps κs a .now) (links (a .1 .1)) (table (a .1 .1) .now) (seen (a .1 .1) .now) (pairs (a .1 .1) .now) (state.from κs a))
+    (begun : AtStart (a .1 .1) (steps κs a .now) (state.from κs a))
     (marks-room : Room u8 (length (seen (a .1 .1) .now))) (queue-room : Room u16 (length (pairs (a .1 .1) .now)))
     (l₀ l₁ l₂ l₃ l₄ l₅ l₆ l₇ l₈ l₉ l₁₀ l₁₁ l₁₂ l₁₃ l₁₄ l₁₅ : ℕ) where
   -- the locals
