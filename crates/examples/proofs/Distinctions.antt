@@ -1,19 +1,19 @@
 -- A model that isn't finite, and two that satisfy the same rules and aren't strongly bisimilar.
 use Prim.Native.Nat.{ℕ, zero, suc, _+_, _≤_}
-use mathlib.Core.Path.{_≡_, refl}
+use mathlib.Core.Path.{refl}
 use mathlib.Core.Logic.{_↔_}
 use mathlib.Core.List.{List, [], _∷_}
 use native.Mathlib.Omega.{arith}
 use lib.ListN.{getD}
 use Rattle.reading.specs.Rule.{Rule}
 use Rattle.synthesis.specs.Violation.{ViolatesRule, by-body}
-use Rattle.models.specs.Model.{Label, silent, code, Model, Walk, stay, silent-first, code-first, Finite}
+use Rattle.models.specs.Model.{silent, Walk, stay, code-first, Finite}
 use Rattle.models.specs.Satisfaction.{Satisfies}
 use Rattle.models.specs.Bisimulation.{Bisimilar}
 use Rattle.models.specs.Phone.{modelOf}
 use Rattle.models.proofs.Walks.{walk-append}
-use Rattle.models.proofs.SatisfactionLaws.{satisfies-safe}
 use Rattle.models.proofs.PhoneStates.{phones-finite}
+use Rattle.models.proofs.QuietModels.{Quiet, quiet-satisfies}
 use Rattle.examples.specs.Examples.{poolRule}
 use Rattle.examples.specs.ModelExamples.{counting, stillPhone, idlePhone, Distinctions}
 use Rattle.examples.proofs.PhoneSteps.{step-at, every-step}
@@ -42,22 +42,6 @@ endless finite =
     omega (arith, e, small)
 
 -- ---- models whose steps are all silent satisfy the same rules
-
-abbrev Quiet : Label → Type 0
-Quiet silent = Unit
-Quiet (code c) = ⊥
-
-module _ (m : Model) (quiet : (s t : m .State) (a : Label) → m .Step s a t → Quiet a) where
-  no-trace : {s t : m .State} {w : List ℕ} → Walk m s w t → w ≡ []
-  no-trace stay = refl
-  no-trace (silent-first h k) = no-trace k
-  no-trace (code-first {s} {t} {c = c} h k) = absurd (quiet s t (code c) h)
-
-  quiet-satisfies : (r : Rule) → Satisfies m r ↔ (ViolatesRule r [] → ⊥)
-  quiet-satisfies r = (
-    λ sat. satisfies-safe m r .0 sat [] (m .start) stay,
-    λ fine. satisfies-safe m r .1 (λ w t k v. fine (rw (no-trace k) at v)),
-  )
 
 still-satisfies : (r : Rule) → Satisfies (modelOf stillPhone) r ↔ (ViolatesRule r [] → ⊥)
 still-satisfies = quiet-satisfies (modelOf stillPhone) (λ s t a. every-step (λ s a t. Quiet a) (stillPhone .steps) tt)

@@ -18,11 +18,11 @@ use Rattle.synthesis.proofs.RuleMonitor.{hopeless-iff}
 use Rattle.synthesis.proofs.Synthesized.{made, synthesis-of}
 use Rattle.synthesis.proofs.Equations.{file-well-formed, answers-count, checks-table, reaches-equations, refuses-too-many}
 use Rattle.synthesis.proofs.Built.{refuses-hopeless}
-use Rattle.models.specs.Model.{Label, Model, Walk, stay, silent-first, code-first}
+use Rattle.models.specs.Model.{Model}
 use Rattle.models.specs.Satisfaction.{Satisfies}
-use Rattle.models.specs.Phone.{Phone, StepIn, modelOf, WellFormedPhone}
+use Rattle.models.specs.Phone.{Phone, modelOf, WellFormedPhone}
 use Rattle.models.specs.Promises.{Acceptable, AcceptsExactly, RefusesUnsatisfiable}
-use Rattle.models.proofs.SatisfactionLaws.{satisfies-safe}
+use Rattle.models.proofs.QuietModels.{empty-safe, quiet-satisfies}
 use Rattle.models.proofs.PhoneStates.{phones-finite}
 
 -- ---- a rule is satisfiable exactly when the empty list doesn't violate it
@@ -37,19 +37,8 @@ still = modelOf stillPhone
 still-well-formed : WellFormedPhone stillPhone
 still-well-formed = record { some-states = omega arith; few-states = omega arith; few-steps = omega arith; steps = tt }
 
-no-step : {s t : ℕ} {a : Label} → StepIn [] s a t → ⊥
-no-step x = omega (arith, x .inside)
-
-still-trace : {s t : ℕ} {w : List ℕ} → Walk still s w t → w ≡ []
-still-trace stay = refl
-still-trace (silent-first h k) = absurd (no-step h)
-still-trace (code-first h k) = absurd (no-step h)
-
 still-satisfies : (r : Rule) → (ViolatesRule r [] → ⊥) → Satisfies still r
-still-satisfies r fine = satisfies-safe still r .1 (λ w t k v. fine (rw (still-trace k) at v))
-
-satisfiable-fine : (m : Model) (r : Rule) → Satisfies m r → ViolatesRule r [] → ⊥
-satisfiable-fine m r sat = satisfies-safe m r .0 sat [] (m .start) stay
+still-satisfies r = quiet-satisfies still (λ s t a x. absurd (omega (arith, x .inside))) r .1
 
 -- ---- a file that is a rule
 
@@ -82,7 +71,7 @@ module _ (limit : ℕ) (s : List ℕ) (bytes : Bytes s) where
 
   module _ (r : Rule) (read : ruleOf s ≡ accepted r) where
     refused-unsatisfiable : countedOf (synthesisOf limit s) ≡ Refused 8 0 → (m : Model) → Satisfies m r → ⊥
-    refused-unsatisfiable e m sat = satisfiable-fine m r sat (refuses-hopeless limit s bytes r read .0 e)
+    refused-unsatisfiable e m sat = empty-safe m r sat (refuses-hopeless limit s bytes r read .0 e)
 
     unsatisfiable-refused : (Satisfies still r → ⊥) → countedOf (synthesisOf limit s) ≡ Refused 8 0
     unsatisfiable-refused none = refuses-hopeless limit s bytes r read .1 (on (hopeless r) refl)

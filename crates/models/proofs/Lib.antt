@@ -3,6 +3,7 @@
 pub mod Walks
 pub mod SatisfactionLaws
 pub mod BisimulationLaws
+pub mod QuietModels
 pub mod Passing
 pub mod NeverDropping
 pub mod Responses
