@@ -59,7 +59,8 @@ module _ {E : Type 0} (answer : E → ℕ → Answer E) (respond : E → ℕ →
     beside-back s x x′ a (beside passes) (silent-step {t = t} h) = (t, h, beside (passes-silent answer m h passes))
     beside-back s x x′ a (beside passes) (passed-step {t = t} {c} {e} {e′} h q) =
         (t, h, beside (passes-code answer m h (same e e′ c .0 q) passes))
-    beside-back s x x′ a (beside passes) (silenced-step {c = c} {e} h q) = absurd (passes-drop answer m h (silenced-dropped respond answer same e c q) passes)
+    beside-back s x x′ a (beside passes) (silenced-step {c = c} {e} h q) =
+        absurd (passes-drop answer m h (silenced-dropped respond answer same e c q) passes)
 
     besides : Bisimulation m behind Beside
     besides = record { forth = beside-forth; back = beside-back }

@@ -6,6 +6,16 @@ use Rattle.models.proofs.Searches.{searching-first, stored-searched}
 use Rattle.models.proofs.exploring.never_drops.Statement.{statement}
 use Rattle.models.proofs.exploring.never_drops.Tie as tie
 
+-- from the note of the first pair to the links, from the first cursor to that note, and from the search to that cursor
+abbrev linked : tie.After-note → tie.After-of-model
+linked c = c .before .before .before .before .before .before
+
+abbrev noted : tie.After-next-pair → tie.After-note
+noted c = c .before .before .before .before .before
+
+abbrev first : tie.After-pairs4 → tie.After-next-pair
+first c = c .before .before .before .before
+
 of-model-requires : tie.Need-of-model-requires
 of-model-requires c κs = search needs
 
@@ -26,8 +36,9 @@ slice-aggregate-next-pair-2 c = search needs
 
 next-pair-requires : tie.Need-next-pair-requires
 next-pair-requires c κs =
-    let w = c .before .before .before .before .note .ensures .grown .worklist in
-    (c .before .before .before .before .before .before .before .before .before .before .of-model .ensures .1 .last-length, w .pairs-length, omega arith, found-few _ _ _ w)
+    let n = c .before .before .before .before in
+    let w = n .note .ensures .grown .worklist in
+    (linked n .of-model .ensures .1 .last-length, w .pairs-length, omega arith, found-few _ _ _ w)
 
 slice-aggregate-search-array : tie.Need-slice-aggregate-search-array
 slice-aggregate-search-array c = search needs
@@ -43,11 +54,14 @@ slice-aggregate-search-array-4 c = search needs
 
 search-array-requires : tie.Need-search-array-requires
 search-array-requires c κs =
-    let p = c .before .before .before .before .before .before .before .before .before .before .before .before .before .before .before .before .before .pre in
-    searching-first (p .0) (c .before .before .before .before .before .before .before .before .before .before .before .before .before .before .before .of-model .ensures .1) (p .1) (c .before .before .before .before .before .before .before .before .before .note .ensures) (c .before .before .before .before .next-pair .ensures)
+    let n = noted (first c) in
+    let p = linked n .before .before .pre in
+    searching-first (p .0) (linked n .of-model .ensures .1) (p .1) (n .note .ensures) (first c .next-pair .ensures)
 
 returns : tie.Need-returns
-returns c y is = stored-searched _ _ _ _ (c .before .before .search-array .ensures) y is (c .before .before .before .before .before .before .before .before .before .before .before .before .before .before .before .before .before .before .of-model .ensures .0 y is)
+returns c y is =
+    let s = c .before .before in
+    stored-searched _ _ _ _ (s .search-array .ensures) y is (linked (noted (first (s .before))) .of-model .ensures .0 y is)
 
 pub never-drops-spec : {M : Type 1} → statement M
 never-drops-spec =

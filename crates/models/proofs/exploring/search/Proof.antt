@@ -31,12 +31,12 @@ use Rattle.models.proofs.StructRows as struct
 use Rattle.models.proofs.StepRows as step
 use Rattle.models.proofs.SearchSlices.{AtStart, slices-spell, slices-tell, rooms-of, the-cursor, Rooms, seen, pairs}
 use Rattle.models.proofs.steps.step_at.Symbol as step-at-def
-use Rattle.models.proofs.steps.step_at.Symbol.{name as #models·steps·step-at}
+use Rattle.models.proofs.steps.step_at.Symbol.{name as #step-at}
 use Rattle.models.proofs.steps.step_at.Met as step-at-thm
 use Rattle.models.proofs.exploring.follow.Symbol as follow-def
-use Rattle.models.proofs.exploring.follow.Symbol.{name as #models·exploring·follow}
+use Rattle.models.proofs.exploring.follow.Symbol.{name as #follow}
 use Rattle.models.proofs.exploring.follow.Met as follow-thm
-use Rattle.models.proofs.exploring.search.Key.{name as #models·exploring·search}
+use Rattle.models.proofs.exploring.search.Key.{name as #search}
 use Rattle.models.proofs.exploring.search as search
 use Rattle.models.proofs.exploring.search.Statement as stated
 use Rattle.models.proofs.exploring.search.Code as code
@@ -49,8 +49,8 @@ mod Calling
 mod Turn
 
 module _ {M : Type 1} (𝓤 : URA M) (H : Heap 𝓤) (A : Atoms 𝓤) (W : Given 𝓤 H A) (mem : Memory → SProp 𝓤) (run : Routine → Fun 𝓤) (𝓣 : Tables 𝓤 H)
-    (known-step-at : Triple 𝓤 (𝓣 .C #models·steps·step-at) (StepAt 𝓤 H A mem run))
-    (known-follow : Triple 𝓤 (𝓣 .C #models·exploring·follow) (Follow 𝓤 H A mem run)) where
+    (known-step-at : Triple 𝓤 (𝓣 .C #step-at) (StepAt 𝓤 H A mem run))
+    (known-follow : Triple 𝓤 (𝓣 .C #follow) (Follow 𝓤 H A mem run)) where
   module _ (κs : Lfts 6) (qs : Shares 6) (a : Args search.signature κs) (steps-room : Room step.R (length (steps κs a .now)))
       (rooms : Rooms (a .1 .1)) (from-is : Is (struct.row-of the-cursor) (state.from κs a) (struct.vals the-cursor (state.from κs a)))
       (begun : AtStart (a .1 .1) (steps κs a .now) (state.from κs a)) where
@@ -84,7 +84,7 @@ pub search-spec : {M : Type 1} → stated.statement M
 unfolding code.routine tablesOf
 search-spec 𝓤 H 𝓜 𝓖 𝓡 =
     let W = givenOf 𝓤 H 𝓜 𝓖 in
-    enters 𝓤 H 𝓜 𝓖 𝓡 search.ended stayed (search.clauses 𝓤 H (𝓖 .A) (𝓜 .mem) (𝓡 .run)) code.env #models·exploring·search code.function
+    enters 𝓤 H 𝓜 𝓖 𝓡 search.ended stayed (search.clauses 𝓤 H (𝓖 .A) (𝓜 .mem) (𝓡 .run)) code.env #search code.function
     (code.unfolded 𝓤 H 𝓜 𝓡)
     (λ κs. (slice-vals, (struct.vals the-cursor, slices-spell 1 (κs .1)))) (
       goes-dropped 𝓤 H (𝓖 .A) W 6 (shrSliceOf (0 ∷ []) tt (plain (λ _. step.R))) yes (λ κs x f. refl),
@@ -104,8 +104,8 @@ search-spec 𝓤 H 𝓜 𝓖 𝓡 =
     )
     (λ κs. (shr-slice-tells (named 0) (κs .0) step.R, (struct.tells the-cursor, slices-tell 1 (κs .1))))
     (λ κs qs bounds a g are. needs 𝓤 _ _ (walk 𝓤 H (𝓖 .A) W (𝓜 .mem) (𝓡 .run) (tablesOf 𝓤 H 𝓜 (tables 𝓤 H 𝓜 𝓡 code.env))
-    (cited 𝓤 H (StepAt 𝓤 H (𝓖 .A) (𝓜 .mem) (𝓡 .run)) 𝓜 𝓡 code.env #models·steps·step-at step-at-def.routine code.calls-models·steps·step-at
+    (cited 𝓤 H (StepAt 𝓤 H (𝓖 .A) (𝓜 .mem) (𝓡 .run)) 𝓜 𝓡 code.env #step-at step-at-def.routine code.calls-models·steps·step-at
     (step-at-thm.met 𝓤 H 𝓜 𝓖 𝓡))
-    (cited 𝓤 H (Follow 𝓤 H (𝓖 .A) (𝓜 .mem) (𝓡 .run)) 𝓜 𝓡 code.env #models·exploring·follow follow-def.routine code.calls-models·exploring·follow
+    (cited 𝓤 H (Follow 𝓤 H (𝓖 .A) (𝓜 .mem) (𝓡 .run)) 𝓜 𝓡 code.env #follow follow-def.routine code.calls-models·exploring·follow
     (follow-thm.met 𝓤 H 𝓜 𝓖 𝓡)) κs qs a
     (are .0 .0 .1) (rooms-of 1 (κs .1) (a .1 .1) (are .1 .1)) (are .1 .0)))

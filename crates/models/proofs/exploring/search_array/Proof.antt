@@ -43,9 +43,9 @@ use Rattle.models.proofs.StructRows as struct
 use Rattle.models.proofs.StepRows as step
 use Rattle.models.proofs.SearchSlices.{AtStart, slices-spell, slices-tell, rooms-of, the-cursor, Rooms}
 use Rattle.models.proofs.exploring.search.Symbol as search-def
-use Rattle.models.proofs.exploring.search.Symbol.{name as #models·exploring·search}
+use Rattle.models.proofs.exploring.search.Symbol.{name as #search}
 use Rattle.models.proofs.exploring.search.Met as search-thm
-use Rattle.models.proofs.exploring.search_array.Key.{name as #models·exploring·search-array}
+use Rattle.models.proofs.exploring.search_array.Key.{name as #search-array}
 use Rattle.models.proofs.exploring.search_array as search-array
 use Rattle.models.proofs.exploring.search_array.Statement as stated
 use Rattle.models.proofs.exploring.search_array.Code as code
@@ -54,7 +54,7 @@ use Rattle.models.proofs.exploring.search_array.Proof.Lending.{stayed, 
 mod Lending
 
 module _ {M : Type 1} (𝓤 : URA M) (H : Heap 𝓤) (A : Atoms 𝓤) (W : Given 𝓤 H A) (mem : Memory → SProp 𝓤) (run : Routine → Fun 𝓤)
-    (C : Calls 𝓤 H) (Λ : Loops 𝓤 H) (fm : FmC 𝓤 H (W .laws) C) (known : Triple 𝓤 (C #models·exploring·search) (Search 𝓤 H A mem run)) where
+    (C : Calls 𝓤 H) (Λ : Loops 𝓤 H) (fm : FmC 𝓤 H (W .laws) C) (known : Triple 𝓤 (C #search) (Search 𝓤 H A mem run)) where
   walk : (κs : Lfts 5) (qs : Shares 5) (a : Args search-array.signature κs) → Is step.AR (list κs a) (step.array-low (list κs a) ∷ [])
       → length (list κs a) ≡ 512 → Rooms (a .1 .1) → Is (struct.row-of the-cursor) (a .1 .0) (struct.vals the-cursor (a .1 .0))
       → AtStart (a .1 .1) (list κs a) (a .1 .0)
@@ -105,7 +105,7 @@ pub search-array-spec : {M : Type 1} → stated.statement M
 unfolding code.routine tablesOf
 search-array-spec 𝓤 H 𝓜 𝓖 𝓡 =
     let W = givenOf 𝓤 H 𝓜 𝓖 in
-    enters 𝓤 H 𝓜 𝓖 𝓡 search-array.ended stayed (search-array.clauses 𝓤 H (𝓖 .A) (𝓜 .mem) (𝓡 .run)) code.env #models·exploring·search-array
+    enters 𝓤 H 𝓜 𝓖 𝓡 search-array.ended stayed (search-array.clauses 𝓤 H (𝓖 .A) (𝓜 .mem) (𝓡 .run)) code.env #search-array
     code.function (code.unfolded 𝓤 H 𝓜 𝓡)
     (λ κs. (array-vals (struct.vals step.the-step), (struct.vals the-cursor, slices-spell 0 κs))) (
       goes-dropped 𝓤 H (𝓖 .A) W 5 (plain (λ _. step.AR)) yes (λ κs x f. refl),
@@ -126,6 +126,6 @@ search-array-spec 𝓤 H 𝓜 𝓖 𝓡 =
     (λ κs. (step.array-told, (struct.tells the-cursor, slices-tell 0 κs)))
     (λ κs qs bounds a g are. needs 𝓤 _ _ (walk 𝓤 H (𝓖 .A) W (𝓜 .mem) (𝓡 .run) (tables 𝓤 H 𝓜 𝓡 code.env .C) (tables 𝓤 H 𝓜 𝓡 code.env .Λ)
     (fmOf 𝓤 H (W .laws) (tablesOf 𝓤 H 𝓜 (tables 𝓤 H 𝓜 𝓡 code.env)))
-    (cited 𝓤 H (Search 𝓤 H (𝓖 .A) (𝓜 .mem) (𝓡 .run)) 𝓜 𝓡 code.env #models·exploring·search search-def.routine code.calls-models·exploring·search
+    (cited 𝓤 H (Search 𝓤 H (𝓖 .A) (𝓜 .mem) (𝓡 .run)) 𝓜 𝓡 code.env #search search-def.routine code.calls-models·exploring·search
     (search-thm.met 𝓤 H 𝓜 𝓖 𝓡)) κs qs a (are .0) (are .0 .1 .0 .1)
     (rooms-of 0 κs (a .1 .1) (are .1 .1)) (are .1 .0)))

@@ -39,7 +39,7 @@ use Rattle.models.proofs.Exits.{frees-cell}
 use Rattle.models.proofs.Meeting.{enters}
 use Rattle.models.proofs.StructRows.{low, vals, tells, makes, typed}
 use Rattle.models.proofs.StepRows.{the-step, R, stepTy, copy}
-use Rattle.models.proofs.steps.step_at.Key.{name as #models·steps·step-at}
+use Rattle.models.proofs.steps.step_at.Key.{name as #step-at}
 use Rattle.models.proofs.steps.step_at as step-at
 use Rattle.models.proofs.steps.step_at.Statement as stated
 use Rattle.models.proofs.steps.step_at.Code as code
@@ -104,7 +104,7 @@ pub step-at-spec : {M : Type 1} → stated.statement M
 unfolding code.routine
 step-at-spec 𝓤 H 𝓜 𝓖 𝓡 =
     let W = givenOf 𝓤 H 𝓜 𝓖 in
-    enters 𝓤 H 𝓜 𝓖 𝓡 step-at.ended stayed (step-at.clauses 𝓤 H (𝓖 .A) (𝓜 .mem) (𝓡 .run)) code.env #models·steps·step-at code.function
+    enters 𝓤 H 𝓜 𝓖 𝓡 step-at.ended stayed (step-at.clauses 𝓤 H (𝓖 .A) (𝓜 .mem) (𝓡 .run)) code.env #step-at code.function
     (code.unfolded 𝓤 H 𝓜 𝓡)
     (λ κs. (slice-vals, (uint-vals w64, tt)))
     (goes-none-slice 𝓤 H (𝓖 .A) W 1 (0 ∷ []) tt (plain (λ _. R)) yes, (goes-none 𝓤 H (𝓖 .A) W 1 (λ _. usize) yes (λ κs x f. refl), tt))

@@ -41,8 +41,8 @@ use Rattle.models.proofs.StructRows as struct
 use Rattle.models.proofs.StepRows as step
 use Rattle.models.proofs.SearchSlices.{AtStart, the-cursor, cursorTy, last, earlier, table, seen, pairs}
 use Rattle.models.proofs.steps.step_at as step-at
-use Rattle.models.proofs.steps.step_at.Symbol.{name as #models·steps·step-at}
-use Rattle.models.proofs.exploring.follow.Symbol.{name as #models·exploring·follow}
+use Rattle.models.proofs.steps.step_at.Symbol.{name as #step-at}
+use Rattle.models.proofs.exploring.follow.Symbol.{name as #follow}
 use Rattle.models.proofs.exploring.search as search
 use Rattle.models.proofs.exploring.search.Code.Mir as mir-of
 use Rattle.models.proofs.exploring.search.Proof.Invariant as state
@@ -111,8 +111,8 @@ module _ {M : Type 1} (𝓤 : URA M) (H : Heap 𝓤) (A : Atoms 𝓤) (W : Given
   abbrev Post : Val → SProp 𝓤
   Post = state.Post 𝓤 H A W mem run κs qs a
 
-  module _ (𝓣 : Tables 𝓤 H) (known-step-at : Triple 𝓤 (𝓣 .C #models·steps·step-at) (StepAt 𝓤 H A mem run))
-      (known-follow : Triple 𝓤 (𝓣 .C #models·exploring·follow) (Follow 𝓤 H A mem run)) where
+  module _ (𝓣 : Tables 𝓤 H) (known-step-at : Triple 𝓤 (𝓣 .C #step-at) (StepAt 𝓤 H A mem run))
+      (known-follow : Triple 𝓤 (𝓣 .C #follow) (Follow 𝓤 H A mem run)) where
     more : (t : State κs a) → Holds (ltb 0 (t .at .step)) → 0 < t .at .step
     more t = ltb→lt 0 (t .at .step)
 
