@@ -38,6 +38,7 @@ pub mod Judgment
 pub mod StructRows
 pub mod StepRows
 pub mod Locals
+pub mod Slices
 pub mod LentAgain
 pub mod Loop
 pub mod Landing

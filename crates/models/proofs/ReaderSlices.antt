@@ -6,25 +6,18 @@ use mir.Syntax.{named}
 use mir.Val.{Val}
 use base.Fml.{Lft, GName, Fml}
 use denote.Builtin.{u8}
-use denote.Ref.{RefT}
 use denote.Slice.{sliceVal, ShrSlice, MutSlice}
 use Rattle.models.specs.declared.Step.{Step}
+use Rattle.models.proofs.Slices.{slice-at}
 use Rattle.models.proofs.StepRows.{R}
 
 -- the bytes f at (b, o)
-abbrev pub file : (b o : ℕ) → GName → List ℕ → RefT (List ℕ)
-file b o γ f = record { ptr = (b, o); name = γ; now = f }
-
 abbrev pub file-val : (b o : ℕ) → List ℕ → Val
 file-val b o f = sliceVal (b, o) (length f)
 
 abbrev pub File : Lft → (b o : ℕ) → GName → List ℕ → Fml
-File κ b o γ f = ShrSlice (named 0) κ u8 .own (file b o γ f) (file-val b o f ∷ [])
+File κ b o γ f = ShrSlice (named 0) κ u8 .own (slice-at (b, o) γ f) (file-val b o f ∷ [])
 
--- the records ys at (b, o)
-abbrev pub lent : (b o : ℕ) → GName → List Step → RefT (List Step)
-lent b o γ ys = record { ptr = (b, o); name = γ; now = ys }
-
--- what the slice of them owns that is lent at κ; their number is `count`
-abbrev pub Lent : Lft → (b o : ℕ) → GName → (count : ℕ) → List Step → Fml
-Lent κ b o γ count ys = MutSlice (named 1) κ R .own (lent b o γ ys) (sliceVal (b, o) count ∷ [])
+-- the records ys at (b, o), lent at κ; their number is `count`
+abbrev pub Records : Lft → (b o : ℕ) → GName → (count : ℕ) → List Step → Fml
+Records κ b o γ count ys = MutSlice (named 1) κ R .own (slice-at (b, o) γ ys) (sliceVal (b, o) count ∷ [])

@@ -82,9 +82,9 @@ module _ {M : Type 1} (𝓤 : URA M) (H : Heap 𝓤) (A : Atoms 𝓤) (W : Given
       (sym long) refl $
       move ! (30 ∷ 12 ∷ []) $
       use2 W (later (some (λ (n : Loan). raw (Search 𝓤 H A mem run .pre (lending.to-search 𝓤 H A W mem run κs qs a l₈ n))
-      ⊛ ‵ (lending.Lent 𝓤 H A W mem run κs qs a l₈ n))))
+      ⊛ ‵ (lending.Claim 𝓤 H A W mem run κs qs a l₈ n))))
       (lending.lends 𝓤 H A W mem run κs qs a begun long l₈) $ await ! tt $ pick ! (λ n. split ! $
-      -- [what search asks; lent; _14; …; _13; …; _9; …; what frees _8; _7; …; _0; …]
+      -- [what search asks; the claim; _14; …; _13; …; _9; …; what frees _8; _7; …; _0; …]
       calls-at ! fm (Search 𝓤 H A mem run) known (lending.to-search 𝓤 H A W mem run κs qs a l₈ n)
       (and-then ! (reads-local ! 10 refl)
       (and-then ! (reads-local ! 25 refl) (and-then ! (reads-local ! 23 refl)

@@ -47,10 +47,11 @@ use Rattle.models.proofs.Locals.{passes-slice, passes-word, reads-local
 use Rattle.models.proofs.Landing.{init-as}
 use Rattle.models.proofs.Exits.{frees-cell}
 use Rattle.models.proofs.Meeting.{enters}
+use Rattle.models.proofs.Slices.{slice-at}
 use Rattle.models.proofs.StructRows.{vals, makes, typed}
 use Rattle.models.proofs.StepRows.{the-step, R, behindTy, AR, arrayTy, array-low, array-told, array-made, array-typed}
 use Rattle.models.proofs.NextRow.{the-next}
-use Rattle.models.proofs.ReaderSlices.{file, file-val, File, Lent}
+use Rattle.models.proofs.ReaderSlices.{file-val, File, Records}
 use Rattle.models.proofs.loading.read_steps.Symbol as steps-def
 use Rattle.models.proofs.loading.read_steps.Symbol.{name as #read-steps}
 use Rattle.models.proofs.loading.read_steps.Met as steps-thm
@@ -59,10 +60,10 @@ use Rattle.models.proofs.loading.read_array as read-array
 use Rattle.models.proofs.loading.read_array.Statement as stated
 use Rattle.models.proofs.loading.read_array.Code as code
 use Rattle.models.proofs.loading.read_array.Proof.Result.{the-loaded, L, listed, listed-low, listed-is}
-use Rattle.models.proofs.loading.read_array.Proof.Loan.{lends-array, array-back}
+use Rattle.models.proofs.loading.read_array.Proof.LentArray.{lends-array, array-back}
 use Rattle.models.proofs.loading.read_array.Proof.Called.{ReadSteps, Loaded, to-steps, asks-steps, steps-told}
 mod Result
-mod Loan
+mod LentArray
 mod Called
 
 abbrev stayed : Stays (read-array.ended .signature .params) (read-array.ended .kept)
@@ -72,7 +73,7 @@ module _ {M : Type 1} (𝓤 : URA M) (H : Heap 𝓤) (A : Atoms 𝓤) (W : Given
     (κ : Lft) (q : Share) (b o : ℕ) (γ : GName) (f : List ℕ) (states : ℕ) (xs : List Step)
     (states-fits : states < 2 ^ 64) (is-array : Is AR xs (array-low xs ∷ [])) where
   abbrev a : RefT (List ℕ) × (ℕ × (List Step × Unit {0}))
-  a = (file b o γ f, (states, (xs, tt)))
+  a = (slice-at (b, o) γ f, (states, (xs, tt)))
 
   abbrev v : Val
   v = file-val b o f
@@ -117,7 +118,7 @@ module _ {M : Type 1} (𝓤 : URA M) (H : Heap 𝓤) (A : Atoms 𝓤) (W : Given
         -- the array is lent
         move ! (19 ∷ []) $ fsplit ! $ move ! (1 ∷ []) $ fsplit ! $ drop ! $ fsplit ! $ move ! (1 ∷ []) $ drop ! $
         lft-new ! tt (λ α. move ! (11 ∷ 1 ∷ []) $
-        use2 W (later (some (λ (δ : GName). ‵ (Lent (α ∷ []) l₄ 0 δ (length xs) xs) ⊛ ‵ (flent (α ∷ []) (Held R (length xs) l₄ 0 δ)))))
+        use2 W (later (some (λ (δ : GName). ‵ (Records (α ∷ []) l₄ 0 δ (length xs) xs) ⊛ ‵ (flent (α ∷ []) (Held R (length xs) l₄ 0 δ)))))
         (lends-array 𝓤 H A W (α ∷ []) l₄ xs long) $ await ! tt $ pick ! (λ δ. split ! $
         -- [the slice; the claim on it; its token; the file; _8; …; _5; …; what frees _4; _3; …; _0; …; the token of the file]
         move ! (21 ∷ []) $ split ! $ move ! (0 ∷ 4 ∷ []) $ join ! $ move ! (0 ∷ 4 ∷ 2 ∷ []) $

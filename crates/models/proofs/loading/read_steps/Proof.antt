@@ -45,10 +45,11 @@ use Rattle.models.proofs.Loop.{loops-down}
 use Rattle.models.proofs.Landing.{init-as}
 use Rattle.models.proofs.Exits.{frees-cell, frees-room}
 use Rattle.models.proofs.Meeting.{enters}
+use Rattle.models.proofs.Slices.{slice-at}
 use Rattle.models.proofs.StructRows.{low, makes, typed}
 use Rattle.models.proofs.StepRows.{R}
 use Rattle.models.proofs.NextRow.{the-next, N, IsNext}
-use Rattle.models.proofs.ReaderSlices.{file, file-val, File, lent, Lent}
+use Rattle.models.proofs.ReaderSlices.{file-val, File, Records}
 use Rattle.models.proofs.loading.next_step.Symbol as next-def
 use Rattle.models.proofs.loading.next_step.Symbol.{name as #next-step}
 use Rattle.models.proofs.loading.next_step.Met as next-thm
@@ -74,7 +75,7 @@ module _ {M : Type 1} (𝓤 : URA M) (H : Heap 𝓤) (A : Atoms 𝓤) (W : Given
   count = length ys
 
   abbrev a : RefT (List ℕ) × (ℕ × (RefT (List Step) × Unit {0}))
-  a = (file b o γ f, (states, (lent b′ o′ γ′ ys, tt)))
+  a = (slice-at (b, o) γ f, (states, (slice-at (b′, o′) γ′ ys, tt)))
 
   abbrev v : Val
   v = file-val b o f
@@ -94,7 +95,7 @@ module _ {M : Type 1} (𝓤 : URA M) (H : Heap 𝓤) (A : Atoms 𝓤) (W : Given
 
   -- what is had at the end, where the records are zs
   abbrev Last : List Step → List (Item 𝓤)
-  Last zs = ‵ (flft κ q) ∷ ‵ (File κ b o γ f) ∷ ‵ (flft κ′ q′) ∷ ‵ (Lent κ′ b′ o′ γ′ count zs) ∷ []
+  Last zs = ‵ (flft κ q) ∷ ‵ (File κ b o γ f) ∷ ‵ (flft κ′ q′) ∷ ‵ (Records κ′ b′ o′ γ′ count zs) ∷ []
 
   module _ (states-fits : states < 2 ^ 64) where
     exits : (x : Next) (zs : List Step) → IsNext x → length zs ≡ count → LoadedAs (stepsAt 512 f states 2) zs (x .answer) (x .n)

@@ -40,6 +40,7 @@ use Rattle.models.specs.declared.Step.{Step}
 use Rattle.models.proofs.Locals.{passes-slice, passes-word, reads-local, reads-field, sets-local}
 use Rattle.models.proofs.Exits.{frees-cell}
 use Rattle.models.proofs.Meeting.{enters}
+use Rattle.models.proofs.Slices.{slice-at}
 use Rattle.models.proofs.StructRows.{low, vals, tells, makes, typed}
 use Rattle.models.proofs.StepRows.{the-step, R, stepTy}
 use Rattle.models.proofs.steps.put_step.Key.{name as #put-step}
@@ -53,7 +54,7 @@ stayed = (stay-slice (0 ∷ []) tt (plain (λ _. R)), (stay-none (λ _. usize) y
 module _ {M : Type 1} (𝓤 : URA M) (H : Heap 𝓤) (A : Atoms 𝓤) (W : Given 𝓤 H A) (mem : Memory → SProp 𝓤) (run : Routine → Fun 𝓤)
     (κ : Lft) (q : Share) (b o : ℕ) (γ : GName) (ys : List Step) (i : ℕ) (s : Step) where
   abbrev x : RefT (List Step) × (ℕ × (Step × Unit {0}))
-  x = (record { ptr = (b, o); name = γ; now = ys }, (i, (s, tt)))
+  x = (slice-at (b, o) γ ys, (i, (s, tt)))
 
   -- the machine values of the arguments
   abbrev at : Vals put-step.signature (κ, tt)
@@ -66,7 +67,7 @@ module _ {M : Type 1} (𝓤 : URA M) (H : Heap 𝓤) (A : Atoms 𝓤) (W : Given
   zs = set ys i s
 
   abbrev y : RefT (List Step)
-  y = record { ptr = (b, o); name = γ; now = zs }
+  y = slice-at (b, o) γ zs
 
   -- what is had at the end
   abbrev Last : List (Item 𝓤)

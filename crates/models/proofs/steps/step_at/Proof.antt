@@ -37,6 +37,7 @@ use Rattle.models.specs.Phone.{noStep}
 use Rattle.models.proofs.Locals.{passes-slice, passes-word, reads-local, reads-field, sets-local}
 use Rattle.models.proofs.Exits.{frees-cell}
 use Rattle.models.proofs.Meeting.{enters}
+use Rattle.models.proofs.Slices.{slice-at}
 use Rattle.models.proofs.StructRows.{low, vals, tells, makes, typed}
 use Rattle.models.proofs.StepRows.{the-step, R, stepTy, copy}
 use Rattle.models.proofs.steps.step_at.Key.{name as #step-at}
@@ -50,7 +51,7 @@ stayed = (stay-none-slice (0 ∷ []) tt (plain (λ _. R)) yes, (stay-none (λ _.
 module _ {M : Type 1} (𝓤 : URA M) (H : Heap 𝓤) (A : Atoms 𝓤) (W : Given 𝓤 H A) (mem : Memory → SProp 𝓤) (run : Routine → Fun 𝓤) (κ : Lft) (q : Share)
     (b o : ℕ) (γ : GName) (ys : List Step) (i : ℕ) where
   abbrev x : RefT (List Step) × (ℕ × Unit {0})
-  x = (record { ptr = (b, o); name = γ; now = ys }, (i, tt))
+  x = (slice-at (b, o) γ ys, (i, tt))
 
   abbrev elem : Step
   elem = getD ys i noStep

@@ -22,7 +22,6 @@ use types.Tokens.{lft-new, lft-end}
 use denote.Laws.{Is, shows}
 use denote.Plain.{uint-makes}
 use denote.Builtin.{usize, u8, u16}
-use denote.Ref.{RefT}
 use denote.Slice.{MutSlice, Room, finally, slice-vals, shr-slice-copy}
 use denote.Steps.{only, nothing, owned, peeks, heard}
 use denote.Triple.Clauses.{Lasts, lasts}
@@ -36,6 +35,7 @@ use Rattle.models.specs.declared.Step.{Step}
 use Rattle.models.specs.declared.exploring.Cursor.{Cursor}
 use Rattle.models.proofs.Loop.{Less}
 use Rattle.models.proofs.LentAgain.{OnLoan, lends-again-at, comes-back-at}
+use Rattle.models.proofs.Slices.{slice-at}
 use Rattle.models.proofs.StructRows as struct
 use Rattle.models.proofs.StepRows as step
 use Rattle.models.proofs.SearchSlices.{AtStart, Tokens, the-cursor, last, earlier, table, seen, pairs, links, slices-vals}
@@ -54,8 +54,8 @@ module _ {M : Type 1} (𝓤 : URA M) (H : Heap 𝓤) (A : Atoms 𝓤) (mem : Mem
   Follow = tripleOf 𝓤 H A follow.signature (follow.spec 𝓤 H A mem run)
 
 -- the lifetimes and the names at which the two slices are lent again
-abbrev pub Loan : Type 0
-Loan = ℕ × ℕ × GName × GName
+abbrev pub Loans : Type 0
+Loans = ℕ × ℕ × GName × GName
 
 module _ {M : Type 1} (𝓤 : URA M) (H : Heap 𝓤) (A : Atoms 𝓤) (W : Given 𝓤 H A) (mem : Memory → SProp 𝓤) (run : Routine → Fun 𝓤)
     (κs : Lfts 6) (qs : Shares 6) (a : Args search.signature κs)
@@ -108,73 +108,68 @@ module _ {M : Type 1} (𝓤 : URA M) (H : Heap 𝓤) (A : Atoms 𝓤) (W : Given
         move ! (0 ∷ 2 ∷ []) $ use2 W (raw (StepAt 𝓤 H A mem run .pre to-step-at)) asked $ frame ! $ done !
 
   -- ---- the step is followed
-  -- a slice under another name
-  abbrev lent : RefT (List ℕ) → GName → List ℕ → RefT (List ℕ)
-  lent x δ ys = record { ptr = x .ptr; name = δ; now = ys }
+  abbrev LentMarks : Loans → Fml
+  LentMarks n = MutSlice (named 3) (n .0 ∷ []) u8 .own (slice-at (seen (a .1 .1) .ptr) (n .2) (t .marks)) (slice-vals (seen (a .1 .1)))
 
-  abbrev LentMarks : Loan → Fml
-  LentMarks n = MutSlice (named 3) (n .0 ∷ []) u8 .own (lent (seen (a .1 .1)) (n .2) (t .marks)) (slice-vals (seen (a .1 .1)))
+  abbrev LentQueue : Loans → Fml
+  LentQueue n = MutSlice (named 4) (n .1 ∷ []) u16 .own (slice-at (pairs (a .1 .1) .ptr) (n .3) (t .queue)) (slice-vals (pairs (a .1 .1)))
 
-  abbrev LentQueue : Loan → Fml
-  LentQueue n = MutSlice (named 4) (n .1 ∷ []) u16 .own (lent (pairs (a .1 .1)) (n .3) (t .queue)) (slice-vals (pairs (a .1 .1)))
-
-  abbrev MarksOnLoan : Loan → Fml
-  MarksOnLoan n = OnLoan u8 (κs .1 .1 .1 .1 .0) (n .0 ∷ []) (qs .1 .1 .1 .1 .0) (seen (a .1 .1) .name) (seen (a .1 .1) .ptr .0) (seen (a .1 .1) .ptr .1) (n .2)
+  abbrev MarksOnLoan : Loans → Fml
+  MarksOnLoan n = OnLoan u8 (κs .1 .1 .1 .1 .0) (n .0 ∷ []) (qs .1 .1 .1 .1 .0) (seen (a .1 .1)) (n .2)
       (t .marks)
 
-  abbrev QueueOnLoan : Loan → Fml
-  QueueOnLoan n = OnLoan u16 (κs .1 .1 .1 .1 .1 .0) (n .1 ∷ []) (qs .1 .1 .1 .1 .1 .0) (pairs (a .1 .1) .name) (pairs (a .1 .1) .ptr .0) (pairs (a .1 .1) .ptr .1)
+  abbrev QueueOnLoan : Loans → Fml
+  QueueOnLoan n = OnLoan u16 (κs .1 .1 .1 .1 .1 .0) (n .1 ∷ []) (qs .1 .1 .1 .1 .1 .0) (pairs (a .1 .1))
       (n .3) (t .queue)
 
   -- the lifetimes at which it all goes to `follow`, and the shares of their tokens
-  abbrev lifetimes : Loan → Lfts 5
+  abbrev lifetimes : Loans → Lfts 5
   lifetimes n = (κs .1 .0, (κs .1 .1 .0, (κs .1 .1 .1 .0, (n .0 ∷ [], (n .1 ∷ [], tt)))))
 
   abbrev tokens : Shares 5
   tokens = (qs .1 .0, (qs .1 .1 .0, (qs .1 .1 .1 .0, (fullShare, (fullShare, tt)))))
 
-  abbrev pub to-follow : Step → Val → Loan → Follow 𝓤 H A mem run .Ghost
+  abbrev pub to-follow : Step → Val → Loans → Follow 𝓤 H A mem run .Ghost
   to-follow s u n = (
     (
       lifetimes n,
       tokens,
       tt,
-      (t .at, (s, (last (a .1 .1), (earlier (a .1 .1), (table (a .1 .1), (lent (seen (a .1 .1)) (n .2) (t .marks), (lent (pairs (a .1 .1)) (n .3) (t .queue), tt))))))),
+      (t .at, (s, (last (a .1 .1), (earlier (a .1 .1), (table (a .1 .1), (slice-at (seen (a .1 .1) .ptr) (n .2) (t .marks), (slice-at (pairs (a .1 .1) .ptr) (n .3) (t .queue), tt))))))),
       (struct.vals the-cursor (t .at), (u ∷ [], slices-vals (a .1 .1))),
     ),
     tt,
   )
 
   -- what goes along, and what is left
-  abbrev Along : Step → Val → Loan → List (Item 𝓤)
+  abbrev Along : Step → Val → Loans → List (Item 𝓤)
   Along s u n =
       ‵ (flft (κs .1 .0) (qs .1 .0)) ∷ ‵ (flft (κs .1 .1 .0) (qs .1 .1 .0)) ∷ ‵ (flft (κs .1 .1 .1 .0) (qs .1 .1 .1 .0))
       ∷ ‵ (flft (n .0 ∷ []) fullShare) ∷ ‵ (flft (n .1 ∷ []) fullShare)
       ∷ ‵ (step.R .own s (u ∷ [])) ∷ ‵ Last ∷ ‵ Earlier ∷ ‵ Table ∷ ‵ (LentMarks n) ∷ ‵ (LentQueue n) ∷ []
 
-  abbrev pub Left : Loan → List (Item 𝓤)
+  abbrev pub Left : Loans → List (Item 𝓤)
   Left n = (‵ (flft (κs .0) (qs .0)) ⊛ ‵ ftrue) ∷ ‵ Steps ∷ ‵ Last ∷ ‵ Earlier ∷ ‵ Table ∷ ‵ (MarksOnLoan n) ∷ ‵ (QueueOnLoan n) ∷ []
 
   -- both slices are had again, at the lists of any state
-  abbrev Regained : Loan → State κs a → List (Item 𝓤)
+  abbrev Regained : Loans → State κs a → List (Item 𝓤)
   Regained n t′ =
       Tokens (lifetimes n) tokens ∷ ‵ (finally u16 (n .3) (t′ .queue)) ∷ ‵ (finally u8 (n .2) (t′ .marks)) ∷ Left n
 
   module _ (marks-room : Room u8 (length (seen (a .1 .1) .now))) (queue-room : Room u16 (length (pairs (a .1 .1) .now))) where
-    regains : (n : Loan) (t′ : State κs a) → ent 𝓤 (⋆ 𝓤 H A (Regained n t′)) (H .⇛ (⋆ 𝓤 H A (Owned t′)))
+    regains : (n : Loans) (t′ : State κs a) → ent 𝓤 (⋆ 𝓤 H A (Regained n t′)) (H .⇛ (⋆ 𝓤 H A (Owned t′)))
     regains n t′ =
         qed W (Regained n t′) ∵ updating ! $
         split ! $ move ! (1 ∷ []) $ split ! $ move ! (1 ∷ []) $ split ! $ move ! (1 ∷ []) $ split ! $ move ! (1 ∷ []) $ split ! $
         -- [ν′; true; ν; three tokens; pairs' last; seen's last; the token of steps; steps; last; earlier; table; seen on loan; pairs on loan]
         lft-end ! tt $ move ! (0 ∷ 14 ∷ 6 ∷ []) $
         use3 W (later (‵ (state.Queue 𝓤 H A W mem run κs qs a (t′ .queue)) ⊛ ‵ (flft (κs .1 .1 .1 .1 .1 .0) (qs .1 .1 .1 .1 .1 .0))))
-        (comes-back-at u16 (κs .1 .1 .1 .1 .1 .0) (n .1 ∷ []) (qs .1 .1 .1 .1 .1 .0) (pairs (a .1 .1) .name) (pairs (a .1 .1) .ptr .0)
-        (pairs (a .1 .1) .ptr .1) 𝓤 H A W (named 5) (named 4)
+        (comes-back-at u16 (κs .1 .1 .1 .1 .1 .0) (n .1 ∷ []) (qs .1 .1 .1 .1 .1 .0) (pairs (a .1 .1)) 𝓤 H A W (named 5) (named 4)
         (t .queue) (length (pairs (a .1 .1) .now)) (state.queue-length κs a begun t) queue-room (n .3) (t′ .queue) (state.queue-length κs a begun t′)) $
         await ! tt $ split ! $
         move ! (3 ∷ []) $ lft-end ! tt $ move ! (0 ∷ 13 ∷ 7 ∷ []) $
         use3 W (later (‵ (state.Marks 𝓤 H A W mem run κs qs a (t′ .marks)) ⊛ ‵ (flft (κs .1 .1 .1 .1 .0) (qs .1 .1 .1 .1 .0))))
-        (comes-back-at u8 (κs .1 .1 .1 .1 .0) (n .0 ∷ []) (qs .1 .1 .1 .1 .0) (seen (a .1 .1) .name) (seen (a .1 .1) .ptr .0) (seen (a .1 .1) .ptr .1) 𝓤 H A W
+        (comes-back-at u8 (κs .1 .1 .1 .1 .0) (n .0 ∷ []) (qs .1 .1 .1 .1 .0) (seen (a .1 .1)) 𝓤 H A W
         (named 4) (named 3) (t .marks) (length (seen (a .1 .1) .now)) (state.marks-length κs a begun t) marks-room (n .2) (t′ .marks)
         (state.marks-length κs a begun t′)) $
         await ! tt $ split ! $
@@ -183,7 +178,7 @@ module _ {M : Type 1} (𝓤 : URA M) (H : Heap 𝓤) (A : Atoms 𝓤) (W : Given
 
   module _ (s : Step) (u : Val) (is : s ≡ getD (steps κs a .now) index noStep) where
     module _ (more : 0 < t .at .step) where
-      goes : (n : Loan) → ent 𝓤 (⋆ 𝓤 H A (Along s u n)) (Follow 𝓤 H A mem run .pre (to-follow s u n))
+      goes : (n : Loans) → ent 𝓤 (⋆ 𝓤 H A (Along s u n)) (Follow 𝓤 H A mem run .pre (to-follow s u n))
       goes n =
           qed W (Along s u n) ∵ says ! (steps κs a .now, t .searching, more, is) $
           nothing ! $ move ! (1 ∷ 2 ∷ 3 ∷ 4 ∷ 5 ∷ 0 ∷ []) $ group ! 6 $ frame ! $
@@ -193,17 +188,16 @@ module _ {M : Type 1} (𝓤 : URA M) (H : Heap 𝓤) (A : Atoms 𝓤) (W : Given
           owned ! (struct.row-of the-cursor) (Is (struct.row-of the-cursor)) (struct.makes the-cursor 𝓤 H A) (t .at) _ (t .cursor-is) $ fjoin ! $ done !
 
       pub lends : ent 𝓤 (⋆ 𝓤 H A (‵ (step.R .own s (u ∷ [])) ∷ (‵ (flft (κs .0) (qs .0)) ⊛ ‵ ftrue) ∷ Beside))
-          (H .⇛ (ex 𝓤 (λ (n : Loan). sep 𝓤 (Follow 𝓤 H A mem run .pre (to-follow s u n)) (⋆ 𝓤 H A (Left n)))))
+          (H .⇛ (ex 𝓤 (λ (n : Loans). sep 𝓤 (Follow 𝓤 H A mem run .pre (to-follow s u n)) (⋆ 𝓤 H A (Left n)))))
       lends =
           qed W (‵ (step.R .own s (u ∷ [])) ∷ (‵ (flft (κs .0) (qs .0)) ⊛ ‵ ftrue) ∷ Beside) ∵ updating ! $
           lft-new ! tt (λ ν. lft-new ! tt (λ ν′. move ! (13 ∷ 8 ∷ []) $
           use2 W (later (some (λ (δ : GName). ‵ (LentMarks (ν, ν′, δ, δ)) ⊛ ‵ (MarksOnLoan (ν, ν′, δ, δ)))))
-          (lends-again-at u8 (κs .1 .1 .1 .1 .0) (ν ∷ []) (qs .1 .1 .1 .1 .0) (seen (a .1 .1) .name) (seen (a .1 .1) .ptr .0) (seen (a .1 .1) .ptr .1) 𝓤 H A W
+          (lends-again-at u8 (κs .1 .1 .1 .1 .0) (ν ∷ []) (qs .1 .1 .1 .1 .0) (seen (a .1 .1)) 𝓤 H A W
           (named 4) (named 3) (t .marks) (length (seen (a .1 .1) .now)) (state.marks-length κs a begun t)) $ await ! tt $
           pick ! (λ δ. split ! $ move ! (14 ∷ 10 ∷ []) $
           use2 W (later (some (λ (δ′ : GName). ‵ (LentQueue (ν, ν′, δ, δ′)) ⊛ ‵ (QueueOnLoan (ν, ν′, δ, δ′)))))
-          (lends-again-at u16 (κs .1 .1 .1 .1 .1 .0) (ν′ ∷ []) (qs .1 .1 .1 .1 .1 .0) (pairs (a .1 .1) .name) (pairs (a .1 .1) .ptr .0)
-          (pairs (a .1 .1) .ptr .1) 𝓤 H A W (named 5) (named 4)
+          (lends-again-at u16 (κs .1 .1 .1 .1 .1 .0) (ν′ ∷ []) (qs .1 .1 .1 .1 .1 .0) (pairs (a .1 .1)) 𝓤 H A W (named 5) (named 4)
           (t .queue) (length (pairs (a .1 .1) .now)) (state.queue-length κs a begun t)) $ await ! tt $ pick ! (λ δ′. split ! $
           -- [pairs; on loan; seen; on loan; ν′; ν; the step; the token of steps; steps; three tokens; last; earlier; table]
           move ! (12 ∷ []) $ use1 W (‵ Last ⊛ ‵ Last) (shr-slice-copy 𝓤 H A W (named 1) (κs .1 .0) u16 .twice (last (a .1 .1)) (slice-vals (last (a .1 .1)))) $
@@ -213,7 +207,7 @@ module _ {M : Type 1} (𝓤 : URA M) (H : Heap 𝓤) (A : Atoms 𝓤) (W : Given
           move ! (16 ∷ []) $ use1 W (‵ Table ⊛ ‵ Table) (shr-slice-copy 𝓤 H A W (named 3) (κs .1 .1 .1 .0) u8 .twice (table (a .1 .1))
           (slice-vals (table (a .1 .1)))) $ split ! $
           -- [table twice; earlier twice; last twice; pairs; on loan; seen; on loan; ν′; ν; the step; the token of steps; steps; three tokens]
-          at-once ! $ show ! (λ (n : Loan). sep 𝓤 (Follow 𝓤 H A mem run .pre (to-follow s u n)) (⋆ 𝓤 H A (Left n))) (ν, ν′, δ, δ′) $
+          at-once ! $ show ! (λ (n : Loans). sep 𝓤 (Follow 𝓤 H A mem run .pre (to-follow s u n)) (⋆ 𝓤 H A (Left n))) (ν, ν′, δ, δ′) $
           move ! (15 ∷ 16 ∷ 17 ∷ 11 ∷ 10 ∷ 12 ∷ 4 ∷ 2 ∷ 0 ∷ 8 ∷ 6 ∷ []) $ group ! 11 $
           use1 W (raw (Follow 𝓤 H A mem run .pre (to-follow s u (ν, ν′, δ, δ′)))) (goes (ν, ν′, δ, δ′)) $ frame ! $
           -- [table; earlier; last; pairs on loan; seen on loan; the token of steps; steps]
@@ -235,14 +229,14 @@ module _ {M : Type 1} (𝓤 : URA M) (H : Heap 𝓤) (A : Atoms 𝓤) (W : Given
     }
 
     -- the last values of what `follow` was given
-    abbrev Ends : Loan → Type 0
+    abbrev Ends : Loans → Type 0
     Ends n = Lasts follow.ended (to-follow s u n .0 .0) (to-follow s u n .0 .3)
 
-    abbrev Ensured : Loan → Cursor → Item 𝓤
+    abbrev Ensured : Loans → Cursor → Item 𝓤
     Ensured n c = some (λ (ends : Ends n). ‵ (lasts follow.ended (to-follow s u n .0 .0) (to-follow s u n .0 .3) ends)
         ⊛ raw (fact 𝓤 (Kept c (ends .1 .1 .1 .1 .1 .0) (ends .1 .1 .1 .1 .1 .1 .0))) ⊛ raw (fact 𝓤 (remaining c < remaining (t .at))))
 
-    pub backs : Room u8 (length (seen (a .1 .1) .now)) → Room u16 (length (pairs (a .1 .1) .now)) → (n : Loan) (w : Val)
+    pub backs : Room u8 (length (seen (a .1 .1) .now)) → Room u16 (length (pairs (a .1 .1) .now)) → (n : Loans) (w : Val)
         → ent 𝓤 (⋆ 𝓤 H A (raw (Follow 𝓤 H A mem run .post (to-follow s u n) w) ∷ Left n))
         (H .⇛ (ex 𝓤 (λ (t′ : State κs a). guard 𝓤 (Less (left κs a) t′ t × (w ≡ struct.low the-cursor (t′ .at))) (⋆ 𝓤 H A (Owned t′)))))
     backs marks-room queue-room n w =

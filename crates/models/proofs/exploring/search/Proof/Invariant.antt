@@ -29,6 +29,7 @@ use denote.Triple.Walked.{says, Stays, stay-slice, walkOf, ends-at}
 use Rattle.models.specs.Searching.{Searching, remaining}
 use Rattle.models.specs.declared.Step.{Step}
 use Rattle.models.specs.declared.exploring.Cursor.{Cursor}
+use Rattle.models.proofs.Slices.{slice-at}
 use Rattle.models.proofs.StructRows as struct
 use Rattle.models.proofs.StepRows as step
 use Rattle.models.proofs.Exits.{unsaid}
@@ -38,10 +39,6 @@ use Rattle.models.proofs.exploring.search as search
 -- at exit nothing is had of what is shared or plain
 abbrev pub stayed : Stays (search.ended .signature .params) (search.ended .kept)
 stayed = five-dropped (stay-slice (4 ∷ []) tt (plain (λ _. u8))) (stay-slice (5 ∷ []) tt (plain (λ _. u16)))
-
--- a slice at another list
-abbrev at-list : RefT (List ℕ) → List ℕ → RefT (List ℕ)
-at-list x ys = record { ptr = x .ptr; name = x .name; now = ys }
 
 module _ (κs : Lfts 6) (a : Args search.signature κs) where
   abbrev pub steps : RefT (List Step)
@@ -89,10 +86,10 @@ module _ {M : Type 1} (𝓤 : URA M) (H : Heap 𝓤) (A : Atoms 𝓤) (W : Given
   Table = ShrSlice (named 3) (κs .1 .1 .1 .0) u8 .own (table (a .1 .1)) (slice-vals (table (a .1 .1)))
 
   abbrev pub Marks : List ℕ → Fml
-  Marks ys = MutSlice (named 4) (κs .1 .1 .1 .1 .0) u8 .own (at-list (seen (a .1 .1)) ys) (slice-vals (seen (a .1 .1)))
+  Marks ys = MutSlice (named 4) (κs .1 .1 .1 .1 .0) u8 .own (slice-at (seen (a .1 .1) .ptr) (seen (a .1 .1) .name) ys) (slice-vals (seen (a .1 .1)))
 
   abbrev pub Queue : List ℕ → Fml
-  Queue ys = MutSlice (named 5) (κs .1 .1 .1 .1 .1 .0) u16 .own (at-list (pairs (a .1 .1)) ys) (slice-vals (pairs (a .1 .1)))
+  Queue ys = MutSlice (named 5) (κs .1 .1 .1 .1 .1 .0) u16 .own (slice-at (pairs (a .1 .1) .ptr) (pairs (a .1 .1) .name) ys) (slice-vals (pairs (a .1 .1)))
 
   -- what is owned where a turn begins: the six tokens, and the slices
   abbrev pub Owned : List ℕ → List ℕ → List (Item 𝓤)

@@ -48,7 +48,7 @@ use Rattle.models.proofs.exploring.search.Code.Mir as mir-of
 use Rattle.models.proofs.exploring.search.Proof.Invariant as state
 use Rattle.models.proofs.exploring.search.Proof.Invariant.{State, steps, left}
 use Rattle.models.proofs.exploring.search.Proof.Calling as calling
-use Rattle.models.proofs.exploring.search.Proof.Calling.{StepAt, Follow, Loan}
+use Rattle.models.proofs.exploring.search.Proof.Calling.{StepAt, Follow, Loans}
 
 -- the one machine value of a slice
 abbrev val : {X : Type 0} → RefT (List X) → Val
@@ -105,7 +105,7 @@ module _ {M : Type 1} (𝓤 : URA M) (H : Heap 𝓤) (A : Atoms 𝓤) (W : Given
   abbrev to-step-at : State κs a → StepAt 𝓤 H A mem run .Ghost
   to-step-at t = calling.to-step-at 𝓤 H A W mem run κs qs a begun t
 
-  abbrev to-follow : State κs a → Step → Val → Loan → Follow 𝓤 H A mem run .Ghost
+  abbrev to-follow : State κs a → Step → Val → Loans → Follow 𝓤 H A mem run .Ghost
   to-follow t = calling.to-follow 𝓤 H A W mem run κs qs a begun t
 
   abbrev Post : Val → SProp 𝓤
@@ -141,7 +141,7 @@ module _ {M : Type 1} (𝓤 : URA M) (H : Heap 𝓤) (A : Atoms 𝓤) (W : Given
         land ! (from ! (stop !)) (init ! 13 refl (struct.typed step.the-step 𝓤 H A W s u step-is)) $
         reborrows ! 21 9 7 refl refl refl refl refl refl refl refl (marks-room .0) $
         reborrows ! 19 5 3 refl refl refl refl refl refl refl refl (queue-room .0) $
-        use3 W (later (some (λ (n : Loan). raw (Follow 𝓤 H A mem run .pre (to-follow t s u n))
+        use3 W (later (some (λ (n : Loans). raw (Follow 𝓤 H A mem run .pre (to-follow t s u n))
         ⊛ raw (⋆ 𝓤 H A (calling.Left 𝓤 H A W mem run κs qs a begun t n)))))
         (calling.lends 𝓤 H A W mem run κs qs a begun t s u is (more t some-left)) $ await ! tt $ pick ! (λ n. split ! $
         -- [what follow asks; what is left; _15; …; _14; …; _0; …]

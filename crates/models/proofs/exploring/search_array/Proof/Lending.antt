@@ -40,6 +40,7 @@ use denote.Triple.Walked.{says, Stays, gave-slice, walkOf, ends-at}
 use Rattle.models.specs.Searching.{Searched}
 use Rattle.models.specs.declared.Step.{Step}
 use Rattle.models.proofs.Exits.{unsaid}
+use Rattle.models.proofs.Slices.{slice-at}
 use Rattle.models.proofs.StructRows as struct
 use Rattle.models.proofs.StepRows as step
 use Rattle.models.proofs.SearchSlices.{AtStart, slice-rows, Tokens, five-dropped, the-cursor, table, seen, pairs, links, slices-vals}
@@ -58,11 +59,11 @@ module _ (κs : Lfts 5) (a : Args search-array.signature κs) where
   vals = (step.array-low list ∷ [], (struct.vals the-cursor (a .1 .0), slices-vals (a .1 .1)))
 
   -- the array as a slice, where it lies at b
-  abbrev lent : (b : ℕ) → GName → RefT (List Step)
-  lent b γ = record { ptr = (b, 0); name = γ; now = list }
+  abbrev slice : (b : ℕ) → GName → RefT (List Step)
+  slice b γ = slice-at (b, 0) γ list
 
-  abbrev lentVal : (b : ℕ) → Val
-  lentVal b = sliceVal (b, 0) (length list)
+  abbrev slice-val : (b : ℕ) → Val
+  slice-val b = sliceVal (b, 0) (length list)
 
 -- the lifetime and the name at which it is lent
 abbrev pub Loan : Type 0
@@ -82,18 +83,18 @@ module _ {M : Type 1} (𝓤 : URA M) (H : Heap 𝓤) (A : Atoms 𝓤) (W : Given
   abbrev Others : Fml
   Others = owns (struct.row-of the-cursor ∷ slice-rows 0 κs) (a .1) (vals κs a .1)
 
-  -- the array in its cell, as a slice, and what is to come back
+  -- the array in its cell, as a slice, and the claim on what is lent
   abbrev pub Cell : (b : ℕ) → Fml
   Cell b = fat fullShare step.arrayTy b 0 (step.array-low (list κs a))
 
   abbrev Slice : (b : ℕ) → Loan → Fml
-  Slice b n = ShrSlice (named 0) (n .0 ∷ []) step.R .own (lent κs a b (n .1)) (lentVal κs a b ∷ [])
+  Slice b n = ShrSlice (named 0) (n .0 ∷ []) step.R .own (slice κs a b (n .1)) (slice-val κs a b ∷ [])
 
-  abbrev pub Lent : (b : ℕ) → Loan → Fml
-  Lent b n = flent (n .0 ∷ []) (arr-parts (shares step.R) (length (list κs a)) .part fullShare (list κs a) b 0)
+  abbrev pub Claim : (b : ℕ) → Loan → Fml
+  Claim b n = flent (n .0 ∷ []) (arr-parts (shares step.R) (length (list κs a)) .part fullShare (list κs a) b 0)
 
   abbrev pub to-search : (b : ℕ) → Loan → Search 𝓤 H A mem run .Ghost
-  to-search b n = (((n .0 ∷ [], κs), (fullShare, qs), tt, (lent κs a b (n .1), a .1), (lentVal κs a b ∷ [], vals κs a .1)), tt)
+  to-search b n = (((n .0 ∷ [], κs), (fullShare, qs), tt, (slice κs a b (n .1), a .1), (slice-val κs a b ∷ [], vals κs a .1)), tt)
 
   module _ (begun : AtStart (a .1 .1) (list κs a) (a .1 .0))
       (long : length (list κs a) ≡ 512) where
@@ -102,19 +103,19 @@ module _ {M : Type 1} (𝓤 : URA M) (H : Heap 𝓤) (A : Atoms 𝓤) (W : Given
     goes b n = qed W (‵ (flft (n .0 ∷ []) fullShare) ∷ Tokens κs qs ∷ ‵ (Slice b n) ∷ ‵ Others ∷ []) ∵ says ! begun $ join ! $ frame ! $ fjoin ! $ done !
 
     pub lends : (b : ℕ) → ent 𝓤 (sep 𝓤 (onEntry 𝓤 H A search-array.signature κs qs a (vals κs a)) (sem 𝓤 H A (Cell b)))
-        (H .⇛ (ex 𝓤 (λ (n : Loan). sep 𝓤 (Search 𝓤 H A mem run .pre (to-search b n)) (sem 𝓤 H A (Lent b n)))))
+        (H .⇛ (ex 𝓤 (λ (n : Loan). sep 𝓤 (Search 𝓤 H A mem run .pre (to-search b n)) (sem 𝓤 H A (Claim b n)))))
     lends b =
         qed W ((Tokens κs qs ⊛ ‵ (owns (typesAt (search-array.signature .params) κs) a (vals κs a))) ∷ ‵ (Cell b) ∷ []) ∵ updating ! $ split ! $
         move ! (1 ∷ []) $ fsplit ! $
         move ! (3 ∷ 0 ∷ []) $ use2 W (‵ (arr-parts (shares step.R) 512 .part fullShare (list κs a) b 0)) (step.lies 𝓤 H A W (list κs a) b) $
         rewrite ! 0 (λ (m : ℕ). ‵ (arr-parts (shares step.R) m .part fullShare (list κs a) b 0)) (sym (long)) refl $
         lft-new ! tt (λ α. move ! (1 ∷ []) $
-        use1 W (later (some (λ (γ : GName). ‵ (Slice b (α, γ)) ⊛ ‵ (Lent b (α, γ)))))
+        use1 W (later (some (λ (γ : GName). ‵ (Slice b (α, γ)) ⊛ ‵ (Claim b (α, γ)))))
         (lends-shr-slice 𝓤 H A W step.R (named 0) (α ∷ []) fullShare (list κs a) b 0
         (omega (arith, long), omega (arith, long))) $
         await ! tt $ pick ! (λ γ. split ! $ at-once ! $
-        show ! (λ (n : Loan). sep 𝓤 (Search 𝓤 H A mem run .pre (to-search b n)) (sem 𝓤 H A (Lent b n))) (α, γ) $
-        -- [the slice; lent; α; the others; the tokens]
+        show ! (λ (n : Loan). sep 𝓤 (Search 𝓤 H A mem run .pre (to-search b n)) (sem 𝓤 H A (Claim b n))) (α, γ) $
+        -- [the slice; the claim; α; the others; the tokens]
         move ! (2 ∷ 4 ∷ 0 ∷ 3 ∷ []) $ group ! 4 $ use1 W (raw (Search 𝓤 H A mem run .pre (to-search b (α, γ)))) (goes b (α, γ)) $ frame ! $ done !))
 
   exits : (z : Bool) (w : Val) (ms ps : List ℕ) → Searched (list κs a) (links (a .1 .1)) (table (a .1 .1) .now) z → length ms ≡ length (seen (a .1 .1) .now)
@@ -130,24 +131,24 @@ module _ {M : Type 1} (𝓤 : URA M) (H : Heap 𝓤) (A : Atoms 𝓤) (W : Given
 
   -- the last values of what `search` was given
   abbrev Ends : (b : ℕ) → Loan → Type 0
-  Ends b n = Lasts search.ended (n .0 ∷ [], κs) (lent κs a b (n .1), a .1)
+  Ends b n = Lasts search.ended (n .0 ∷ [], κs) (slice κs a b (n .1), a .1)
 
   abbrev Got : (b : ℕ) → Loan → Val → Bool → Item 𝓤
   Got b n w z = ((‵ (flft (n .0 ∷ []) fullShare) ⊛ Tokens κs qs) ⊛ ‵ (bool .own z (w ∷ [])))
-      ⊛ some (λ (ends : Ends b n). ‵ (lasts search.ended (n .0 ∷ [], κs) (lent κs a b (n .1), a .1) ends) ⊛ raw
+      ⊛ some (λ (ends : Ends b n). ‵ (lasts search.ended (n .0 ∷ [], κs) (slice κs a b (n .1), a .1) ends) ⊛ raw
       (fact 𝓤 (Searched (list κs a) (links (a .1 .1)) (table (a .1 .1) .now) z)))
 
-  pub returned : length (list κs a) ≡ 512 → (b : ℕ) (n : Loan) (w : Val) → ent 𝓤 (sep 𝓤 (Search 𝓤 H A mem run .post (to-search b n) w) (sem 𝓤 H A (Lent b n)))
+  pub returned : length (list κs a) ≡ 512 → (b : ℕ) (n : Loan) (w : Val) → ent 𝓤 (sep 𝓤 (Search 𝓤 H A mem run .post (to-search b n) w) (sem 𝓤 H A (Claim b n)))
       (H .⇛ (guard 𝓤 (Holds (hasTy tyBool w) × WT w) (sep 𝓤 (sem 𝓤 H A (Cell b)) (Post w))))
   returned long b n w =
-      qed W (later (some (Got b n w)) ∷ ‵ (Lent b n) ∷ []) ∵ updating ! $ await ! tt $
+      qed W (later (some (Got b n w)) ∷ ‵ (Claim b n) ∷ []) ∵ updating ! $ await ! tt $
       pick ! (λ z. split ! $ move ! (1 ∷ []) $ pick ! (λ ends. split ! $ move ! (1 ∷ []) $
       heard ! (Searched (list κs a) (links (a .1 .1)) (table (a .1 .1) .now) z) (λ e.
       -- of the last values, those of both slices
       fsplit ! $ drop ! $ fsplit ! $ drop ! $ fsplit ! $ drop ! $ fsplit ! $ drop ! $ fsplit ! $ drop ! $ fsplit ! $ fsplit ! $ move ! (1 ∷ []) $
       feqL ! (λ ms-length.
       move ! (1 ∷ []) $ fsplit ! $ fsplit ! $ move ! (1 ∷ []) $ feqL ! (λ ps-length.
-      -- [pairs' last; true; seen's last; the tokens and the result; lent]
+      -- [pairs' last; true; seen's last; the tokens and the result; the claim]
       move ! (3 ∷ []) $ split ! $ split ! $ lft-end ! tt $ move ! (0 ∷ 6 ∷ []) $ lent-back ! tt $
       rewrite ! 0 (λ (m : ℕ). ‵ (arr-parts (shares step.R) m .part fullShare (list κs a) b 0)) (long) refl $
       use1 W (‵ (Cell b)) (step.back 𝓤 H A W (list κs a) b) $ at-once ! $

@@ -31,10 +31,11 @@ use Rattle.models.specs.File.{stepsAt}
 use Rattle.models.specs.Loading.{Begun, LoadedAs}
 use Rattle.models.specs.declared.Step.{Step}
 use Rattle.models.specs.declared.loading.Next.{Next}
+use Rattle.models.proofs.Slices.{slice-at}
 use Rattle.models.proofs.StructRows.{low, told}
 use Rattle.models.proofs.StepRows.{R}
 use Rattle.models.proofs.NextRow.{the-next, N, IsNext}
-use Rattle.models.proofs.ReaderSlices.{file, file-val, File, lent, Lent}
+use Rattle.models.proofs.ReaderSlices.{file-val, File, Records}
 use Rattle.models.proofs.loading.read_steps as read-steps
 
 module _ {M : Type 1} (𝓤 : URA M) (H : Heap 𝓤) (A : Atoms 𝓤) (mem : Memory → SProp 𝓤) (run : Routine → Fun 𝓤) where
@@ -44,7 +45,7 @@ module _ {M : Type 1} (𝓤 : URA M) (H : Heap 𝓤) (A : Atoms 𝓤) (mem : Mem
 module _ (κ ν : Lft) (b o : ℕ) (γ : GName) (f : List ℕ) (states : ℕ) (b′ : ℕ) (δ : GName) (xs : List Step) where
   -- the arguments
   abbrev a : RefT (List ℕ) × (ℕ × (RefT (List Step) × Unit {0}))
-  a = (file b o γ f, (states, (lent b′ 0 δ xs, tt)))
+  a = (slice-at (b, o) γ f, (states, (slice-at (b′, 0) δ xs, tt)))
 
   -- their machine values
   abbrev vals : Vals read-steps.signature (κ, (ν, tt))
@@ -62,17 +63,17 @@ module _ (κ ν : Lft) (b o : ℕ) (γ : GName) (f : List ℕ) (states : ℕ) (b
     to-steps = (((κ, (ν, tt)), (q, (fullShare, tt)), tt, a, vals), tt)
 
     pub asks-steps : states < 2 ^ 64 → Begun f states xs 0 2
-        → ent 𝓤 (⋆ 𝓤 H A ((‵ (flft κ q) ⊛ ‵ (flft ν fullShare)) ∷ ‵ (File κ b o γ f) ∷ ‵ (Lent ν b′ 0 δ (length xs) xs) ∷ []))
+        → ent 𝓤 (⋆ 𝓤 H A ((‵ (flft κ q) ⊛ ‵ (flft ν fullShare)) ∷ ‵ (File κ b o γ f) ∷ ‵ (Records ν b′ 0 δ (length xs) xs) ∷ []))
         (sep 𝓤 (ReadSteps 𝓤 H A mem run .pre to-steps) (sem 𝓤 H A (File κ b o γ f)))
     asks-steps states-fits begun =
-        qed W ((‵ (flft κ q) ⊛ ‵ (flft ν fullShare)) ∷ ‵ (File κ b o γ f) ∷ ‵ (Lent ν b′ 0 δ (length xs) xs) ∷ []) ∵ move ! (1 ∷ []) $
-        use1 W (‵ (File κ b o γ f) ⊛ ‵ (File κ b o γ f)) (shr-slice-copy 𝓤 H A W (named 0) κ u8 .twice (file b o γ f) (file-val b o f ∷ [])) $
+        qed W ((‵ (flft κ q) ⊛ ‵ (flft ν fullShare)) ∷ ‵ (File κ b o γ f) ∷ ‵ (Records ν b′ 0 δ (length xs) xs) ∷ []) ∵ move ! (1 ∷ []) $
+        use1 W (‵ (File κ b o γ f) ⊛ ‵ (File κ b o γ f)) (shr-slice-copy 𝓤 H A W (named 0) κ u8 .twice (slice-at (b, o) γ f) (file-val b o f ∷ [])) $
         split ! $ move ! (2 ∷ 0 ∷ 3 ∷ []) $ use3 W (raw (ReadSteps 𝓤 H A mem run .pre to-steps)) asked $ frame ! $ done !
       where
-        asked : ent 𝓤 (⋆ 𝓤 H A ((‵ (flft κ q) ⊛ ‵ (flft ν fullShare)) ∷ ‵ (File κ b o γ f) ∷ ‵ (Lent ν b′ 0 δ (length xs) xs) ∷ []))
+        asked : ent 𝓤 (⋆ 𝓤 H A ((‵ (flft κ q) ⊛ ‵ (flft ν fullShare)) ∷ ‵ (File κ b o γ f) ∷ ‵ (Records ν b′ 0 δ (length xs) xs) ∷ []))
             (ReadSteps 𝓤 H A mem run .pre to-steps)
         asked =
-            qed W ((‵ (flft κ q) ⊛ ‵ (flft ν fullShare)) ∷ ‵ (File κ b o γ f) ∷ ‵ (Lent ν b′ 0 δ (length xs) xs) ∷ []) ∵ says ! begun $
+            qed W ((‵ (flft κ q) ⊛ ‵ (flft ν fullShare)) ∷ ‵ (File κ b o γ f) ∷ ‵ (Records ν b′ 0 δ (length xs) xs) ∷ []) ∵ says ! begun $
             split ! $ nothing ! $ move ! (2 ∷ 0 ∷ []) $ join ! $ move ! (1 ∷ 0 ∷ []) $ join ! $ frame ! $
             nothing ! $ move ! (2 ∷ 0 ∷ []) $ fjoin ! $ owned ! usize (Is usize) (uint-makes 𝓤 H A W w64) states _ (refl, states-fits) $ fjoin ! $
             move ! (1 ∷ 0 ∷ []) $ fjoin ! $ done !

@@ -30,10 +30,11 @@ use denote.Triple.Walked.{says}
 use Rattle.models.specs.Loading.{Begun, NextRead}
 use Rattle.models.specs.declared.Step.{Step}
 use Rattle.models.specs.declared.loading.Next.{Next}
+use Rattle.models.proofs.Slices.{slice-at}
 use Rattle.models.proofs.StructRows.{low, makes, told}
 use Rattle.models.proofs.StepRows.{the-step, R}
 use Rattle.models.proofs.NextRow.{the-next, N, IsNext}
-use Rattle.models.proofs.ReaderSlices.{file, file-val, File, lent}
+use Rattle.models.proofs.ReaderSlices.{file-val, File}
 use Rattle.models.proofs.loading.next_step as next-step
 use Rattle.models.proofs.steps.put_step as put-step
 
@@ -48,7 +49,7 @@ module _ {M : Type 1} (𝓤 : URA M) (H : Heap 𝓤) (A : Atoms 𝓤) (mem : Mem
 module _ (κ : Lft) (b o : ℕ) (γ : GName) (f : List ℕ) (states n at : ℕ) where
   -- the arguments
   abbrev a : RefT (List ℕ) × (ℕ × (ℕ × (ℕ × Unit {0})))
-  a = (file b o γ f, (states, (n, (at, tt))))
+  a = (slice-at (b, o) γ f, (states, (n, (at, tt))))
 
   -- their machine values
   abbrev vals : Vals next-step.signature (κ, tt)
@@ -69,7 +70,7 @@ module _ (κ : Lft) (b o : ℕ) (γ : GName) (f : List ℕ) (states n at : ℕ) 
         → ent 𝓤 (⋆ 𝓤 H A (‵ (flft κ q) ∷ ‵ (File κ b o γ f) ∷ [])) (sep 𝓤 (NextStep 𝓤 H A mem run .pre to-next) (sem 𝓤 H A (File κ b o γ f)))
     asks-next states-fits n-fits at-fits begun =
         qed W (‵ (flft κ q) ∷ ‵ (File κ b o γ f) ∷ []) ∵ move ! (1 ∷ []) $
-        use1 W (‵ (File κ b o γ f) ⊛ ‵ (File κ b o γ f)) (shr-slice-copy 𝓤 H A W (named 0) κ u8 .twice (file b o γ f) (file-val b o f ∷ [])) $
+        use1 W (‵ (File κ b o γ f) ⊛ ‵ (File κ b o γ f)) (shr-slice-copy 𝓤 H A W (named 0) κ u8 .twice (slice-at (b, o) γ f) (file-val b o f ∷ [])) $
         split ! $ move ! (2 ∷ 0 ∷ []) $ use2 W (raw (NextStep 𝓤 H A mem run .pre to-next)) asked $ frame ! $ done !
       where
         asked : ent 𝓤 (⋆ 𝓤 H A (‵ (flft κ q) ∷ ‵ (File κ b o γ f) ∷ [])) (NextStep 𝓤 H A mem run .pre to-next)
@@ -93,7 +94,7 @@ module _ (κ : Lft) (b o : ℕ) (γ : GName) (f : List ℕ) (states n at : ℕ) 
 -- ---- put_step
 module _ (ν : Lft) (b o : ℕ) (δ : GName) (count : ℕ) (ys : List Step) (i : ℕ) (s : Step) where
   abbrev steps : RefT (List Step)
-  steps = lent b o δ ys
+  steps = slice-at (b, o) δ ys
 
   abbrev steps-val : Val
   steps-val = sliceVal (b, o) count

@@ -22,20 +22,21 @@ use denote.Lend.{Held, lends-slice, slice-back}
 use denote.Index.{row, whole-in, whole-out}
 use Rattle.models.specs.declared.Step.{Step}
 use Rattle.models.proofs.StepRows.{R, AR, arrayTy, array-low, lies, back, array-known}
-use Rattle.models.proofs.ReaderSlices.{Lent}
+use Rattle.models.proofs.ReaderSlices.{Records}
 
 module _ {M : Type 1} (𝓤 : URA M) (H : Heap 𝓤) (A : Atoms 𝓤) (W : Given 𝓤 H A) (ν : Lft) (b : ℕ) (xs : List Step) (long : length xs ≡ 512) where
-  abbrev OnLoan : GName → SProp 𝓤
-  OnLoan δ = sep 𝓤 (sem 𝓤 H A (Lent ν b 0 δ (length xs) xs)) (A .lent ν (Held R (length xs) b 0 δ))
+  -- the slice, and the claim on what is lent
+  abbrev SliceAndClaim : GName → SProp 𝓤
+  SliceAndClaim δ = sep 𝓤 (sem 𝓤 H A (Records ν b 0 δ (length xs) xs)) (A .lent ν (Held R (length xs) b 0 δ))
 
-  pub lends-array : ent 𝓤 (⋆ 𝓤 H A (‵ (fat fullShare arrayTy b 0 (array-low xs)) ∷ ‵ (AR .own xs (array-low xs ∷ [])) ∷ [])) (H .⇛ (ex 𝓤 OnLoan))
+  pub lends-array : ent 𝓤 (⋆ 𝓤 H A (‵ (fat fullShare arrayTy b 0 (array-low xs)) ∷ ‵ (AR .own xs (array-low xs ∷ [])) ∷ [])) (H .⇛ (ex 𝓤 SliceAndClaim))
   lends-array =
       qed W (‵ (fat fullShare arrayTy b 0 (array-low xs)) ∷ ‵ (AR .own xs (array-low xs ∷ [])) ∷ []) ∵ updating ! $
       use2 W (‵ (arr-parts (shares R) 512 .part fullShare xs b 0)) (lies 𝓤 H A W xs b) $ fsplit ! $ feqL ! (λ _.
       use1 W (‵ (cells (mem R) xs b 0)) (whole-in 𝓤 H A W R xs b 0) $
-      use1 W (later (some (λ (δ : GName). ‵ (Lent ν b 0 δ (length xs) xs) ⊛ ‵ (flent ν (Held R (length xs) b 0 δ)))))
+      use1 W (later (some (λ (δ : GName). ‵ (Records ν b 0 δ (length xs) xs) ⊛ ‵ (flent ν (Held R (length xs) b 0 δ)))))
       (lends-slice 𝓤 H A W R (named 1) ν xs b 0 (omega arith, omega arith)) $ await ! tt $ pick ! (λ δ. split ! $
-      at-once ! $ show ! OnLoan δ $ frame ! $ done !))
+      at-once ! $ show ! SliceAndClaim δ $ frame ! $ done !))
 
   pub array-back : (δ : GName) (zs : List Step)
       → ent 𝓤 (⋆ 𝓤 H A (‵ (fdead ν) ∷ ‵ (flent ν (Held R (length xs) b 0 δ)) ∷ ‵ (finally R δ zs) ∷ []))
