@@ -1,17 +1,16 @@
 -- A state satisfies a formula exactly when no trace of a walk from it violates the formula.
 use Prim.Native.Nat.{ℕ, zero, suc}
 use mathlib.Core.Path.{_≡_, refl}
-use mathlib.Core.Bool.{Bool, true}
+use mathlib.Core.Bool.{Bool}
 use mathlib.Core.List.{List, [], _∷_}
 use native.Mathlib.Omega.{arith}
 use lib.ListN.{drop}
 use lib.Seq.{drop-nil}
 use Rattle.reading.specs.Formula.{Formula, truth, falsity, both, necessity, max, variable}
-use Rattle.reading.specs.Rule.{Rule}
 use Rattle.synthesis.specs.Violation.{coveredBy, Violates, by-falsity, by-first, by-second, by-code, by-body, by-variable}
 use Rattle.models.specs.Model.{Model, Walk, stay}
-use Rattle.models.specs.Satisfaction.{InVariable, SatisfiesWith, SatisfiesDecided}
-use Rattle.models.specs.Promises.{Safe, SatisfiesSafe}
+use Rattle.models.specs.Satisfaction.{InVariable, SatisfiesWith}
+use Rattle.models.specs.Promises.{SatisfiesSafe}
 use Rattle.models.proofs.Walks.{walk-append, weak-walk, weak-first}
 
 -- ---- what is satisfied isn't violated, whatever the sets
@@ -59,7 +58,7 @@ module _ (m : Model) (covered : ℕ → ℕ → Bool) where
   abbrev Set : Type 1
   Set = m .State → Type 0
 
-  -- the greatestSets sets for the variables
+  -- the greatest sets for the variables
   abbrev greatestSets : List Formula → List Set
   greatestSets [] = []
   greatestSets (f ∷ bodies) = Never (f ∷ bodies) f ∷ greatestSets bodies
@@ -90,13 +89,10 @@ module _ (m : Model) (covered : ℕ → ℕ → Bool) where
       (Never (f ∷ bodies) f, never-satisfies (f ∷ bodies) f, λ w t k v. never w t k (by-body v))
   never-satisfies bodies (variable d) s never = record { lower = in-greatest bodies d s never }
 
--- ---- the promises
+-- ---- the promise
 
 pub satisfies-safe : SatisfiesSafe
 satisfies-safe m r = (
   λ sat w t k v. satisfies-never m (coveredBy (r .patterns)) (m .State → Type 0) (λ X s. X s) v no-max sat k,
   never-satisfies m (coveredBy (r .patterns)) [] (r .formula) (m .start),
 )
-
-pub decided-safe : (m : Model) (r : Rule) → SatisfiesDecided m r → Safe m r
-decided-safe m r sat w t k v = satisfies-never m (coveredBy (r .patterns)) (m .State → Bool) (λ X s. X s ≡ true) v no-max sat k
