@@ -16,7 +16,8 @@ use base.Logic.{ent, sep, ex}
 use base.Fml.{Lft, GName, Share, Fml, fsep, flft, fdead, fobs, fauth, flent, fobor}
 use prog.Wp.{Heap}
 use ghost.Atoms.{Atoms, sem}
-use types.Kit.{Given, ‵, _⊛_, some, later, _$_, _∵_, !, qed, move, use1, use3, drop, split, pick, fsplit, fjoin, frame, await, updating, now as at-once, show, done}
+use types.Kit.{Given, ‵, _⊛_, some, later, _$_, _∵_, !, qed, move, use1}
+use types.Kit.{use3, drop, split, pick, fsplit, fjoin, frame, await, updating, now as at-once, show, done}
 use types.SemTy.{cells, Arr}
 use denote.RattleType.{RattleType}
 use denote.Shadow.{pureL, pureI}
@@ -54,7 +55,8 @@ module _ (R : RattleType) (κ ν : Lft) (q : Share) (x : RefT (List (R .Denot)))
         use1 W (later (some (λ (δ : GName). ‵ (MutSlice ℓ′ ν R .own (slice-at (x .ptr) δ ys) vals) ⊛ ‵ (flent ν (Held R (length ys) b o δ)))))
         (lends-slice 𝓤 H A W R ℓ′ ν ys b o (p .1)) $ await ! tt $ pick ! (λ δ. split ! $
         -- [the slice at ν; the claim on it; the borrow at κ, opened; obs γ; auth γ]
-        at-once ! $ show ! (λ (ε : GName). sep 𝓤 (sem 𝓤 H A (MutSlice ℓ′ ν R .own (slice-at (x .ptr) ε ys) vals)) (sem 𝓤 H A (OnLoan ε ys))) δ $ frame ! $
+        at-once ! $ show ! (λ (ε : GName). sep 𝓤 (sem 𝓤 H A (MutSlice ℓ′ ν R .own (slice-at (x .ptr) ε ys) vals)) (sem 𝓤 H A (OnLoan ε ys))) δ $
+        frame ! $
         move ! (2 ∷ 3 ∷ []) $ fjoin ! $ move ! (2 ∷ 0 ∷ []) $ fjoin ! $ move ! (1 ∷ 0 ∷ []) $ fjoin ! $ done !))
 
     comes-back : (δ : GName) (zs : List (R .Denot)) → Room R (length ys) → length zs ≡ length ys
@@ -67,12 +69,15 @@ module _ (R : RattleType) (κ ν : Lft) (q : Share) (x : RefT (List (R .Denot)))
         -- [the cells; the borrow at κ, opened, with obs γ and auth γ]
         move ! (1 ∷ []) $ fsplit ! $ move ! (1 ∷ []) $ fsplit ! $ move ! (3 ∷ 2 ∷ 0 ∷ 1 ∷ []) $ closes-slice ! tt R ys zs e b o $ at-once ! $
         fjoin ! $
-        pureI ! (at-slice R (slice-at (x .ptr) γ zs) vals) (tt, (tt, tt)) (ap (λ (m : ℕ). sliceVal (x .ptr) m ∷ []) (sym e), subst (Room R) (sym e) room) $
+        pureI ! (at-slice R (slice-at (x .ptr) γ zs) vals) (tt, (tt, tt))
+        (ap (λ (m : ℕ). sliceVal (x .ptr) m ∷ []) (sym e), subst (Room R) (sym e) room) $
         fjoin ! $ done !
 
     -- the same where the slice's count is said as another number that it is
-    pub lends-again-at : (n : ℕ) → length ys ≡ n → ent 𝓤 (sep 𝓤 (sem 𝓤 H A (MutSlice ℓ κ R .own (slice-at (x .ptr) γ ys) (sliceVal (x .ptr) n ∷ []))) (A .lft κ q))
-        (H .⇛ (ex 𝓤 (λ (δ : GName). sep 𝓤 (sem 𝓤 H A (MutSlice ℓ′ ν R .own (slice-at (x .ptr) δ ys) (sliceVal (x .ptr) n ∷ []))) (sem 𝓤 H A (OnLoan δ ys)))))
+    pub lends-again-at : (n : ℕ) → length ys ≡ n
+        → ent 𝓤 (sep 𝓤 (sem 𝓤 H A (MutSlice ℓ κ R .own (slice-at (x .ptr) γ ys) (sliceVal (x .ptr) n ∷ []))) (A .lft κ q))
+        (H .⇛ (ex 𝓤 (λ (δ : GName). sep 𝓤 (sem 𝓤 H A (MutSlice ℓ′ ν R .own (slice-at (x .ptr) δ ys) (sliceVal (x .ptr) n ∷ [])))
+        (sem 𝓤 H A (OnLoan δ ys)))))
     lends-again-at n e = subst
         (λ (m : ℕ). ent 𝓤 (sep 𝓤 (sem 𝓤 H A (MutSlice ℓ κ R .own (slice-at (x .ptr) γ ys) (sliceVal (x .ptr) m ∷ []))) (A .lft κ q))
         (H .⇛ (ex 𝓤 (λ (δ : GName). sep 𝓤 (sem 𝓤 H A (MutSlice ℓ′ ν R .own (slice-at (x .ptr) δ ys) (sliceVal (x .ptr) m ∷ [])))

@@ -37,7 +37,8 @@ module _ {M : Type 1} {𝓤 : URA M} {H : Heap 𝓤} {A : Atoms 𝓤} {K : Type 
     passes-slice t n room fits = step (λ s. pass1 t (init t n room (tt, (tt, (record { fits = fits }, tt)))) $ s)
 
     pub passes-word : K → (n : ℕ) {x : ℕ} → nth 𝓤 H A n Γ ≡ ‵ (froom (tyInt w64) l 0) → x < 2 ^ 64
-        → Step K W (put 𝓤 H A n (‵ (fat fullShare (tyInt w64) l 0 (vint w64 x))) Γ) (passes E vs g) Γ (passes ((tyInt w64, l) ∷ E) (vint w64 x ∷ vs) g)
+        → Step K W (put 𝓤 H A n (‵ (fat fullShare (tyInt w64) l 0 (vint w64 x))) Γ) (passes E vs g) Γ
+        (passes ((tyInt w64, l) ∷ E) (vint w64 x ∷ vs) g)
     passes-word t n room fits = step (λ s. pass1 t (init t n room (tt, record { fits = fits })) $ s)
 
   module _ {i : ℕ} where
@@ -55,5 +56,6 @@ module _ {M : Type 1} {𝓤 : URA M} {H : Heap 𝓤} {A : Atoms 𝓤} {K : Type 
     module _ {C : Calls 𝓤 H} {Λ : Loops 𝓤 H} {p : Post 𝓤 H} where
       pub sets-local : K → {rv : RValue} {rest : Body} {v : Val} → Rv K W Γ E rv v → (n : ℕ) → let sp = spotOf 𝓤 H E i in
           nth 𝓤 H A n Γ ≡ ‵ (froom (sp .0) (sp .1) (sp .2)) → Holds (hasTy (sp .0) v) × WT v
-          → Step K W (put 𝓤 H A n (‵ (fat fullShare (sp .0) (sp .1) (sp .2) v)) Γ) (runs C Λ E rest p) Γ (runs C Λ E (seq (assign (place i []) rv) rest) p)
+          → Step K W (put 𝓤 H A n (‵ (fat fullShare (sp .0) (sp .1) (sp .2) v)) Γ) (runs C Λ E rest p) Γ
+          (runs C Λ E (seq (assign (place i []) rv) rest) p)
       sets-local t rv n room typed = step (λ s. assigns t rv (from t (stop t)) (init t n room typed) $ s)

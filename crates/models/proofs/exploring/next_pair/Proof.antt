@@ -35,7 +35,11 @@ shared-slice-read-step c = search needs
 
 cast-step : tie.Need-cast-step Inv-loop μ-loop
 cast-step c =
-    omega (arith, c .shared-slice-known2 .given (getD (c .before .before .before .before .args .pairs .now) (c .before .before .before .loop .turn) 0 % 64))
+    omega (
+      arith,
+      c .shared-slice-known2 .given (getD (c .before .before .before .before .args .pairs .now)
+          (c .before .before .before .loop .turn) 0 % 64),
+    )
 
 returns : tie.Need-returns Inv-loop μ-loop
 returns c =

@@ -75,7 +75,8 @@ module _ {M : Type 1} (𝓤 : URA M) (H : Heap 𝓤) (A : Atoms 𝓤) (W : Given
       -- the array in its slot, and the three slices
       sets-local ! (of-opd ! (reads-local ! 26 refl)) 12 refl (step.array-typed 𝓤 H A W (list κs a) list-is) $
       sets-local ! (addr ! (from ! (stop !))) 10 refl (tt, tt) $
-      sets-local ! (agg ! (and-then ! (reads-local ! 10 refl) (and-then ! (lit ! tt) (no-more !)))) 8 refl (tt, (tt, (record { fits = omega arith }, tt))) $
+      sets-local ! (agg ! (and-then ! (reads-local ! 10 refl) (and-then ! (lit ! tt) (no-more !)))) 8 refl
+      (tt, (tt, (record { fits = omega arith }, tt))) $
       reborrows ! 16 6 4 refl refl refl refl refl refl refl refl (rooms .seen-room .0) $
       reborrows ! 14 2 0 refl refl refl refl refl refl refl refl (rooms .pairs-room .0) $
       rewrite ! 8 (λ (n : ℕ). ‵ (fat fullShare (sliceTy (tyRef erased imm step.behindTy)) l₁₀ 0 (sliceVal (l₈, 0) n)))

@@ -31,7 +31,8 @@ module _ (c : tie.After-record-length) where
 
   ends : start .args .at + recordLength step ≤ length (start .args .bytes .now)
   ends =
-      step-fits (start .args .bytes .now) (start .args .states) (start .args .at) (512 - start .args .n) step (start .pre .1 .are-bytes) inside is-read
+      step-fits (start .args .bytes .now) (start .args .states) (start .args .at) (512 - start .args .n) step
+      (start .pre .1 .are-bytes) inside is-read
       .whole
 
 ended-requires : tie.Need-ended-requires

@@ -113,7 +113,8 @@ module _ {M : Type 1} (𝓤 : URA M) (H : Heap 𝓤) (A : Atoms 𝓤) (W : Given
         passes-word ! 12 refl states-fits $ pass1 ! (init ! 10 refl wt) $ pass0 ! $
         sets-local ! (of-opd ! (reads-local ! 10 refl)) 8 refl wt $
         sets-local ! (addr ! (from ! (stop !))) 4 refl (tt, tt) $
-        sets-local ! (agg ! (and-then ! (reads-local ! 4 refl) (and-then ! (lit ! tt) (no-more !)))) 2 refl (tt, (tt, (record { fits = omega arith }, tt))) $
+        sets-local ! (agg ! (and-then ! (reads-local ! 4 refl) (and-then ! (lit ! tt) (no-more !)))) 2 refl
+        (tt, (tt, (record { fits = omega arith }, tt))) $
         rewrite ! 2 (λ (n : ℕ). ‵ (fat fullShare (sliceTy (tyRef erased mut behindTy)) l₇ 0 (sliceVal (l₄, 0) n))) (sym long) refl $
         -- the array is lent
         move ! (19 ∷ []) $ fsplit ! $ move ! (1 ∷ []) $ fsplit ! $ drop ! $ fsplit ! $ move ! (1 ∷ []) $ drop ! $

@@ -85,7 +85,8 @@ module _ {M : Type 1} (𝓤 : URA M) (H : Heap 𝓤) (A : Atoms 𝓤) (W : Given
       fjoin ! $ fjoin ! $ frame ! $ feqI ! (List Val) (vunit ∷ []) (vunit ∷ []) refl $ done !
 
   module _ (C : Calls 𝓤 H) (Λ : Loops 𝓤 H) where
-    walk : Room R (length ys) → i < 2 ^ 64 → Is R s (low the-step s ∷ []) → i < length ys → ent 𝓤 (onEntry 𝓤 H A put-step.signature (κ, tt) (q, tt) x at)
+    walk : Room R (length ys) → i < 2 ^ 64 → Is R s (low the-step s ∷ []) → i < length ys
+        → ent 𝓤 (onEntry 𝓤 H A put-step.signature (κ, tt) (q, tt) x at)
         (WpFn 𝓤 H C Λ code.function (sliceVal (b, o) (length ys) ∷ vint w64 i ∷ low the-step s ∷ []) Post)
     walk gn gi gs inside =
         let six : i * 6 < 2 ^ 64 = omega (arith, gn .0, gn .1) in
@@ -105,7 +106,8 @@ module _ {M : Type 1} (𝓤 : URA M) (H : Heap 𝓤) (A : Atoms 𝓤) (W : Given
         -- [the record at i; what it owns; the others; the open borrow; obs; auth; true; the slice's fact; i's and s's; _5; …; _0; …]
         use1 W (‵ (fat fullShare stepTy b (place 6 o i) (low the-step (getD ys i noStep)))) (W .laws .raw-at fullShare stepTy b (place 6 o i) _) $
         assigns ! (of-opd ! (reads-local ! 13 refl)) (from ! (hop ! (look ! 9 refl) (stop !))) (store ! 0 refl wt) $
-        use1 W (‵ (cellAt fullShare (R .mir) (low the-step s ∷ []) b (place 6 o i))) (W .laws .at-raw fullShare stepTy b (place 6 o i) (low the-step s)) $
+        use1 W (‵ (cellAt fullShare (R .mir) (low the-step s ∷ []) b (place 6 o i)))
+        (W .laws .at-raw fullShare stepTy b (place 6 o i) (low the-step s)) $
         -- the new record goes in, and the borrow is closed
         move ! (1 ∷ []) $ drop ! $ owned ! R (Is R) (makes the-step 𝓤 H A) s _ gs $ move ! (1 ∷ 0 ∷ []) $
         elem-put ! R fullShare ys i s (low the-step s ∷ []) b o inside $ closes-slice ! tt R ys zs (length-set ys i s) b o $

@@ -17,11 +17,13 @@ use prog.Wp.{Heap}
 use ghost.Atoms.{Atoms}
 use contract.Monad.{Fun, fact}
 use contract.Lifetimes.{Lfts, Shares}
-use types.Kit.{Given, Item, ‵, raw, _⊛_, ⋆, some, later, _$_, _∵_, !, qed, move, keep, drop, use1, use2, use3, split, join, group, pick, fsplit, fjoin, frame, await, updating, check, show, now as at-once, done}
+use types.Kit.{Given, Item, ‵, raw, _⊛_, ⋆, some, later, _$_, _∵_, !, qed, move, keep, drop}
+use types.Kit.{use1, use2, use3, split, join, group, pick, fsplit, fjoin, frame, await, updating, check, show, now as at-once, done}
 use types.Tokens.{lft-new, lft-end}
 use denote.Laws.{Is, shows}
 use denote.Plain.{uint-makes}
 use denote.Builtin.{usize, u8, u16}
+use denote.Ref.{RefT}
 use denote.Slice.{MutSlice, Room, finally, slice-vals, shr-slice-copy}
 use denote.Steps.{only, nothing, owned, peeks, heard}
 use denote.Triple.Clauses.{Lasts, lasts}
@@ -38,7 +40,7 @@ use Rattle.models.proofs.LentAgain.{OnLoan, lends-again-at, comes-back-
 use Rattle.models.proofs.Slices.{slice-at}
 use Rattle.models.proofs.StructRows as struct
 use Rattle.models.proofs.StepRows as step
-use Rattle.models.proofs.SearchSlices.{AtStart, Tokens, the-cursor, last, earlier, table, seen, pairs, links, slices-vals}
+use Rattle.models.proofs.SearchSlices.{Five, AtStart, Tokens, the-cursor, last, earlier, table, seen, pairs, links, slices-vals}
 use Rattle.models.proofs.steps.step_at as step-at
 use Rattle.models.proofs.exploring.follow as follow
 use Rattle.models.proofs.exploring.search as search
@@ -129,13 +131,23 @@ module _ {M : Type 1} (𝓤 : URA M) (H : Heap 𝓤) (A : Atoms 𝓤) (W : Given
   abbrev tokens : Shares 5
   tokens = (qs .1 .0, (qs .1 .1 .0, (qs .1 .1 .1 .0, (fullShare, (fullShare, tt)))))
 
+  -- the slices, two of them lent again
+  abbrev lent : Loans → Five (RefT (List ℕ))
+  lent n = (
+    last (a .1 .1),
+    (
+      earlier (a .1 .1),
+      (table (a .1 .1), (slice-at (seen (a .1 .1) .ptr) (n .2) (t .marks), (slice-at (pairs (a .1 .1) .ptr) (n .3) (t .queue), tt))),
+    ),
+  )
+
   abbrev pub to-follow : Step → Val → Loans → Follow 𝓤 H A mem run .Ghost
   to-follow s u n = (
     (
       lifetimes n,
       tokens,
       tt,
-      (t .at, (s, (last (a .1 .1), (earlier (a .1 .1), (table (a .1 .1), (slice-at (seen (a .1 .1) .ptr) (n .2) (t .marks), (slice-at (pairs (a .1 .1) .ptr) (n .3) (t .queue), tt))))))),
+      (t .at, (s, lent n)),
       (struct.vals the-cursor (t .at), (u ∷ [], slices-vals (a .1 .1))),
     ),
     tt,
@@ -165,7 +177,8 @@ module _ {M : Type 1} (𝓤 : URA M) (H : Heap 𝓤) (A : Atoms 𝓤) (W : Given
         lft-end ! tt $ move ! (0 ∷ 14 ∷ 6 ∷ []) $
         use3 W (later (‵ (state.Queue 𝓤 H A W mem run κs qs a (t′ .queue)) ⊛ ‵ (flft (κs .1 .1 .1 .1 .1 .0) (qs .1 .1 .1 .1 .1 .0))))
         (comes-back-at u16 (κs .1 .1 .1 .1 .1 .0) (n .1 ∷ []) (qs .1 .1 .1 .1 .1 .0) (pairs (a .1 .1)) 𝓤 H A W (named 5) (named 4)
-        (t .queue) (length (pairs (a .1 .1) .now)) (state.queue-length κs a begun t) queue-room (n .3) (t′ .queue) (state.queue-length κs a begun t′)) $
+        (t .queue) (length (pairs (a .1 .1) .now)) (state.queue-length κs a begun t) queue-room (n .3) (t′ .queue)
+        (state.queue-length κs a begun t′)) $
         await ! tt $ split ! $
         move ! (3 ∷ []) $ lft-end ! tt $ move ! (0 ∷ 13 ∷ 7 ∷ []) $
         use3 W (later (‵ (state.Marks 𝓤 H A W mem run κs qs a (t′ .marks)) ⊛ ‵ (flft (κs .1 .1 .1 .1 .0) (qs .1 .1 .1 .1 .0))))
@@ -185,7 +198,8 @@ module _ {M : Type 1} (𝓤 : URA M) (H : Heap 𝓤) (A : Atoms 𝓤) (W : Given
           -- [the step; last; earlier; table; seen; pairs]
           nothing ! $ move ! (6 ∷ 0 ∷ []) $ fjoin ! $ move ! (5 ∷ 0 ∷ []) $ fjoin ! $ move ! (4 ∷ 0 ∷ []) $ fjoin ! $ move ! (3 ∷ 0 ∷ []) $ fjoin ! $
           move ! (2 ∷ 0 ∷ []) $ fjoin ! $ move ! (1 ∷ 0 ∷ []) $ fjoin ! $
-          owned ! (struct.row-of the-cursor) (Is (struct.row-of the-cursor)) (struct.makes the-cursor 𝓤 H A) (t .at) _ (t .cursor-is) $ fjoin ! $ done !
+          owned ! (struct.row-of the-cursor) (Is (struct.row-of the-cursor)) (struct.makes the-cursor 𝓤 H A) (t .at) _ (t .cursor-is) $ fjoin ! $
+          done !
 
       pub lends : ent 𝓤 (⋆ 𝓤 H A (‵ (step.R .own s (u ∷ [])) ∷ (‵ (flft (κs .0) (qs .0)) ⊛ ‵ ftrue) ∷ Beside))
           (H .⇛ (ex 𝓤 (λ (n : Loans). sep 𝓤 (Follow 𝓤 H A mem run .pre (to-follow s u n)) (⋆ 𝓤 H A (Left n)))))
@@ -200,7 +214,8 @@ module _ {M : Type 1} (𝓤 : URA M) (H : Heap 𝓤) (A : Atoms 𝓤) (W : Given
           (lends-again-at u16 (κs .1 .1 .1 .1 .1 .0) (ν′ ∷ []) (qs .1 .1 .1 .1 .1 .0) (pairs (a .1 .1)) 𝓤 H A W (named 5) (named 4)
           (t .queue) (length (pairs (a .1 .1) .now)) (state.queue-length κs a begun t)) $ await ! tt $ pick ! (λ δ′. split ! $
           -- [pairs; on loan; seen; on loan; ν′; ν; the step; the token of steps; steps; three tokens; last; earlier; table]
-          move ! (12 ∷ []) $ use1 W (‵ Last ⊛ ‵ Last) (shr-slice-copy 𝓤 H A W (named 1) (κs .1 .0) u16 .twice (last (a .1 .1)) (slice-vals (last (a .1 .1)))) $
+          move ! (12 ∷ []) $ use1 W (‵ Last ⊛ ‵ Last) (shr-slice-copy 𝓤 H A W (named 1) (κs .1 .0) u16 .twice (last (a .1 .1))
+          (slice-vals (last (a .1 .1)))) $
           split ! $
           move ! (14 ∷ []) $ use1 W (‵ Earlier ⊛ ‵ Earlier) (shr-slice-copy 𝓤 H A W (named 2) (κs .1 .1 .0) u16 .twice (earlier (a .1 .1))
           (slice-vals (earlier (a .1 .1)))) $ split ! $
@@ -247,7 +262,8 @@ module _ {M : Type 1} (𝓤 : URA M) (H : Heap 𝓤) (A : Atoms 𝓤) (W : Given
         -- of the last values, those of both slices
         fsplit ! $ drop ! $ fsplit ! $ drop ! $ fsplit ! $ drop ! $ fsplit ! $ drop ! $ fsplit ! $ drop ! $ fsplit ! $ fsplit ! $ move ! (2 ∷ []) $
         fsplit ! $ fsplit ! $
-        move ! (5 ∷ []) $ split ! $ move ! (1 ∷ []) $ peeks ! (struct.row-of the-cursor) (Is (struct.row-of the-cursor)) (shows 𝓤 H A (struct.row-of the-cursor)) c (w ∷ []) (λ cursor-is.
+        move ! (5 ∷ []) $ split ! $ move ! (1 ∷ []) $
+        peeks ! (struct.row-of the-cursor) (Is (struct.row-of the-cursor)) (shows 𝓤 H A (struct.row-of the-cursor)) c (w ∷ []) (λ cursor-is.
         -- [the cursor; the tokens; pairs' last, its length, true; seen's last, its length; what was left]
         keep ! (1 ∷ 2 ∷ 5 ∷ 7 ∷ 8 ∷ 9 ∷ 10 ∷ 11 ∷ 12 ∷ 13 ∷ []) $ group ! 10 $
         use1 W (later (raw (⋆ 𝓤 H A (Owned (next c w (ends .1 .1 .1 .1 .1 .0) (ends .1 .1 .1 .1 .1 .1 .0) kept cursor-is)))))

@@ -33,7 +33,8 @@ use Rattle.models.proofs.Slices.{slice-at}
 use Rattle.models.proofs.StructRows as struct
 use Rattle.models.proofs.StepRows as step
 use Rattle.models.proofs.Exits.{unsaid}
-use Rattle.models.proofs.SearchSlices.{AtStart, slice-rows, Tokens, five-dropped, the-cursor, last, earlier, table, seen, pairs, links, slices-vals}
+use Rattle.models.proofs.SearchSlices.{AtStart, slice-rows, Tokens, five-dropped, the-cursor}
+use Rattle.models.proofs.SearchSlices.{last, earlier, table, seen, pairs, links, slices-vals}
 use Rattle.models.proofs.exploring.search as search
 
 -- at exit nothing is had of what is shared or plain
@@ -89,7 +90,8 @@ module _ {M : Type 1} (𝓤 : URA M) (H : Heap 𝓤) (A : Atoms 𝓤) (W : Given
   Marks ys = MutSlice (named 4) (κs .1 .1 .1 .1 .0) u8 .own (slice-at (seen (a .1 .1) .ptr) (seen (a .1 .1) .name) ys) (slice-vals (seen (a .1 .1)))
 
   abbrev pub Queue : List ℕ → Fml
-  Queue ys = MutSlice (named 5) (κs .1 .1 .1 .1 .1 .0) u16 .own (slice-at (pairs (a .1 .1) .ptr) (pairs (a .1 .1) .name) ys) (slice-vals (pairs (a .1 .1)))
+  Queue ys = MutSlice (named 5) (κs .1 .1 .1 .1 .1 .0) u16 .own (slice-at (pairs (a .1 .1) .ptr) (pairs (a .1 .1) .name) ys)
+      (slice-vals (pairs (a .1 .1)))
 
   -- what is owned where a turn begins: the six tokens, and the slices
   abbrev pub Owned : List ℕ → List ℕ → List (Item 𝓤)

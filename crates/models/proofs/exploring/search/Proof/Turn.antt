@@ -18,7 +18,8 @@ use prog.Wp.{Heap, Env, Tables, afterTurn}
 use ghost.Atoms.{Atoms}
 use contract.Monad.{Fun, fact}
 use contract.Lifetimes.{Lfts, Shares}
-use types.Kit.{Given, Item, ‵, raw, given, _⊛_, ⋆, some, later, Sq, runs, anyQ, atRet, _$_, !, by, move, drop, use1, use2, use3, split, pick, learn, await}
+use types.Kit.{Given, Item, ‵, raw, given, _⊛_, ⋆, some, later, Sq, runs, anyQ}
+use types.Kit.{atRet, _$_, !, by, move, drop, use1, use2, use3, split, pick, learn, await}
 use types.Run.{look, init, forget, stop, from, lit, of-opd, bin, and-then, no-more, land, land-last, returns, free0, exec, again, Below}
 use sound.WpLaws.{fmOf}
 use denote.Laws.{Is, shows}
@@ -125,14 +126,16 @@ module _ {M : Type 1} (𝓤 : URA M) (H : Heap 𝓤) (A : Atoms 𝓤) (W : Given
     turns t =
         sets-local ! (bin ! (lit ! tt) (reads-field ! 15 3 refl refl refl) tt) 13 refl (tt, tt) $
         tests ! (reads-local ! 13 refl) (λ some-left.
-        sets-local ! (bin ! (reads-field ! 15 3 refl refl refl) (lit ! tt) (more t some-left)) 9 refl (tt, record { fits = calling.index-fits 𝓤 H A W mem run κs qs a begun t (more t some-left) }) $
+        sets-local ! (bin ! (reads-field ! 15 3 refl refl refl) (lit ! tt) (more t some-left)) 9 refl
+        (tt, record { fits = calling.index-fits 𝓤 H A W mem run κs qs a begun t (more t some-left) }) $
         use1 W (raw (StepAt 𝓤 H A mem run .pre (to-step-at t)) ⊛ raw (⋆ 𝓤 H A (calling.Beside 𝓤 H A W mem run κs qs a begun t)))
         (calling.asks 𝓤 H A W mem run κs qs a begun t (more t some-left)) $ split ! $
         -- [what step_at asks; the rest of what is owned; _15; …; _14; …; _0; …]
         calls-at ! (fmOf 𝓤 H (W .laws) 𝓣) (StepAt 𝓤 H A mem run) known-step-at (to-step-at t)
         (and-then ! (reads-local ! 30 refl) (and-then ! (reads-local ! 10 refl) (no-more !))) (λ u.
         use1 W (later (some (λ (s : Step). ((‵ (flft (κs .0) (qs .0)) ⊛ ‵ ftrue) ⊛ ‵ (step.R .own s (u ∷ [])))
-        ⊛ some (λ (ws : Lasts step-at.ended (κs .0, tt) (steps κs a, (index t, tt))). ‵ (lasts step-at.ended (κs .0, tt) (steps κs a, (index t, tt)) ws)
+        ⊛ some (λ (ws : Lasts step-at.ended (κs .0, tt) (steps κs a, (index t, tt))).
+        ‵ (lasts step-at.ended (κs .0, tt) (steps κs a, (index t, tt)) ws)
         ⊛ raw (fact 𝓤 (s ≡ getD (steps κs a .now) (index t) noStep)))))) (id⊢ 𝓤 _) $
         await ! tt $ pick ! (λ s. split ! $ move ! (1 ∷ []) $ pick ! (λ ws. split ! $ drop ! $
         heard ! (s ≡ getD (steps κs a .now) (index t) noStep) (λ is. split ! $ move ! (1 ∷ []) $

@@ -19,7 +19,8 @@ use prog.Wp.{Heap}
 use ghost.Atoms.{Atoms, sem}
 use contract.Monad.{Fun, fact}
 use contract.Lifetimes.{Lfts, Shares}
-use types.Kit.{Given, Item, ‵, raw, _⊛_, ⋆, some, later, _$_, _∵_, !, qed, by, move, keep, drop, use1, use2, split, join, group, pick, rewrite, fsplit, fjoin, feqL, suffices, frame, await, updating, check, show, now as at-once, done}
+use types.Kit.{Given, Item, ‵, raw, _⊛_, ⋆, some, later, _$_, _∵_, !, qed, by, move, keep, drop, use1}
+use types.Kit.{use2, split, join, group, pick, rewrite, fsplit, fjoin, feqL, suffices, frame, await, updating, check, show, now as at-once, done}
 use types.Tokens.{lft-new, lft-end, lent-back}
 use types.Share.{arr-parts}
 use denote.RattleType.{owns}
@@ -100,7 +101,8 @@ module _ {M : Type 1} (𝓤 : URA M) (H : Heap 𝓤) (A : Atoms 𝓤) (W : Given
       (long : length (list κs a) ≡ 512) where
     goes : (b : ℕ) (n : Loan) → ent 𝓤 (⋆ 𝓤 H A (‵ (flft (n .0 ∷ []) fullShare) ∷ Tokens κs qs ∷ ‵ (Slice b n) ∷ ‵ Others ∷ []))
         (Search 𝓤 H A mem run .pre (to-search b n))
-    goes b n = qed W (‵ (flft (n .0 ∷ []) fullShare) ∷ Tokens κs qs ∷ ‵ (Slice b n) ∷ ‵ Others ∷ []) ∵ says ! begun $ join ! $ frame ! $ fjoin ! $ done !
+    goes b n =
+        qed W (‵ (flft (n .0 ∷ []) fullShare) ∷ Tokens κs qs ∷ ‵ (Slice b n) ∷ ‵ Others ∷ []) ∵ says ! begun $ join ! $ frame ! $ fjoin ! $ done !
 
     pub lends : (b : ℕ) → ent 𝓤 (sep 𝓤 (onEntry 𝓤 H A search-array.signature κs qs a (vals κs a)) (sem 𝓤 H A (Cell b)))
         (H .⇛ (ex 𝓤 (λ (n : Loan). sep 𝓤 (Search 𝓤 H A mem run .pre (to-search b n)) (sem 𝓤 H A (Claim b n)))))
@@ -118,9 +120,11 @@ module _ {M : Type 1} (𝓤 : URA M) (H : Heap 𝓤) (A : Atoms 𝓤) (W : Given
         -- [the slice; the claim; α; the others; the tokens]
         move ! (2 ∷ 4 ∷ 0 ∷ 3 ∷ []) $ group ! 4 $ use1 W (raw (Search 𝓤 H A mem run .pre (to-search b (α, γ)))) (goes b (α, γ)) $ frame ! $ done !))
 
-  exits : (z : Bool) (w : Val) (ms ps : List ℕ) → Searched (list κs a) (links (a .1 .1)) (table (a .1 .1) .now) z → length ms ≡ length (seen (a .1 .1) .now)
+  exits : (z : Bool) (w : Val) (ms ps : List ℕ) → Searched (list κs a) (links (a .1 .1)) (table (a .1 .1) .now) z
+      → length ms ≡ length (seen (a .1 .1) .now)
       → length ps ≡ length (pairs (a .1 .1) .now)
-      → ent 𝓤 (⋆ 𝓤 H A (Tokens κs qs ∷ ‵ (finally u8 (seen (a .1 .1) .name) ms) ∷ ‵ (finally u16 (pairs (a .1 .1) .name) ps) ∷ ‵ (bool .own z (w ∷ [])) ∷ []))
+      → ent 𝓤 (⋆ 𝓤 H A (Tokens κs qs ∷ ‵ (finally u8 (seen (a .1 .1) .name) ms) ∷ ‵ (finally u16 (pairs (a .1 .1) .name) ps)
+      ∷ ‵ (bool .own z (w ∷ [])) ∷ []))
       (Post w)
   exits z w ms ps e ms-length ps-length =
       qed W (Tokens κs qs ∷ ‵ (finally u8 (seen (a .1 .1) .name) ms) ∷ ‵ (finally u16 (pairs (a .1 .1) .name) ps) ∷ ‵ (bool .own z (w ∷ [])) ∷ []) ∵
@@ -138,7 +142,8 @@ module _ {M : Type 1} (𝓤 : URA M) (H : Heap 𝓤) (A : Atoms 𝓤) (W : Given
       ⊛ some (λ (ends : Ends b n). ‵ (lasts search.ended (n .0 ∷ [], κs) (slice κs a b (n .1), a .1) ends) ⊛ raw
       (fact 𝓤 (Searched (list κs a) (links (a .1 .1)) (table (a .1 .1) .now) z)))
 
-  pub returned : length (list κs a) ≡ 512 → (b : ℕ) (n : Loan) (w : Val) → ent 𝓤 (sep 𝓤 (Search 𝓤 H A mem run .post (to-search b n) w) (sem 𝓤 H A (Claim b n)))
+  pub returned : length (list κs a) ≡ 512 → (b : ℕ) (n : Loan) (w : Val)
+      → ent 𝓤 (sep 𝓤 (Search 𝓤 H A mem run .post (to-search b n) w) (sem 𝓤 H A (Claim b n)))
       (H .⇛ (guard 𝓤 (Holds (hasTy tyBool w) × WT w) (sep 𝓤 (sem 𝓤 H A (Cell b)) (Post w))))
   returned long b n w =
       qed W (later (some (Got b n w)) ∷ ‵ (Claim b n) ∷ []) ∵ updating ! $ await ! tt $

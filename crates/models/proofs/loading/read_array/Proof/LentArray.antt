@@ -29,7 +29,8 @@ module _ {M : Type 1} (𝓤 : URA M) (H : Heap 𝓤) (A : Atoms 𝓤) (W : Given
   abbrev SliceAndClaim : GName → SProp 𝓤
   SliceAndClaim δ = sep 𝓤 (sem 𝓤 H A (Records ν b 0 δ (length xs) xs)) (A .lent ν (Held R (length xs) b 0 δ))
 
-  pub lends-array : ent 𝓤 (⋆ 𝓤 H A (‵ (fat fullShare arrayTy b 0 (array-low xs)) ∷ ‵ (AR .own xs (array-low xs ∷ [])) ∷ [])) (H .⇛ (ex 𝓤 SliceAndClaim))
+  pub lends-array : ent 𝓤 (⋆ 𝓤 H A (‵ (fat fullShare arrayTy b 0 (array-low xs)) ∷ ‵ (AR .own xs (array-low xs ∷ [])) ∷ []))
+      (H .⇛ (ex 𝓤 SliceAndClaim))
   lends-array =
       qed W (‵ (fat fullShare arrayTy b 0 (array-low xs)) ∷ ‵ (AR .own xs (array-low xs ∷ [])) ∷ []) ∵ updating ! $
       use2 W (‵ (arr-parts (shares R) 512 .part fullShare xs b 0)) (lies 𝓤 H A W xs b) $ fsplit ! $ feqL ! (λ _.

@@ -82,7 +82,8 @@ module _ {M : Type 1} (𝓤 : URA M) (H : Heap 𝓤) (A : Atoms 𝓤) (W : Given
     -- what stands before a turn, at what is read: next (0), the file (1, 2), the records (3, 4), room for the locals of a turn (5 to 9) and for
     -- the result (10), the parameters (11 to 13), and that each local dies
     abbrev Before : Next → List Step → List (Item 𝓤)
-    Before x ys = ‵ (fat fullShare nextTy l₄ 0 (low the-next x)) ∷ ‵ (flft κ q) ∷ ‵ (File κ b o γ f) ∷ ‵ (flft κ′ q′) ∷ ‵ (Records κ′ b′ o′ γ′ count ys)
+    Before x ys = ‵ (fat fullShare nextTy l₄ 0 (low the-next x)) ∷ ‵ (flft κ q) ∷ ‵ (File κ b o γ f) ∷ ‵ (flft κ′ q′)
+        ∷ ‵ (Records κ′ b′ o′ γ′ count ys)
         ∷ ‵ (froom tyBool l₅ 0) ∷ ‵ (froom tyUnit l₆ 0) ∷ ‵ (froom againTy l₇ 0) ∷ ‵ (froom (sliceTy againTy) l₈ 0) ∷ ‵ (froom (tyInt w64) l₉ 0)
         ∷ ‵ (froom nextTy l₀ 0)
         ∷ ‵ (fat fullShare fileTy l₁ 0 (file-val b o f)) ∷ ‵ (fat fullShare (tyInt w64) l₂ 0 (vint w64 states))
@@ -127,7 +128,8 @@ module _ {M : Type 1} (𝓤 : URA M) (H : Heap 𝓤) (A : Atoms 𝓤) (W : Given
           reborrows ! 13 7 8 refl refl refl refl refl refl refl refl (room .0) $
           lft-new ! tt (λ α. move ! (5 ∷ 4 ∷ []) $
           use2 W (later (some (λ (δ : GName). ‵ (MutSlice (named 0) (α ∷ []) R .own (slice-at (b′, o′) δ ys) (sliceVal (b′, o′) count ∷ []))
-          ⊛ ‵ (OnLoan R κ′ (α ∷ []) q′ (slice-at (b′, o′) γ′ ys) δ ys)))) (lends-again-at R κ′ (α ∷ []) q′ (slice-at (b′, o′) γ′ ys) 𝓤 H A W (named 1) (named 0) ys count (t .long)) $
+          ⊛ ‵ (OnLoan R κ′ (α ∷ []) q′ (slice-at (b′, o′) γ′ ys) δ ys))))
+          (lends-again-at R κ′ (α ∷ []) q′ (slice-at (b′, o′) γ′ ys) 𝓤 H A W (named 1) (named 0) ys count (t .long)) $
           await ! tt $ pick ! (λ δ. split ! $ move ! (2 ∷ 0 ∷ []) $
           use2 W (raw (PutStep 𝓤 H A mem run .pre (put α δ t)))
           (asks-put (α ∷ []) b′ o′ δ count ys (x .n) (x .step) 𝓤 H A W mem run (n-fits x (t .is)) (step-is x (t .is)) inside) $
@@ -143,7 +145,8 @@ module _ {M : Type 1} (𝓤 : URA M) (H : Heap 𝓤) (A : Atoms 𝓤) (W : Given
           (comes-back-at R κ′ (α ∷ []) q′ (slice-at (b′, o′) γ′ ys) 𝓤 H A W (named 1) (named 0) ys count (t .long) room δ zs (same ∙ t .long)) $
           await ! tt $ split ! $
           -- [the slice; its token; next; the token of the file; the file; _5; …]
-          sets-local ! (bin ! (reads-field ! 2 3 {d = 32} refl refl refl) (lit ! tt) (record { fits = one-fits })) 9 refl (tt, record { fits = one-fits }) $ move ! (3 ∷ 4 ∷ []) $
+          sets-local ! (bin ! (reads-field ! 2 3 {d = 32} refl refl refl) (lit ! tt) (record { fits = one-fits })) 9 refl
+          (tt, record { fits = one-fits }) $ move ! (3 ∷ 4 ∷ []) $
           use2 W (raw (NextStep 𝓤 H A mem run .pre (ask t)) ⊛ ‵ (File κ b o γ f))
           (asks-next κ b o γ f states (x .n + 1) (x .at) 𝓤 H A W mem run q states-fits one-fits (at-fits x (t .is)) (zs, begun)) $ split ! $
           -- [what next_step asks; the file; the slice; its token; next; _5; …]
