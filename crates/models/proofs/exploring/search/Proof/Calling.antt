@@ -45,7 +45,7 @@ use Rattle.models.proofs.steps.step_at as step-at
 use Rattle.models.proofs.exploring.follow as follow
 use Rattle.models.proofs.exploring.search as search
 use Rattle.models.proofs.exploring.search.Proof.Invariant as state
-use Rattle.models.proofs.exploring.search.Proof.Invariant.{State, steps, from, left}
+use Rattle.models.proofs.exploring.search.Proof.Invariant.{State, steps, from, left, Steps, Last, Earlier, Table, Marks, Queue}
 
 -- the contracts that the walk cites
 module _ {M : Type 1} (𝓤 : URA M) (H : Heap 𝓤) (A : Atoms 𝓤) (mem : Memory → SProp 𝓤) (run : Routine → Fun 𝓤) where
@@ -62,18 +62,6 @@ Loans = ℕ × ℕ × GName × GName
 module _ {M : Type 1} (𝓤 : URA M) (H : Heap 𝓤) (A : Atoms 𝓤) (W : Given 𝓤 H A) (mem : Memory → SProp 𝓤) (run : Routine → Fun 𝓤)
     (κs : Lfts 6) (qs : Shares 6) (a : Args search.signature κs)
     (begun : AtStart (a .1 .1) (steps κs a .now) (from κs a)) (t : State κs a) where
-  abbrev Steps : Fml
-  Steps = state.Steps 𝓤 H A W mem run κs qs a
-
-  abbrev Last : Fml
-  Last = state.Last 𝓤 H A W mem run κs qs a
-
-  abbrev Earlier : Fml
-  Earlier = state.Earlier 𝓤 H A W mem run κs qs a
-
-  abbrev Table : Fml
-  Table = state.Table 𝓤 H A W mem run κs qs a
-
   abbrev Owned : State κs a → List (Item 𝓤)
   Owned u = state.Owned 𝓤 H A W mem run κs qs a (u .marks) (u .queue)
 
@@ -87,9 +75,9 @@ module _ {M : Type 1} (𝓤 : URA M) (H : Heap 𝓤) (A : Atoms 𝓤) (W : Given
   -- what is left meanwhile
   abbrev pub Beside : List (Item 𝓤)
   Beside =
-      ‵ Steps ∷ ‵ (flft (κs .1 .0) (qs .1 .0)) ∷ ‵ (flft (κs .1 .1 .0) (qs .1 .1 .0)) ∷ ‵ (flft (κs .1 .1 .1 .0) (qs .1 .1 .1 .0))
+      ‵ (Steps κs a) ∷ ‵ (flft (κs .1 .0) (qs .1 .0)) ∷ ‵ (flft (κs .1 .1 .0) (qs .1 .1 .0)) ∷ ‵ (flft (κs .1 .1 .1 .0) (qs .1 .1 .1 .0))
       ∷ ‵ (flft (κs .1 .1 .1 .1 .0) (qs .1 .1 .1 .1 .0)) ∷ ‵ (flft (κs .1 .1 .1 .1 .1 .0) (qs .1 .1 .1 .1 .1 .0))
-      ∷ ‵ Last ∷ ‵ Earlier ∷ ‵ Table ∷ ‵ (state.Marks 𝓤 H A W mem run κs qs a (t .marks)) ∷ ‵ (state.Queue 𝓤 H A W mem run κs qs a (t .queue)) ∷ []
+      ∷ ‵ (Last κs a) ∷ ‵ (Earlier κs a) ∷ ‵ (Table κs a) ∷ ‵ (Marks κs a (t .marks)) ∷ ‵ (Queue κs a (t .queue)) ∷ []
 
   module _ (more : 0 < t .at .step) where
     pub index-fits : index < 2 ^ 64
@@ -98,15 +86,16 @@ module _ {M : Type 1} (𝓤 : URA M) (H : Heap 𝓤) (A : Atoms 𝓤) (W : Given
     inside : index < length (steps κs a .now)
     inside = omega (arith, t .searching .step-inside, t .searching .searchable .steps-length)
 
-    asked : ent 𝓤 (⋆ 𝓤 H A (‵ Steps ∷ ‵ (flft (κs .0) (qs .0)) ∷ [])) (StepAt 𝓤 H A mem run .pre to-step-at)
+    asked : ent 𝓤 (⋆ 𝓤 H A (‵ (Steps κs a) ∷ ‵ (flft (κs .0) (qs .0)) ∷ [])) (StepAt 𝓤 H A mem run .pre to-step-at)
     asked =
-        qed W (‵ Steps ∷ ‵ (flft (κs .0) (qs .0)) ∷ []) ∵ says ! inside $ nothing ! $ move ! (2 ∷ 0 ∷ []) $ join ! $ frame ! $
+        qed W (‵ (Steps κs a) ∷ ‵ (flft (κs .0) (qs .0)) ∷ []) ∵ says ! inside $ nothing ! $ move ! (2 ∷ 0 ∷ []) $ join ! $ frame ! $
         nothing ! $ owned ! usize (Is usize) (uint-makes 𝓤 H A W w64) index _ (refl, index-fits) $ fjoin ! $ move ! (1 ∷ 0 ∷ []) $ fjoin ! $ done !
 
     pub asks : ent 𝓤 (⋆ 𝓤 H A (Owned t)) (sep 𝓤 (StepAt 𝓤 H A mem run .pre to-step-at) (⋆ 𝓤 H A Beside))
     asks =
         qed W (Owned t) ∵ move ! (6 ∷ []) $
-        use1 W (‵ Steps ⊛ ‵ Steps) (shr-slice-copy 𝓤 H A W (named 0) (κs .0) step.R .twice (steps κs a) (slice-vals (steps κs a))) $ split ! $
+        use1 W (‵ (Steps κs a) ⊛ ‵ (Steps κs a))
+        (shr-slice-copy 𝓤 H A W (named 0) (κs .0) step.R .twice (steps κs a) (slice-vals (steps κs a))) $ split ! $
         move ! (0 ∷ 2 ∷ []) $ use2 W (raw (StepAt 𝓤 H A mem run .pre to-step-at)) asked $ frame ! $ done !
 
   -- ---- the step is followed
@@ -158,10 +147,11 @@ module _ {M : Type 1} (𝓤 : URA M) (H : Heap 𝓤) (A : Atoms 𝓤) (W : Given
   Along s u n =
       ‵ (flft (κs .1 .0) (qs .1 .0)) ∷ ‵ (flft (κs .1 .1 .0) (qs .1 .1 .0)) ∷ ‵ (flft (κs .1 .1 .1 .0) (qs .1 .1 .1 .0))
       ∷ ‵ (flft (n .0 ∷ []) fullShare) ∷ ‵ (flft (n .1 ∷ []) fullShare)
-      ∷ ‵ (step.R .own s (u ∷ [])) ∷ ‵ Last ∷ ‵ Earlier ∷ ‵ Table ∷ ‵ (LentMarks n) ∷ ‵ (LentQueue n) ∷ []
+      ∷ ‵ (step.R .own s (u ∷ [])) ∷ ‵ (Last κs a) ∷ ‵ (Earlier κs a) ∷ ‵ (Table κs a) ∷ ‵ (LentMarks n) ∷ ‵ (LentQueue n) ∷ []
 
   abbrev pub Left : Loans → List (Item 𝓤)
-  Left n = (‵ (flft (κs .0) (qs .0)) ⊛ ‵ ftrue) ∷ ‵ Steps ∷ ‵ Last ∷ ‵ Earlier ∷ ‵ Table ∷ ‵ (MarksOnLoan n) ∷ ‵ (QueueOnLoan n) ∷ []
+  Left n = (‵ (flft (κs .0) (qs .0)) ⊛ ‵ ftrue) ∷ ‵ (Steps κs a) ∷ ‵ (Last κs a) ∷ ‵ (Earlier κs a) ∷ ‵ (Table κs a)
+      ∷ ‵ (MarksOnLoan n) ∷ ‵ (QueueOnLoan n) ∷ []
 
   -- both slices are had again, at the lists of any state
   abbrev Regained : Loans → State κs a → List (Item 𝓤)
@@ -175,13 +165,13 @@ module _ {M : Type 1} (𝓤 : URA M) (H : Heap 𝓤) (A : Atoms 𝓤) (W : Given
         split ! $ move ! (1 ∷ []) $ split ! $ move ! (1 ∷ []) $ split ! $ move ! (1 ∷ []) $ split ! $ move ! (1 ∷ []) $ split ! $
         -- [ν′; true; ν; three tokens; pairs' last; seen's last; the token of steps; steps; last; earlier; table; seen on loan; pairs on loan]
         lft-end ! tt $ move ! (0 ∷ 14 ∷ 6 ∷ []) $
-        use3 W (later (‵ (state.Queue 𝓤 H A W mem run κs qs a (t′ .queue)) ⊛ ‵ (flft (κs .1 .1 .1 .1 .1 .0) (qs .1 .1 .1 .1 .1 .0))))
+        use3 W (later (‵ (Queue κs a (t′ .queue)) ⊛ ‵ (flft (κs .1 .1 .1 .1 .1 .0) (qs .1 .1 .1 .1 .1 .0))))
         (comes-back-at u16 (κs .1 .1 .1 .1 .1 .0) (n .1 ∷ []) (qs .1 .1 .1 .1 .1 .0) (pairs (a .1 .1)) 𝓤 H A W (named 5) (named 4)
         (t .queue) (length (pairs (a .1 .1) .now)) (state.queue-length κs a begun t) queue-room (n .3) (t′ .queue)
         (state.queue-length κs a begun t′)) $
         await ! tt $ split ! $
         move ! (3 ∷ []) $ lft-end ! tt $ move ! (0 ∷ 13 ∷ 7 ∷ []) $
-        use3 W (later (‵ (state.Marks 𝓤 H A W mem run κs qs a (t′ .marks)) ⊛ ‵ (flft (κs .1 .1 .1 .1 .0) (qs .1 .1 .1 .1 .0))))
+        use3 W (later (‵ (Marks κs a (t′ .marks)) ⊛ ‵ (flft (κs .1 .1 .1 .1 .0) (qs .1 .1 .1 .1 .0))))
         (comes-back-at u8 (κs .1 .1 .1 .1 .0) (n .0 ∷ []) (qs .1 .1 .1 .1 .0) (seen (a .1 .1)) 𝓤 H A W
         (named 4) (named 3) (t .marks) (length (seen (a .1 .1) .now)) (state.marks-length κs a begun t) marks-room (n .2) (t′ .marks)
         (state.marks-length κs a begun t′)) $
@@ -214,13 +204,12 @@ module _ {M : Type 1} (𝓤 : URA M) (H : Heap 𝓤) (A : Atoms 𝓤) (W : Given
           (lends-again-at u16 (κs .1 .1 .1 .1 .1 .0) (ν′ ∷ []) (qs .1 .1 .1 .1 .1 .0) (pairs (a .1 .1)) 𝓤 H A W (named 5) (named 4)
           (t .queue) (length (pairs (a .1 .1) .now)) (state.queue-length κs a begun t)) $ await ! tt $ pick ! (λ δ′. split ! $
           -- [pairs; on loan; seen; on loan; ν′; ν; the step; the token of steps; steps; three tokens; last; earlier; table]
-          move ! (12 ∷ []) $ use1 W (‵ Last ⊛ ‵ Last) (shr-slice-copy 𝓤 H A W (named 1) (κs .1 .0) u16 .twice (last (a .1 .1))
-          (slice-vals (last (a .1 .1)))) $
-          split ! $
-          move ! (14 ∷ []) $ use1 W (‵ Earlier ⊛ ‵ Earlier) (shr-slice-copy 𝓤 H A W (named 2) (κs .1 .1 .0) u16 .twice (earlier (a .1 .1))
-          (slice-vals (earlier (a .1 .1)))) $ split ! $
-          move ! (16 ∷ []) $ use1 W (‵ Table ⊛ ‵ Table) (shr-slice-copy 𝓤 H A W (named 3) (κs .1 .1 .1 .0) u8 .twice (table (a .1 .1))
-          (slice-vals (table (a .1 .1)))) $ split ! $
+          move ! (12 ∷ []) $ use1 W (‵ (Last κs a) ⊛ ‵ (Last κs a))
+          (shr-slice-copy 𝓤 H A W (named 1) (κs .1 .0) u16 .twice (last (a .1 .1)) (slice-vals (last (a .1 .1)))) $ split ! $
+          move ! (14 ∷ []) $ use1 W (‵ (Earlier κs a) ⊛ ‵ (Earlier κs a))
+          (shr-slice-copy 𝓤 H A W (named 2) (κs .1 .1 .0) u16 .twice (earlier (a .1 .1)) (slice-vals (earlier (a .1 .1)))) $ split ! $
+          move ! (16 ∷ []) $ use1 W (‵ (Table κs a) ⊛ ‵ (Table κs a))
+          (shr-slice-copy 𝓤 H A W (named 3) (κs .1 .1 .1 .0) u8 .twice (table (a .1 .1)) (slice-vals (table (a .1 .1)))) $ split ! $
           -- [table twice; earlier twice; last twice; pairs; on loan; seen; on loan; ν′; ν; the step; the token of steps; steps; three tokens]
           at-once ! $ show ! (λ (n : Loans). sep 𝓤 (Follow 𝓤 H A mem run .pre (to-follow s u n)) (⋆ 𝓤 H A (Left n))) (ν, ν′, δ, δ′) $
           move ! (15 ∷ 16 ∷ 17 ∷ 11 ∷ 10 ∷ 12 ∷ 4 ∷ 2 ∷ 0 ∷ 8 ∷ 6 ∷ []) $ group ! 11 $

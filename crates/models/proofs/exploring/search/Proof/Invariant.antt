@@ -71,11 +71,9 @@ module _ (κs : Lfts 6) (a : Args search.signature κs) where
     pub queue-length : length (t .queue) ≡ length (pairs (a .1 .1) .now)
     queue-length = t .searching .pairs-length ∙ sym (begun .pairs-length)
 
-module _ {M : Type 1} (𝓤 : URA M) (H : Heap 𝓤) (A : Atoms 𝓤) (W : Given 𝓤 H A) (mem : Memory → SProp 𝓤) (run : Routine → Fun 𝓤)
-    (κs : Lfts 6) (qs : Shares 6) (a : Args search.signature κs) where
   -- what the slices own
   abbrev pub Steps : Fml
-  Steps = ShrSlice (named 0) (κs .0) step.R .own (steps κs a) (slice-vals (steps κs a))
+  Steps = ShrSlice (named 0) (κs .0) step.R .own steps (slice-vals steps)
 
   abbrev pub Last : Fml
   Last = ShrSlice (named 1) (κs .1 .0) u16 .own (last (a .1 .1)) (slice-vals (last (a .1 .1)))
@@ -93,12 +91,14 @@ module _ {M : Type 1} (𝓤 : URA M) (H : Heap 𝓤) (A : Atoms 𝓤) (W : Given
   Queue ys = MutSlice (named 5) (κs .1 .1 .1 .1 .1 .0) u16 .own (slice-at (pairs (a .1 .1) .ptr) (pairs (a .1 .1) .name) ys)
       (slice-vals (pairs (a .1 .1)))
 
+module _ {M : Type 1} (𝓤 : URA M) (H : Heap 𝓤) (A : Atoms 𝓤) (W : Given 𝓤 H A) (mem : Memory → SProp 𝓤) (run : Routine → Fun 𝓤)
+    (κs : Lfts 6) (qs : Shares 6) (a : Args search.signature κs) where
   -- what is owned where a turn begins: the six tokens, and the slices
   abbrev pub Owned : List ℕ → List ℕ → List (Item 𝓤)
   Owned ms ps =
       ‵ (flft (κs .0) (qs .0)) ∷ ‵ (flft (κs .1 .0) (qs .1 .0)) ∷ ‵ (flft (κs .1 .1 .0) (qs .1 .1 .0)) ∷ ‵ (flft (κs .1 .1 .1 .0) (qs .1 .1 .1 .0))
       ∷ ‵ (flft (κs .1 .1 .1 .1 .0) (qs .1 .1 .1 .1 .0)) ∷ ‵ (flft (κs .1 .1 .1 .1 .1 .0) (qs .1 .1 .1 .1 .1 .0))
-      ∷ ‵ Steps ∷ ‵ Last ∷ ‵ Earlier ∷ ‵ Table ∷ ‵ (Marks ms) ∷ ‵ (Queue ps) ∷ []
+      ∷ ‵ (Steps κs a) ∷ ‵ (Last κs a) ∷ ‵ (Earlier κs a) ∷ ‵ (Table κs a) ∷ ‵ (Marks κs a ms) ∷ ‵ (Queue κs a ps) ∷ []
 
   abbrev pub Post : Val → SProp 𝓤
   Post = walkOf 𝓤 H A search.ended stayed (search.clauses 𝓤 H A mem run) .post ((κs, qs, tt, a, vals κs a), tt)
