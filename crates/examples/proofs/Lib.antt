@@ -2,6 +2,7 @@ pub mod FileAnswers
 pub mod SmallFiles
 pub mod NumberPool
 pub mod PaperExamples
+pub mod NumberingExamples
 pub mod PhoneSteps
 pub mod DrawnModel
 pub mod Shortening

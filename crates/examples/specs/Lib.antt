@@ -1,3 +1,4 @@
 pub mod Examples
+pub mod NumberingExamples
 pub mod ModelExamples
 pub mod RefusalExamples

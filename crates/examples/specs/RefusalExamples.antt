@@ -42,7 +42,7 @@ pub record RuleRefusals : Type 0 where
   pub mask-0 : Refuses (1 ∷ 0 ∷ 5 ∷ 5 ∷ 2 ∷ []) 5 0
   pub first-32 : Refuses (1 ∷ 1 ∷ 32 ∷ 32 ∷ 2 ∷ []) 5 0
   pub last-32 : Refuses (1 ∷ 1 ∷ 5 ∷ 32 ∷ 2 ∷ []) 5 0
-  -- 6: pattern 1 of one, and the second max around a variable that has one, though none guards that
+  -- 6: pattern 1 where there is only pattern 0, and depth 1 below a single max, guarded or not
   pub pattern-1 : Refuses (1 ∷ 1 ∷ 5 ∷ 5 ∷ 5 ∷ 1 ∷ 2 ∷ []) 6 4
   pub depth-1 : Refuses (6 ∷ 7 ∷ 1 ∷ []) 6 1
   -- 7: the necessity stands above the max, above the inner one of two, or in the other part of a "both"
