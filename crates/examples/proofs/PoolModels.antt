@@ -20,9 +20,10 @@ use Rattle.models.specs.Monitored.{suppressing}
 use Rattle.models.specs.Phone.{Phone, StepIn, modelOf}
 use Rattle.models.specs.File.{statesOf, stepsAt, phoneOf}
 use Rattle.models.specs.Judging.{judgingOf, JudgedAs}
-use Rattle.models.specs.Promises.{Enforces, Safe}
+use Rattle.models.specs.Promises.{Enforces}
 use Rattle.models.specs.declared.Judged.the-variants.{Meets, Breaks}
-use Rattle.models.proofs.SatisfactionLaws.{satisfies-safe, decided-safe}
+use Rattle.models.proofs.SatisfactionLaws.{satisfies-safe}
+use Rattle.models.proofs.DecidedSets.{decided-satisfies}
 use Rattle.models.proofs.BisimulationLaws.{bisimilar-alike}
 use Rattle.models.proofs.DemandThree.{demand-three}
 use Rattle.models.proofs.JudgingLaws.{judging-case}
@@ -79,17 +80,14 @@ breaking-walk =
     let steps = breakingPhone .steps in
     code-first (step-at steps 0 (omega arith)) (silent-first (step-at steps 1 (omega arith)) (code-first (step-at steps 2 (omega arith)) stay))
 
-breaking-unsafe : Safe (modelOf breakingPhone) poolRule → ⊥
-breaking-unsafe safe = safe (37 ∷ 5 ∷ []) 0 breaking-walk cancel-issue
-
 breaking-unsatisfied : Satisfies (modelOf breakingPhone) poolRule → ⊥
-breaking-unsatisfied sat = breaking-unsafe (satisfies-safe (modelOf breakingPhone) poolRule .0 sat)
+breaking-unsatisfied sat = satisfies-safe (modelOf breakingPhone) poolRule .0 sat (37 ∷ 5 ∷ []) 0 breaking-walk cancel-issue
 
 breaking : Breaking
 breaking = record {
   file = breaking-read;
   unsatisfied = breaking-unsatisfied;
-  judged = judges-broken breakingFile breakingPhone breaking-read (λ sat. breaking-unsafe (decided-safe (modelOf breakingPhone) poolRule sat));
+  judged = judges-broken breakingFile breakingPhone breaking-read (λ sat. breaking-unsatisfied (decided-satisfies breakingPhone poolRule .0 sat));
   changed = λ table room alike. breaking-unsatisfied (
       bisimilar-alike (modelOf breakingPhone) (behind poolFile table (modelOf breakingPhone)) alike poolRule .1
       (pool-enforces breakingFile breakingPhone breaking-read (search arith) table room .satisfies));
@@ -129,31 +127,29 @@ no-issue syncs = refl
 leads-back : {c t : ℕ} → MeetingStep 1 (code c) t → t ≡ 0
 leads-back syncs = refl
 
--- It meets the rule by a set that has state 0 alone, whatever sets are.
-module _ {ℓ} (Sets : Type ℓ) (Has : Sets → ℕ → Type 0) (X : Sets) (only : (s : ℕ) → Has X s → s ≡ 0) (has : Has X 0) where
-  abbrev Holds : List Sets → Formula → ℕ → Type ℓ
-  Holds = SatisfiesWith (modelOf meetingPhone) (coveredBy (poolRule .patterns)) Sets Has
+-- It meets the rule by a set that has state 0 alone.
+abbrev Start : ℕ → Type 0
+Start s = s ≡ 0
 
-  after-first : {c t : ℕ} → MeetingStep 0 (code c) t → Holds (X ∷ []) (both (necessity 1 falsity) (necessity 2 (variable 0))) t
-  after-first cancels = (
-    λ c t q x. absurd (true≢false (sym q ∙ no-issue (weak-step x))),
-    λ c t q x. record { lower = rw (leads-back (weak-step x)) has },
-  )
+abbrev Holds : List (ℕ → Type 0) → Formula → ℕ → Type 1
+Holds = SatisfiesWith (modelOf meetingPhone) (coveredBy (poolRule .patterns)) (ℕ → Type 0) (λ X s. X s)
 
-  meeting-holds : Holds [] (poolRule .formula) 0
-  meeting-holds = (X, λ s h c t q x. after-first (weak-step (rw (only s h) at x)), has)
+after-first : {c t : ℕ} → MeetingStep 0 (code c) t → Holds (Start ∷ []) (both (necessity 1 falsity) (necessity 2 (variable 0))) t
+after-first cancels = (
+  λ c t q x. absurd (true≢false (sym q ∙ no-issue (weak-step x))),
+  λ c t q x. record { lower = leads-back (weak-step x) },
+)
+
+meeting-satisfied : Satisfies (modelOf meetingPhone) poolRule
+meeting-satisfied = (Start, λ s h c t q x. after-first (weak-step (rw h at x)), refl)
 
 meeting : Meeting
 meeting = record {
   file = meeting-read;
-  satisfied = satisfied;
-  judged = judges-met meetingFile meetingPhone meeting-read
-      (meeting-holds (ℕ → Bool) (λ X s. X s ≡ true) (λ s. eqb s 0) (λ s. eqb-true s 0) refl);
-  unchanged = λ table room. pool-enforces meetingFile meetingPhone meeting-read (search arith) table room .bisimilar satisfied;
+  satisfied = meeting-satisfied;
+  judged = judges-met meetingFile meetingPhone meeting-read (decided-satisfies meetingPhone poolRule .1 meeting-satisfied);
+  unchanged = λ table room. pool-enforces meetingFile meetingPhone meeting-read (search arith) table room .bisimilar meeting-satisfied;
 }
-  where
-    satisfied : Satisfies (modelOf meetingPhone) poolRule
-    satisfied = meeting-holds (ℕ → Type 0) (λ X s. X s) (λ s. s ≡ 0) (λ s h. h) refl
 
 pub model-examples : ModelExamples
 model-examples = record { breaking = breaking; meeting = meeting; shortening = shortening; distinctions = distinctions }
