@@ -12,7 +12,7 @@ use Rattle.models.specs.Satisfaction.{InVariable, SatisfiesWith}
 use Rattle.models.specs.Phone.{Phone, modelOf}
 use Rattle.models.specs.Promises.{DecidedSatisfies}
 use Rattle.models.proofs.GreatestSets.{Within, greatest}
-use Rattle.models.proofs.PhoneStates.{statesIn, Loaded, start-listed, weak-listed}
+use Rattle.models.proofs.PhoneStates.{statesIn, Listed, start-listed, weak-listed}
 use Rattle.models.proofs.Necessities.{necessary, necessary-leads, necessary-of}
 
 -- ---- decided sets are sets
@@ -58,17 +58,17 @@ module _ (m : Model) (covered : (pattern code : ℕ) → Bool) where
 module _ (y : Phone) (covered : (pattern code : ℕ) → Bool) where
   -- Every listed state of the sets Ps of the maxes around is in the decided ones Xs.
   abbrev Around : List (ℕ → Type 0) → List (ℕ → Bool) → Type 0
-  Around Ps Xs = (d s : ℕ) → Loaded y s → InAny (modelOf y) covered Ps d s → InDecided (modelOf y) covered Xs d s
+  Around Ps Xs = (d s : ℕ) → Listed y s → InAny (modelOf y) covered Ps d s → InDecided (modelOf y) covered Xs d s
 
   -- A decided set whose states satisfy f with Xs, and which has every listed state that satisfies f with any sets within Xs.
   record Decision (Xs : List (ℕ → Bool)) (f : Formula) : Type 1 where
     set : ℕ → Bool
     satisfied : (s : ℕ) → set s ≡ true → SatisfiesDecidedly (modelOf y) covered Xs f s
     complete : (Ps : List (ℕ → Type 0)) → Around Ps Xs
-        → (s : ℕ) → Loaded y s → SatisfiesAny (modelOf y) covered Ps f s → set s ≡ true
+        → (s : ℕ) → Listed y s → SatisfiesAny (modelOf y) covered Ps f s → set s ≡ true
 
   around-more : (Ps : List (ℕ → Type 0)) (Xs : List (ℕ → Bool)) → Around Ps Xs
-      → (P : ℕ → Type 0) (X : ℕ → Bool) → Within (λ s. Loaded y s × P s) X → Around (P ∷ Ps) (X ∷ Xs)
+      → (P : ℕ → Type 0) (X : ℕ → Bool) → Within (λ s. Listed y s × P s) X → Around (P ∷ Ps) (X ∷ Xs)
   around-more Ps Xs around P X within zero s l h = within s (l, h)
   around-more Ps Xs around P X within (suc d) s l h = around d s l h
 
@@ -113,7 +113,7 @@ module _ (y : Phone) (covered : (pattern code : ℕ) → Bool) where
         set = g .set;
         satisfied = λ s e. (g .set, (λ t i. decision f (g .set ∷ Xs) .satisfied t (g .passes t i)), e);
         complete = λ Ps around s l h.
-            g .contains (λ v. Loaded y v × h .0 v)
+            g .contains (λ v. Listed y v × h .0 v)
             (λ Y within v i. decision f (Y ∷ Xs) .complete (h .0 ∷ Ps) (around-more Ps Xs around (h .0) Y within) v (i .0) (h .1 v (i .1)))
             (λ v i. lt-ltb _ _ (i .0)) s (l, h .2);
       }

@@ -7,7 +7,7 @@ use borrow.Author.Tests.{lt-ltb}
 use Rattle.models.specs.Model.{Label, silent, code, Walk, stay, silent-first, Weak}
 use Rattle.models.specs.Phone.{Phone, StepIn, modelOf}
 use Rattle.models.proofs.GreatestSets.{Within, Greatest, greatest}
-use Rattle.models.proofs.PhoneStates.{statesIn, Loaded, step-listed}
+use Rattle.models.proofs.PhoneStates.{statesIn, Listed, step-listed}
 use Rattle.models.proofs.LeadingSteps.{leads, leads-is}
 
 abbrev isSilent : Label → Bool
@@ -39,15 +39,15 @@ module _ (y : Phone) (X : ℕ → Bool) where
   always-leads (silent-first x walk) h =
       always-leads walk (leads-is (y .steps) isSilent (always .set) _ .0 (always-remains _ h .1) silent _ refl x)
 
-  always-of : (s : ℕ) → Loaded y s → Always s → always .set s ≡ true
-  always-of s l h = always .contains (λ v. Loaded y v × Always v) passes (λ v p. lt-ltb _ _ (p .0)) s (l, h)
+  always-of : (s : ℕ) → Listed y s → Always s → always .set s ≡ true
+  always-of s l h = always .contains (λ v. Listed y v × Always v) passes (λ v p. lt-ltb _ _ (p .0)) s (l, h)
     where
-      next : (Y : ℕ → Bool) → Within (λ v. Loaded y v × Always v) Y → (v : ℕ) → Always v
+      next : (Y : ℕ → Bool) → Within (λ v. Listed y v × Always v) Y → (v : ℕ) → Always v
           → (a : Label) (t : ℕ) → isSilent a ≡ true → StepIn (y .steps) v a t → Y t ≡ true
       next Y within v p silent t e x = within t (step-listed y x, λ u walk. p u (silent-first x walk))
       next Y within v p (code c) t e x = absurd (false≢true e)
 
-      passes : (Y : ℕ → Bool) → Within (λ v. Loaded y v × Always v) Y → Within (λ v. Loaded y v × Always v) (remains Y)
+      passes : (Y : ℕ → Bool) → Within (λ v. Listed y v × Always v) Y → Within (λ v. Listed y v × Always v) (remains Y)
       passes Y within v p =
           and-eq-true-iff (X v) (leads (y .steps) isSilent Y v) .1
           (p .1 v stay, leads-is (y .steps) isSilent Y v .1 (next Y within v (p .1)))
@@ -70,7 +70,7 @@ module _ (y : Phone) (covered : ℕ → Bool) (X : ℕ → Bool) where
       always-leads y X (w .silent-after)
       (leads-is (y .steps) (isCode covered) (always y X .set) _ .0 (always-leads y afterCode (w .silent-before) h) (code c) _ e (w .step))
 
-  pub necessary-of : (s : ℕ) → Loaded y s → Necessary s → necessary s ≡ true
+  pub necessary-of : (s : ℕ) → Listed y s → Necessary s → necessary s ≡ true
   necessary-of s l h =
       always-of y afterCode s l (λ u walk. leads-is (y .steps) (isCode covered) (always y X .set) u .1 (next u walk))
     where

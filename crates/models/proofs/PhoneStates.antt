@@ -15,23 +15,23 @@ abbrev pub statesIn : Phone → List ℕ
 statesIn y = 0 ∷ map (λ (x : Step). x .to) (y .steps)
 
 module _ (y : Phone) where
-  abbrev pub Loaded : ℕ → Type 0
-  Loaded s = Member s (statesIn y)
+  abbrev pub Listed : ℕ → Type 0
+  Listed s = Member s (statesIn y)
 
-  pub start-listed : Loaded 0
+  pub start-listed : Listed 0
   start-listed = member-at 0 (statesIn y) 0 (omega arith) refl
 
-  pub step-listed : {s t : ℕ} {a : Label} → StepIn (y .steps) s a t → Loaded t
+  pub step-listed : {s t : ℕ} {a : Label} → StepIn (y .steps) s a t → Listed t
   step-listed {t = t} x =
       member-at t (statesIn y) (suc (x .place)) (omega (arith, x .inside, length-map (y .steps) (λ (x : Step). x .to)))
       (List·getD-map (λ (x : Step). x .to) (y .steps) (x .place) noStep ∙ x .to-is)
 
-  walk-listed : {s t : ℕ} {w : List ℕ} → Walk (modelOf y) s w t → Loaded s → Loaded t
+  walk-listed : {s t : ℕ} {w : List ℕ} → Walk (modelOf y) s w t → Listed s → Listed t
   walk-listed stay h = h
   walk-listed (silent-first x walk) h = walk-listed walk (step-listed x)
   walk-listed (code-first x walk) h = walk-listed walk (step-listed x)
 
-  pub weak-listed : {s c t : ℕ} → Weak (modelOf y) s c t → Loaded t
+  pub weak-listed : {s c t : ℕ} → Weak (modelOf y) s c t → Listed t
   weak-listed w = walk-listed (w .silent-after) (step-listed (w .step))
 
 pub phones-finite : PhonesFinite

@@ -1,4 +1,4 @@
--- `models::exploring::search` meets its contract: a walk of its MIR. The loop's invariant is that the search is at the cursor, and its measure
+-- `exploring::search` meets its contract: a walk of its MIR. The loop's invariant is that the search is at the cursor, and its measure
 -- is how much may still be followed. Of `step_at` and `follow` it knows the contract alone. Assumes nothing.
 use mathlib.Core.Path.{refl}
 use mathlib.Core.List.{[], _∷_}

@@ -1,4 +1,4 @@
--- `models::exploring::search_array` meets its contract: a walk of its MIR. The array lies in a slot of its own, is lent once, and comes back.
+-- `exploring::search_array` meets its contract: a walk of its MIR. The array lies in a slot of its own, is lent once, and comes back.
 -- Assumes nothing.
 use mathlib.Core.Path.{_≡_, refl, sym}
 use Prim.Native.Nat.{ℕ}

@@ -1,4 +1,4 @@
--- `next_step` meets its contract: each of its three ways out.
+-- `loading::next_step` meets its contract: each of its three ways out.
 use mathlib.Core.Path.{_≡_, sym, _∙_}
 use Prim.Native.Nat.{_+_, _-_, _≤_, _<_}
 use lib.ListN.{length}

@@ -1,4 +1,4 @@
--- `read_array` meets its contract: a walk of its MIR. The array lies in a local and is lent for the one call, for a lifetime that the walk makes.
+-- `loading::read_array` meets its contract: a walk of its MIR. The array lies in a local and is lent for the one call, for a lifetime that the walk makes.
 use mathlib.Core.Path.{_≡_, refl, sym}
 use Prim.Native.Nat.{ℕ, _<_, _^_}
 use mathlib.Core.List.{List, [], _∷_}
@@ -59,9 +59,9 @@ use Rattle.models.proofs.loading.read_array.Key.{name as #read-array}
 use Rattle.models.proofs.loading.read_array as read-array
 use Rattle.models.proofs.loading.read_array.Statement as stated
 use Rattle.models.proofs.loading.read_array.Code as code
-use Rattle.models.proofs.loading.read_array.Proof.Result.{the-loaded, L, listed, listed-low, listed-is}
+use Rattle.models.proofs.loading.read_array.Proof.Result.{the-loaded, L, loaded-of, loaded-low, loaded-is}
 use Rattle.models.proofs.loading.read_array.Proof.LentArray.{lends-array, array-back}
-use Rattle.models.proofs.loading.read_array.Proof.Called.{ReadSteps, Loaded, to-steps, asks-steps, steps-told}
+use Rattle.models.proofs.loading.read_array.Proof.Called.{ReadSteps, Returned, to-steps, asks-steps, steps-told}
 mod Result
 mod LentArray
 mod Called
@@ -88,15 +88,15 @@ module _ {M : Type 1} (𝓤 : URA M) (H : Heap 𝓤) (A : Atoms 𝓤) (W : Given
   abbrev Post : Val → SProp 𝓤
   Post = walkOf 𝓤 H A read-array.ended stayed (read-array.clauses 𝓤 H A mem run) .post bound
 
-  exits : (x : Next) (zs : List Step) → Is L (listed x zs) (listed-low x zs ∷ []) → LoadedAs (stepsAt 512 f states 2) zs (x .answer) (x .n)
-      → ent 𝓤 (⋆ 𝓤 H A (‵ (flft κ q) ∷ ‵ (File κ b o γ f) ∷ [])) (Post (listed-low x zs))
+  exits : (x : Next) (zs : List Step) → Is L (loaded-of x zs) (loaded-low x zs ∷ []) → LoadedAs (stepsAt 512 f states 2) zs (x .answer) (x .n)
+      → ent 𝓤 (⋆ 𝓤 H A (‵ (flft κ q) ∷ ‵ (File κ b o γ f) ∷ [])) (Post (loaded-low x zs))
   exits x zs is loaded =
       qed W (‵ (flft κ q) ∷ ‵ (File κ b o γ f) ∷ []) ∵
-      suffices ! _ (ends-at 𝓤 H A read-array.ended stayed (read-array.clauses 𝓤 H A mem run) W bound (listed-low x zs) (listed x zs)
+      suffices ! _ (ends-at 𝓤 H A read-array.ended stayed (read-array.clauses 𝓤 H A mem run) W bound (loaded-low x zs) (loaded-of x zs)
       (tt, (tt, (tt, tt))) (tt, (tt, (tt, tt)))) $ says ! loaded $ nothing ! $ move ! (1 ∷ 0 ∷ []) $ join ! $ frame ! $
       nothing ! $ owned ! AR (Is AR) (array-made 𝓤 H A W) xs _ is-array $ fjoin ! $
       owned ! usize (Is usize) (uint-makes 𝓤 H A W w64) states _ (refl, states-fits) $ fjoin ! $ move ! (1 ∷ 0 ∷ []) $ fjoin ! $ frame ! $
-      owned ! L (Is L) (makes the-loaded 𝓤 H A) (listed x zs) _ is $ done !
+      owned ! L (Is L) (makes the-loaded 𝓤 H A) (loaded-of x zs) _ is $ done !
 
   module _ (C : Calls 𝓤 H) (Λ : Loops 𝓤 H) (fm : FmC 𝓤 H (W .laws) C) (known : Triple 𝓤 (C #read-steps) (ReadSteps 𝓤 H A mem run)) where
     abbrev to : ℕ → ℕ → GName → ReadSteps 𝓤 H A mem run .Ghost
@@ -128,7 +128,7 @@ module _ {M : Type 1} (𝓤 : URA M) (H : Heap 𝓤) (A : Atoms 𝓤) (W : Given
         -- [what read_steps asks; the file; true; the claim; _8; …; _5; …; what frees _4; _3; …; _0; …]
         calls-at ! fm (ReadSteps 𝓤 H A mem run) known (to α l₄ δ) (and-then ! (reads-local ! 17 refl)
         (and-then ! (reads-local ! 15 refl) (and-then ! (reads-local ! 6 refl) (no-more !)))) (λ w.
-        use1 W (later (some (λ (p : Next × List Step). given (Loaded κ (α ∷ []) b o γ f states l₄ δ xs w p)
+        use1 W (later (some (λ (p : Next × List Step). given (Returned κ (α ∷ []) b o γ f states l₄ δ xs w p)
         (‵ (flft κ q) ⊛ ‵ (flft (α ∷ []) fullShare) ⊛ ‵ (finally R δ (p .1))))))
         (steps-told κ (α ∷ []) b o γ f states l₄ δ xs 𝓤 H A W mem run q w) $ await ! tt $ pick ! (λ p. learn ! (λ got.
         let x = p .0 in
@@ -139,12 +139,12 @@ module _ {M : Type 1} (𝓤 : URA M) (H : Heap 𝓤) (A : Atoms 𝓤) (W : Given
         lft-end ! tt $ move ! (0 ∷ 5 ∷ 1 ∷ []) $
         use3 W (later (given (Is AR zs (array-low zs ∷ [])) (‵ (fat fullShare arrayTy l₄ 0 (array-low zs)))))
         (array-back 𝓤 H A W (α ∷ []) l₄ xs long δ zs) $ await ! tt $ learn ! (λ is-list.
-        let is = listed-is x zs (got .1) is-list in
+        let is = loaded-is x zs (got .1) is-list in
         -- [_4; the token of the file; the file; true; _8; …; _5; …; what frees _4; _3; …; _0; …]
         sets-local ! (of-opd ! (reads-local ! 0 refl)) 4 refl (array-typed 𝓤 H A W zs is-list) $
         sets-local ! (agg ! (and-then ! (reads-field ! 10 1 {d = 8} refl refl refl)
         (and-then ! (reads-local ! 4 refl)
-        (and-then ! (reads-field ! 10 3 {d = 32} refl refl refl) (no-more !))))) 19 refl (typed the-loaded 𝓤 H A W (listed x zs) _ is) $
+        (and-then ! (reads-field ! 10 3 {d = 32} refl refl refl) (no-more !))))) 19 refl (typed the-loaded 𝓤 H A W (loaded-of x zs) _ is) $
         returns ! (look ! 19 refl) $ frees-cell ! 19 19 refl refl $ frees-cell ! 17 17 refl refl $ frees-cell ! 15 15 refl refl $
         frees-cell ! 13 13 refl refl $ frees-cell ! 0 11 refl refl $ frees-cell ! 9 9 refl refl $ frees-cell ! 7 7 refl refl $
         frees-cell ! 5 5 refl refl $ frees-cell ! 3 3 refl refl $ free0 ! $ keep ! (0 ∷ 1 ∷ []) $ by ! (exits x zs is (got .2)))))))))))))))))

@@ -1,4 +1,4 @@
--- `read_steps` meets its contract: a walk of its MIR. The loop keeps what is read so far; the measure is how many records are left.
+-- `loading::read_steps` meets its contract: a walk of its MIR. The loop keeps what is read so far; the measure is how many records are left.
 use mathlib.Core.Path.{_≡_, refl}
 use mathlib.Core.Bool.{false}
 use Prim.Native.Nat.{ℕ, _<_, _^_}

@@ -1,4 +1,4 @@
--- `put_step` meets its contract: a walk of its MIR. The record goes to i times six bytes past the slice's pointer, and the other records stay.
+-- `steps::put_step` meets its contract: a walk of its MIR. The record goes to i times six bytes past the slice's pointer, and the other records stay.
 -- The bound on i is the contract's; the code doesn't test it.
 use mathlib.Core.Path.{_≡_, refl, sym, ap, subst}
 use Prim.Native.Nat.{ℕ, _<_, _*_, _^_}

@@ -1,4 +1,4 @@
--- `models::steps::step_at` meets its contract: a walk of its MIR. The record at i lies six times i bytes past the slice's pointer, and is
+-- `steps::step_at` meets its contract: a walk of its MIR. The record at i lies six times i bytes past the slice's pointer, and is
 -- copied from there. The code checks no bound: the contract asks for it. Assumes nothing.
 use mathlib.Core.Path.{refl, sym}
 use Prim.Native.Nat.{ℕ, _<_, _*_, _^_}

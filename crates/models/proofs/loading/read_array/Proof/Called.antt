@@ -55,8 +55,8 @@ module _ (κ ν : Lft) (b o : ℕ) (γ : GName) (f : List ℕ) (states : ℕ) (b
   Read r zs = LoadedAs (stepsAt 512 f states 2) zs (r .answer) (r .n)
 
   -- what is known of the result r, which the machine has as w, and of the last records
-  abbrev pub Loaded : Val → Next × List Step → Type 0
-  Loaded w (r, zs) = (w ≡ low the-next r) × IsNext r × Read r zs
+  abbrev pub Returned : Val → Next × List Step → Type 0
+  Returned w (r, zs) = (w ≡ low the-next r) × IsNext r × Read r zs
 
   module _ {M : Type 1} (𝓤 : URA M) (H : Heap 𝓤) (A : Atoms 𝓤) (W : Given 𝓤 H A) (mem : Memory → SProp 𝓤) (run : Routine → Fun 𝓤) (q : Share) where
     abbrev pub to-steps : ReadSteps 𝓤 H A mem run .Ghost
@@ -79,7 +79,7 @@ module _ (κ ν : Lft) (b o : ℕ) (γ : GName) (f : List ℕ) (states : ℕ) (b
             move ! (1 ∷ 0 ∷ []) $ fjoin ! $ done !
 
     abbrev Given-back : Val → Next × List Step → SProp 𝓤
-    Given-back w p = guard 𝓤 (Loaded w p) (sep 𝓤 (A .lft κ q) (sep 𝓤 (A .lft ν fullShare) (sem 𝓤 H A (finally R δ (p .1)))))
+    Given-back w p = guard 𝓤 (Returned w p) (sep 𝓤 (A .lft κ q) (sep 𝓤 (A .lft ν fullShare) (sem 𝓤 H A (finally R δ (p .1)))))
 
     pub steps-told : (w : Val) → ent 𝓤 (ReadSteps 𝓤 H A mem run .post to-steps w) (H .⇛ (ex 𝓤 (Given-back w)))
     steps-told w =

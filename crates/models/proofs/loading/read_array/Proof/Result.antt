@@ -24,11 +24,11 @@ the-loaded = record { type = T.the-type; laws = T′.the-laws; plain = T′.the-
 abbrev pub L : RattleType
 L = row-of the-loaded
 
-abbrev pub listed : Next → List Step → Loaded
-listed x zs = record { answer = x .answer; steps = zs; nsteps = x .n }
+abbrev pub loaded-of : Next → List Step → Loaded
+loaded-of x zs = record { answer = x .answer; steps = zs; nsteps = x .n }
 
-abbrev pub listed-low : Next → List Step → Val
-listed-low x zs = vstruct (ofList (answer-low x ∷ array-low zs ∷ vint w64 (x .n) ∷ []))
+abbrev pub loaded-low : Next → List Step → Val
+loaded-low x zs = vstruct (ofList (answer-low x ∷ array-low zs ∷ vint w64 (x .n) ∷ []))
 
 -- records one by one, as a field has them
 each-field : (zs : List Step) (us : List Val) → shadow (each Step (R .own) zs us)
@@ -39,8 +39,8 @@ each-field (z ∷ zs) [] s = s
 each-field (z ∷ zs) (u ∷ us) s = (s .0, each-field zs us (s .1))
 
 module _ (x : Next) (zs : List Step) where
-  pub listed-is : IsNext x → Is AR zs (array-low zs ∷ []) → Is L (listed x zs) (listed-low x zs ∷ [])
-  listed-is is array-is =
+  pub loaded-is : IsNext x → Is AR zs (array-low zs ∷ []) → Is L (loaded-of x zs) (loaded-low x zs ∷ [])
+  loaded-is is array-is =
       let (us, ((e, long), all)) = array-is in (
         (answer-low x ∷ [], (array-low zs ∷ [], (vint w64 (x .n) ∷ [], tt))),
         (refl, (answer-is x is, ((us, ((e, length-map zs (Step′.the-field .into) ∙ long), each-field zs us all)), ((refl, n-fits x is), tt)))),
