@@ -16,7 +16,7 @@ use Rattle.synthesis.specs.Search.{place}
 use Rattle.synthesis.specs.Table.{rowOf, entry, filled}
 use Rattle.synthesis.specs.Building.{equationsOf, Synthesis, synthesisOf, buildingOf, countedOf, tableAfter}
 use Rattle.synthesis.specs.declared.Counted.the-variants.{Equations}
-use Rattle.synthesis.specs.Promises.{TableMonitors, DropsViolations, TableDrops, RefusesHopeless}
+use Rattle.synthesis.specs.Promises.{TableMonitors, TableDrops, RefusesHopeless}
 use Rattle.synthesis.specs.Promises.{RowInRange, EntriesInRange, EntryAnswers, EntriesAnswer, SameAfterRows, TableRest}
 use Rattle.synthesis.proofs.AnsweringLaws.{answers-as-defined}
 use Rattle.synthesis.proofs.RuleMonitor.{rule-monitors, hopeless-iff}
@@ -114,10 +114,6 @@ module _ (limit mark : ℕ) (s table : List ℕ) where
           let is = table-answers 256 mark (answerOf r) l (equations-closed limit r (admits .few)) table (admits .room) few k c h b in
           let defined = answers-as-defined r (file-well-formed s bytes r (admits .read)) in
           record { answers = subst (Answers r (getD l k 0) c) (sym (is .0)) (defined .answers (getD l k 0) c); under = is .1 }
-
-      -- a code is dropped exactly when the codes kept so far, followed by it, violate the rule
-      pub built-drops : (y : Synthesis) → buildingOf limit s (length table) ≡ accepted y → DropsViolations (y .rule) (entry 256 mark left) 0
-      built-drops y e = drops-violations (y .rule) (entry 256 mark left) 0 (built-monitors y e)
 
 -- ---- the promises
 

@@ -1,10 +1,8 @@
--- Laws of the search for equations: what is found stays in its place, is distinct and reached, and is all once there are no more
--- equations than turns.
-use Prim.Native.Nat.{ℕ, zero, suc, _+_, _≤_, _<_}
+-- Laws of the search for equations: what is found is distinct and reached, and is all once there are no more equations than turns.
+use Prim.Native.Nat.{ℕ, zero, suc, _≤_, _<_}
 use mathlib.Core.Path.{_≡_, refl, sym, _∙_, ap}
 use mathlib.Core.Bool.{Bool, true, false, cond}
 use mathlib.Core.List.{List, [], _∷_, _++_, append-assoc, append-nil}
-use native.Mathlib.Nat.{zero-add, suc-add}
 use native.Mathlib.Decide.{decLt}
 use native.Mathlib.Omega.{arith}
 use lib.Dec.{ltb}
@@ -108,16 +106,6 @@ module _ (codes : ℕ) (answer : ℕ → ℕ → Answer ℕ) where
 
   -- ---- what is found grows at the end
 
-  pub found-next : (turns first : ℕ) → Grows (found codes answer turns first) (found codes answer (suc turns) first)
-  unfolding found
-  found-next k first = turn-grows k (found codes answer k first)
-
-  pub found-more : (more turns first : ℕ) → Grows (found codes answer turns first) (found codes answer (more + turns) first)
-  found-more zero k first = rw zero-add (grows-same (found codes answer k first))
-  found-more (suc n) k first =
-      let l : ℕ → List ℕ = λ turns. found codes answer turns first in
-      rw suc-add (grows-on (l k) (l (n + k)) (l (suc (n + k))) (found-more n k first) (found-next (n + k) first))
-
   pub found-grows : (turns first : ℕ) → Grows (first ∷ []) (found codes answer turns first)
   found-grows k first =
       found-keeps (Grows (first ∷ [])) first (grows-same (first ∷ []))
@@ -129,21 +117,7 @@ module _ (codes : ℕ) (answer : ℕ → ℕ → Answer ℕ) where
       let g = found-grows k first in
       (rw (g .1) (omega arith), grows-at (first ∷ []) (found codes answer k first) 0 g (omega arith))
 
-  -- a turn without an equation finds nothing
-  found-idle : (turns first : ℕ) → length (found codes answer turns first) ≤ turns
-      → found codes answer (suc turns) first ≡ found codes answer turns first
-  unfolding found
-  found-idle k first h = turn-none k (found codes answer k first) h
-
-  -- once there are no more equations than turns, further turns find nothing
-  pub found-done : (more turns first : ℕ) → length (found codes answer turns first) ≤ turns
-      → found codes answer (more + turns) first ≡ found codes answer turns first
-  found-done zero k first h = rw zero-add
-  found-done (suc n) k first h =
-      let same = found-done n k first h in
-      rw suc-add (found-idle (n + k) first (rw same (omega arith)) ∙ same)
-
-  -- ---- all of them are found once
+  -- ---- each is found once
 
   pub found-distinct : (turns first : ℕ) → Distinct (found codes answer turns first)
   found-distinct k first =

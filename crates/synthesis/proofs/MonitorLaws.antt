@@ -19,11 +19,6 @@ module _ {E : Type 0} (answer : E → ℕ → Answer E) where
   loses-rest p (now q) = absurd (let z : _≡_ {A = ℕ} 0 1 = cc in omega arith)
   loses-rest {e′ = e′} p (later {e′ = x} q l) = let z : e′ ≡ x = cc in rw z l
 
-  -- what is lost stays lost, whatever comes after
-  pub loses-append : {e : E} {w : List ℕ} (v : List ℕ) → Loses answer e w → Loses answer e (w ++ v)
-  loses-append v (now q) = now q
-  loses-append v (later q l) = later q (loses-append v l)
-
   -- nothing of what was kept is lost
   pub kept-loses : (e : E) (w : List ℕ) → Loses answer e (kept answer e w) → ⊥
   kept-loses =
