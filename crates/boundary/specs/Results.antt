@@ -2,7 +2,7 @@
 -- place of the refusal.
 use Prim.Native.Nat.{ℕ}
 use mathlib.Core.Path.{_≡_}
-use Rattle.reading.specs.Outcome.{Outcome}
+use Rattle.reading.specs.File.{Outcome}
 use Rattle.synthesis.specs.declared.Counted.{Counted}
 use Rattle.synthesis.specs.declared.Counted as Counted′
 use Rattle.running.specs.Running.{Run, ranOf}

@@ -5,8 +5,7 @@ use Prim.Native.Nat.{ℕ}
 use native.Mathlib.Omega.{arith}
 use lib.ListN.{length}
 use Rattle.reading.specs.Rule.{Bytes}
-use Rattle.reading.specs.Outcome.{Outcome, accepted, refused}
-use Rattle.reading.specs.File.{ruleOf}
+use Rattle.reading.specs.File.{Outcome, accepted, refused, ruleOf}
 use Rattle.reading.specs.Numbered.{readingOf}
 use Rattle.reading.proofs.Accepted.{reading-accepts}
 use Rattle.reading.proofs.Prefix.{first-bytes}

@@ -6,7 +6,7 @@ use mathlib.Core.List.{List}
 use native.Mathlib.Omega.{arith}
 use lib.ListN.{length}
 use Rattle.reading.specs.Rule.{Bytes}
-use Rattle.reading.specs.Outcome.{Outcome}
+use Rattle.reading.specs.File.{Outcome}
 use Rattle.synthesis.specs.Building.{Synthesis, countedOf, tableAfter}
 use Rattle.synthesis.specs.declared.Counted.the-variants.{Equations}
 use Rattle.running.specs.Running.{WellFormedTable, runOf, ranOf}

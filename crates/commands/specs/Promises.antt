@@ -4,8 +4,7 @@ use mathlib.Core.List.{List}
 use Prim.Native.Nat.{ℕ}
 use lib.ListN.{length, take}
 use Rattle.reading.specs.Rule.{Rule, Bytes}
-use Rattle.reading.specs.Outcome.{accepted}
-use Rattle.reading.specs.File.{ruleOf}
+use Rattle.reading.specs.File.{accepted, ruleOf}
 use Rattle.reading.specs.Numbered.{readingOf}
 use Rattle.synthesis.specs.Building.{buildingOf, countedOf, tableAfter}
 use Rattle.synthesis.specs.declared.Counted.the-variants.{Equations, Refused}

@@ -6,7 +6,7 @@ use mathlib.Core.Logic.{_⊎_}
 use mathlib.Core.List.{List}
 use lib.ListN.{length}
 use Rattle.reading.specs.Rule.{Bytes}
-use Rattle.reading.specs.Outcome.{Outcome}
+use Rattle.reading.specs.File.{Outcome}
 use Rattle.synthesis.specs.Building.{Synthesis, buildingOf, countedOf, tableAfter}
 use Rattle.synthesis.specs.declared.Counted.the-variants.{Equations}
 use Rattle.running.specs.Running.{runOf, checkedOf, ranOf}

@@ -7,9 +7,7 @@ use native.Mathlib.Omega.{arith}
 use lib.ListN.{getD}
 use Rattle.reading.specs.Rule.{Rule}
 use Rattle.synthesis.specs.Violation.{ViolatesRule, by-body}
-use Rattle.models.specs.Model.{silent, Walk, stay, code-first, Finite}
-use Rattle.models.specs.Satisfaction.{Satisfies}
-use Rattle.models.specs.Bisimulation.{Bisimilar}
+use Rattle.models.specs.Model.{silent, Walk, stay, code-first, Finite, Satisfies, Bisimilar}
 use Rattle.models.specs.Phone.{modelOf}
 use Rattle.models.proofs.Walks.{walk-append}
 use Rattle.models.proofs.PhoneStates.{phones-finite}

@@ -4,8 +4,7 @@ use mathlib.Core.Path.{_≡_, sym, subst}
 use mathlib.Core.List.{List}
 use native.Mathlib.Omega.{arith}
 use Rattle.synthesis.specs.Table.{entry}
-use Rattle.models.specs.Model.{Label, silent, code, Model}
-use Rattle.models.specs.Bisimulation.{Bisimilar}
+use Rattle.models.specs.Model.{Label, silent, code, Model, Bisimilar}
 use Rattle.models.specs.Monitored.{Response, passed, silenced, suppressing, Behind, silent-step, passed-step, silenced-step, monitored}
 use Rattle.models.specs.Phone.{StepIn, modelOf}
 use Rattle.examples.specs.Examples.{PoolRows}

@@ -6,8 +6,7 @@ use mathlib.Core.List.{List}
 use native.Mathlib.Omega.{arith}
 use lib.ListN.{length, getD}
 use Rattle.reading.specs.Rule.{Rule}
-use Rattle.reading.specs.Outcome.{accepted, refused}
-use Rattle.reading.specs.File.{ruleOf}
+use Rattle.reading.specs.File.{accepted, refused, ruleOf}
 use Rattle.synthesis.specs.Answering.{answerOf, hopeless}
 use Rattle.synthesis.specs.Table.{rowOf, entries}
 use Rattle.synthesis.specs.Building.{equationsOf, synthesisOf, countedOf}

@@ -5,9 +5,8 @@ use mathlib.Core.List.{List, [], _∷_, _++_}
 use native.Mathlib.Omega.{arith}
 use lib.ListN.{length, replicate, length-replicate}
 use Rattle.reading.specs.Rule.{All}
-use Rattle.reading.specs.Outcome.{accepted, refused}
-use Rattle.models.specs.Phone.{WellFormedStep, encodeSteps}
-use Rattle.models.specs.File.{statesOf, phoneOf}
+use Rattle.reading.specs.File.{accepted, refused}
+use Rattle.models.specs.Phone.{WellFormedStep, encodeSteps, statesOf, phoneOf}
 use Rattle.models.specs.declared.Step.{Step}
 use Rattle.models.proofs.StepBytes.{steps-full}
 use Rattle.models.proofs.Encoding.{states-read}

@@ -7,8 +7,7 @@ use native.Mathlib.Omega.{arith}
 use lib.ListN.{length, getD}
 use Rattle.reading.specs.Pattern.{bit, covers, least, howMany, extentOf}
 use Rattle.reading.specs.Rule.{Rule}
-use Rattle.reading.specs.Outcome.{accepted}
-use Rattle.reading.specs.File.{patternsAt, formulaAt, formulaOf, ruleOf}
+use Rattle.reading.specs.File.{accepted, patternsAt, formulaAt, formulaOf, ruleOf}
 use Rattle.synthesis.specs.Answering.{firstOf, answerOf, hopeless}
 use Rattle.synthesis.specs.Search.{noted, found}
 use Rattle.synthesis.specs.Table.{entries}

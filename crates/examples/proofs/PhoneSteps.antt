@@ -14,7 +14,7 @@ abbrev pub StepAt : List Step → (place : ℕ) → Type 0
 StepAt steps i = let x = getD steps i noStep in StepIn steps (x .from) (labelOf (x .label)) (x .to)
 
 pub step-at : (steps : List Step) (i : ℕ) → i < length steps → StepAt steps i
-step-at steps i h = record { place = i; inside = h; from-is = refl; label-is = refl; to-is = refl }
+step-at steps i h = record { index = i; inside = h; from-is = refl; label-is = refl; to-is = refl }
 
 -- What holds of every record holds of every step.
 module _ (P : ℕ → Label → ℕ → Type 0) where
@@ -27,4 +27,4 @@ module _ (P : ℕ → Label → ℕ → Type 0) where
   says-at (x ∷ steps) all (suc i) h = says-at steps (all .1) i (omega (arith, h))
 
   pub every-step : (steps : List Step) → All Says steps → {s t : ℕ} {a : Label} → StepIn steps s a t → P s a t
-  every-step steps all x = rw (← x .from-is, ← x .label-is, ← x .to-is) (says-at steps all (x .place) (x .inside))
+  every-step steps all x = rw (← x .from-is, ← x .label-is, ← x .to-is) (says-at steps all (x .index) (x .inside))

@@ -9,16 +9,13 @@ use lib.Dec.{eqb}
 use lib.ListN.{length}
 use borrow.Author.Tests.{eqb-true}
 use Rattle.reading.specs.Pattern.{bit, covers}
-use Rattle.reading.specs.Formula.{Formula, falsity, both, necessity, variable}
-use Rattle.reading.specs.Rule.{Bytes}
-use Rattle.reading.specs.Outcome.{accepted}
+use Rattle.reading.specs.Rule.{Formula, falsity, both, necessity, variable, Bytes}
+use Rattle.reading.specs.File.{accepted}
 use Rattle.synthesis.specs.Violation.{coveredBy, ViolatesRule, by-falsity, by-first, by-code, by-body}
 use Rattle.synthesis.specs.Table.{entry}
-use Rattle.models.specs.Model.{Label, silent, code, Walk, stay, silent-first, code-first, Weak}
-use Rattle.models.specs.Satisfaction.{SatisfiesWith, Satisfies, SatisfiesDecided}
+use Rattle.models.specs.Model.{Label, silent, code, Walk, stay, silent-first, code-first, Weak, SatisfiesWith, Satisfies, SatisfiesDecided}
 use Rattle.models.specs.Monitored.{suppressing}
-use Rattle.models.specs.Phone.{Phone, StepIn, modelOf}
-use Rattle.models.specs.File.{statesOf, stepsAt, phoneOf}
+use Rattle.models.specs.Phone.{Phone, StepIn, modelOf, statesOf, stepsAt, phoneOf}
 use Rattle.models.specs.Judging.{judgingOf, JudgedAs}
 use Rattle.models.specs.Promises.{Enforces}
 use Rattle.models.specs.declared.Judged.the-variants.{Meets, Breaks}

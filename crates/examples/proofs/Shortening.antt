@@ -6,8 +6,7 @@ use mathlib.Core.List.{List, [], _∷_, _++_}
 use native.Mathlib.Omega.{arith}
 use lib.ListN.{length, replicate}
 use Rattle.reading.specs.Pattern.{bit, covers}
-use Rattle.reading.specs.Outcome.{accepted}
-use Rattle.reading.specs.File.{patternsAt, formulaAt, formulaOf, ruleOf}
+use Rattle.reading.specs.File.{accepted, patternsAt, formulaAt, formulaOf, ruleOf}
 use Rattle.synthesis.specs.Violation.{ViolatesRule, by-falsity, by-code}
 use Rattle.synthesis.specs.Answering.{firstOf, answerOf, hopeless}
 use Rattle.synthesis.specs.Search.{noted, found}
@@ -15,8 +14,7 @@ use Rattle.synthesis.specs.Table.{rowOf, entry, entries}
 use Rattle.synthesis.specs.Building.{equationsOf}
 use Rattle.models.specs.Model.{Label, silent, code, Walk, stay, silent-first, code-first}
 use Rattle.models.specs.Monitored.{Response, passed, silenced, suppressing, passed-step, silenced-step}
-use Rattle.models.specs.Phone.{StepIn, modelOf}
-use Rattle.models.specs.File.{statesOf, stepsAt, phoneOf}
+use Rattle.models.specs.Phone.{StepIn, modelOf, statesOf, stepsAt, phoneOf}
 use Rattle.examples.specs.Examples.{tableLeft}
 use Rattle.examples.specs.ModelExamples.{behind, neverFile, neverRule, shorteningFile, shorteningPhone, Shortening}
 use Rattle.examples.proofs.FileAnswers.{reads, row-left}

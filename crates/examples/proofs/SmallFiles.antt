@@ -3,7 +3,7 @@ use mathlib.Core.Path.{refl}
 use mathlib.Core.List.{[], _∷_}
 use native.Mathlib.Omega.{arith}
 use Rattle.reading.specs.Pattern.{bit, covers, least}
-use Rattle.reading.specs.Formula.{truth, falsity}
+use Rattle.reading.specs.Rule.{truth, falsity}
 use Rattle.reading.specs.File.{patternsAt, formulaAt, formulaOf, ruleOf}
 use Rattle.synthesis.specs.Answering.{firstOf, answerOf, hopeless}
 use Rattle.synthesis.specs.Search.{noted, found}

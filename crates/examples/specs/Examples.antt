@@ -6,12 +6,9 @@ use mathlib.Core.Logic.{_⊎_}
 use mathlib.Core.Bool.{true, false}
 use mathlib.Core.List.{List, [], _∷_, _++_, map}
 use lib.ListN.{length, drop, replicate}
-use Rattle.reading.specs.Code.{codeOf, issue, cancel, sync}
-use Rattle.reading.specs.Pattern.{extentOf}
-use Rattle.reading.specs.Formula.{Formula, truth, falsity, both, necessity, max, variable}
-use Rattle.reading.specs.Rule.{Rule}
-use Rattle.reading.specs.Outcome.{Outcome, accepted, refused}
-use Rattle.reading.specs.File.{ruleOf}
+use Rattle.reading.specs.Pattern.{codeOf, issue, cancel, sync, extentOf}
+use Rattle.reading.specs.Rule.{Formula, truth, falsity, both, necessity, max, variable, Rule}
+use Rattle.reading.specs.File.{Outcome, accepted, refused, ruleOf}
 use Rattle.reading.specs.declared.Pattern.{Pattern}
 use Rattle.reading.specs.declared.Extent.{Extent}
 use Rattle.synthesis.specs.Table.{rowOf}

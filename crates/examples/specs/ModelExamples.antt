@@ -5,18 +5,14 @@ use mathlib.Core.Path.{_≡_}
 use mathlib.Core.Logic.{_↔_}
 use mathlib.Core.List.{List, [], _∷_}
 use lib.ListN.{length}
-use Rattle.reading.specs.Formula.{falsity, necessity}
-use Rattle.reading.specs.Rule.{Rule}
-use Rattle.reading.specs.Outcome.{accepted}
+use Rattle.reading.specs.Rule.{falsity, necessity, Rule}
+use Rattle.reading.specs.File.{accepted}
 use Rattle.synthesis.specs.Violation.{ViolatesRule}
 use Rattle.synthesis.specs.Table.{entry}
 use Rattle.synthesis.specs.declared.Counted.the-variants.{Equations}
-use Rattle.models.specs.Model.{code, Model, Walk, Finite}
-use Rattle.models.specs.Satisfaction.{Satisfies}
-use Rattle.models.specs.Bisimulation.{Bisimilar}
+use Rattle.models.specs.Model.{code, Model, Walk, Finite, Satisfies, Bisimilar}
 use Rattle.models.specs.Monitored.{suppressing, monitored}
-use Rattle.models.specs.Phone.{Phone, modelOf}
-use Rattle.models.specs.File.{phoneOf}
+use Rattle.models.specs.Phone.{Phone, modelOf, phoneOf}
 use Rattle.models.specs.Judging.{judgingOf, JudgedAs}
 use Rattle.models.specs.declared.Step.{Step}
 use Rattle.models.specs.declared.Judged.{Judged}

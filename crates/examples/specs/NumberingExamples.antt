@@ -4,8 +4,7 @@ use mathlib.Core.Path.{_≡_}
 use mathlib.Core.List.{List, [], _∷_, _++_, map}
 use lib.ListN.{length}
 use Rattle.reading.specs.Pattern.{extentOf}
-use Rattle.reading.specs.Formula.{truth, both, necessity}
-use Rattle.reading.specs.Rule.{Rule}
+use Rattle.reading.specs.Rule.{truth, both, necessity, Rule}
 use Rattle.synthesis.specs.Building.{equationsOf}
 use Rattle.synthesis.specs.declared.Counted.the-variants.{Equations}
 use Rattle.listing.specs.Text.{text}

@@ -3,8 +3,8 @@
 use Prim.Native.Nat.{ℕ, zero, suc}
 use mathlib.Core.Path.{_≡_}
 use mathlib.Core.List.{List, [], _∷_, _++_}
-use Rattle.reading.specs.Outcome.{refused}
-use Rattle.models.specs.File.{phoneOf}
+use Rattle.reading.specs.File.{refused}
+use Rattle.models.specs.Phone.{phoneOf}
 use Rattle.models.specs.declared.Judged.the-variants.{Refused}
 use Rattle.examples.specs.Examples.{Refuses}
 use Rattle.examples.specs.ModelExamples.{JudgesPool}

@@ -7,8 +7,7 @@ use native.Mathlib.Omega.{arith}
 use lib.Dec.{ltb}
 use lib.ListN.{length}
 use Rattle.reading.specs.Rule.{Rule, Bytes}
-use Rattle.reading.specs.Outcome.{Outcome, accepted, refuse}
-use Rattle.reading.specs.File.{ruleOf}
+use Rattle.reading.specs.File.{Outcome, accepted, refuse, ruleOf}
 use Rattle.reading.proofs.Accepted.{reading-accepts}
 use Rattle.synthesis.specs.Violation.{ViolatesRule}
 use Rattle.synthesis.specs.Answering.{hopeless}
@@ -18,8 +17,7 @@ use Rattle.synthesis.proofs.RuleMonitor.{hopeless-iff}
 use Rattle.synthesis.proofs.Synthesized.{made, synthesis-of}
 use Rattle.synthesis.proofs.Equations.{file-well-formed, answers-count, checks-table, reaches-equations, refuses-too-many}
 use Rattle.synthesis.proofs.Built.{refuses-hopeless}
-use Rattle.models.specs.Model.{Model}
-use Rattle.models.specs.Satisfaction.{Satisfies}
+use Rattle.models.specs.Model.{Model, Satisfies}
 use Rattle.models.specs.Phone.{Phone, modelOf, WellFormedPhone}
 use Rattle.models.specs.Promises.{Acceptable, AcceptsExactly, RefusesUnsatisfiable}
 use Rattle.models.proofs.QuietModels.{empty-safe, quiet-satisfies}

@@ -2,9 +2,7 @@
 use Prim.Native.Nat.{ℕ}
 use mathlib.Core.List.{List}
 use Rattle.reading.specs.Rule.{Rule}
-use Rattle.models.specs.Model.{silent, code, Model, Walk, stay, silent-first, code-first}
-use Rattle.models.specs.Satisfaction.{Satisfies}
-use Rattle.models.specs.Bisimulation.{Bisimulation, Bisimilar}
+use Rattle.models.specs.Model.{silent, code, Model, Walk, stay, silent-first, code-first, Satisfies, Bisimulation, Bisimilar}
 use Rattle.models.specs.Promises.{BisimilarAlike}
 use Rattle.models.proofs.SatisfactionLaws.{satisfies-safe}
 

@@ -66,9 +66,9 @@ module _ (steps : List Step) (l : Links) (linked : Linked steps l) where
         → StepIn steps s (labelOf (getD steps i noStep .label)) (getD steps i noStep .to)
     step-of i o =
         let a = chain-inside s (length steps) i (omega arith) (rw (linked .last-is s inside) at o) in
-        record { place = i; inside = a .0; from-is = a .1; label-is = refl; to-is = refl }
+        record { index = i; inside = a .0; from-is = a .1; label-is = refl; to-is = refl }
 
     -- and each of them from that state is on the chain
-    pub of-step : (a : Label) (t : ℕ) (h : StepIn steps s a t) → OnChain l (getD (l .last) s 0) (h .place)
+    pub of-step : (a : Label) (t : ℕ) (h : StepIn steps s a t) → OnChain l (getD (l .last) s 0) (h .index)
     of-step a t h =
-        rw (linked .last-is s inside) (chain-has s (length steps) (h .place) (omega arith) (h .inside) (h .from-is))
+        rw (linked .last-is s inside) (chain-has s (length steps) (h .index) (omega arith) (h .inside) (h .from-is))

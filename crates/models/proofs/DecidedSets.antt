@@ -5,10 +5,9 @@ use mathlib.Core.Logic.{_↔_}
 use mathlib.Core.Bool.{Bool, true, false, _&&_, and-eq-true-iff, false≢true}
 use mathlib.Core.List.{List, [], _∷_}
 use borrow.Author.Tests.{lt-ltb}
-use Rattle.reading.specs.Formula.{Formula, truth, falsity, both, necessity, max, variable}
+use Rattle.reading.specs.Rule.{Formula, truth, falsity, both, necessity, max, variable}
 use Rattle.synthesis.specs.Violation.{coveredBy}
-use Rattle.models.specs.Model.{Model}
-use Rattle.models.specs.Satisfaction.{InVariable, SatisfiesWith}
+use Rattle.models.specs.Model.{Model, InVariable, SatisfiesWith}
 use Rattle.models.specs.Phone.{Phone, modelOf}
 use Rattle.models.specs.Promises.{DecidedSatisfies}
 use Rattle.models.proofs.GreatestSets.{Within, greatest}

@@ -8,12 +8,12 @@ use lib.ListN.{length, getD, drop}
 use lib.Dec.{eqb, ltb}
 use borrow.Author.Tests.{ltb-false, eqb-true, eqb-false, le-ltb, ne-eqb, not-false}
 use Rattle.reading.specs.Rule.{All, Bytes}
-use Rattle.reading.specs.Outcome.{Outcome, accepted, refused}
+use Rattle.reading.specs.File.{Outcome, accepted, refused}
 use Rattle.reading.specs.declared.Answer.the-variants.{Accepted}
 use Rattle.reading.proofs.ByteLaws.{bytes-append}
 use Rattle.reading.proofs.Outcomes.{accepted-is, accepted-by, then-accepts, passes}
 use Rattle.models.specs.Phone.{Phone, WellFormedStep, WellFormedPhone, recordBytes, encodeStep, encodeSteps, encodePhone}
-use Rattle.models.specs.File.{statesOf, stepsAt, phoneOf}
+use Rattle.models.specs.Phone.{statesOf, stepsAt, phoneOf}
 use Rattle.models.specs.Judging.{stored, modelReadingOf}
 use Rattle.models.specs.Promises.{AcceptsPhones, OnePhone, AnswersAccepted}
 use Rattle.models.specs.declared.Step.{Step}

@@ -143,7 +143,7 @@ module _ (steps : List Step) (l : Links) (table : List ℕ) (steps-range : (i : 
     follow : (s e : ℕ) → s < 64 → Seen seen (64 * e + s) → (a : Label) (t : ℕ) → StepIn (y .steps) s a t → Followed e a t
     follow s e h marked a t step =
         let pair = 64 * e + s in
-        let i = step .place in
+        let i = step .index in
         let state : pair % 64 ≡ s = omega arith in
         let equation : pair / 64 ≡ e = omega arith in
         let to-is : getD steps i noStep .to ≡ t = rw (has .alike i) (step .to-is) in

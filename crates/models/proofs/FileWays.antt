@@ -6,13 +6,12 @@ use Prim.Native.Nat.{ℕ, suc, _+_, _-_, _≤_, _<_}
 use native.Mathlib.Omega.{arith}
 use lib.ListN.{length, set, length-append}
 use Rattle.reading.specs.Rule.{Bytes}
-use Rattle.reading.specs.Outcome.{Outcome, accepted, refused, andThen}
+use Rattle.reading.specs.File.{Outcome, accepted, refused, andThen}
 use Rattle.reading.specs.declared.Answer.{Answer}
 use Rattle.reading.specs.declared.Answer.the-variants.{Accepted, Refused}
 use Rattle.reading.proofs.Heads.{set-padded}
 use Rattle.reading.proofs.NumberedLaws.{padded-long}
-use Rattle.models.specs.Phone.{noStep}
-use Rattle.models.specs.File.{statesOf, stepAt, recordLength, withStep, stepsAt, phoneOf}
+use Rattle.models.specs.Phone.{noStep, statesOf, stepAt, recordLength, withStep, stepsAt, phoneOf}
 use Rattle.models.specs.Loading.{prepend, Begun, LoadedAs, NextRead}
 use Rattle.models.specs.Judging.{blank, modelReadingOf}
 use Rattle.models.specs.Readings.{statesRead, stepRead, statesAnswer, stepAnswer}

@@ -8,12 +8,12 @@ use native.Mathlib.Omega.{arith}
 use lib.Dec.{ltb}
 use lib.ListN.{length, getD}
 use borrow.Author.Tests.{ltb-true, lt-ltb}
-use Rattle.synthesis.specs.Search.{place}
-use Rattle.synthesis.proofs.Places.{Member, place-is, member-at, without, without-length, without-member}
+use Rattle.synthesis.specs.Search.{indexOf}
+use Rattle.synthesis.proofs.Indices.{Member, index-is, member-at, without, without-length, without-member}
 use Rattle.models.proofs.BoundedTests.{every, every-is, every-fails}
 
 abbrev pub listed : List ℕ → ℕ → Bool
-listed l v = ltb (place v l) (length l)
+listed l v = ltb (indexOf v l) (length l)
 
 -- every number with the property P is in the set X
 abbrev pub Within : (ℕ → Type 0) → (ℕ → Bool) → Type 0
@@ -44,7 +44,7 @@ module _ (test : (ℕ → Bool) → ℕ → Bool) where
         set = listed l;
         passes = λ v h.
             let m : Member v l = ltb-true _ _ h in
-            subst (λ (u : ℕ). test (listed l) u ≡ true) (place-is v l m) (every-is (length l) pass .0 q (place v l) m);
+            subst (λ (u : ℕ). test (listed l) u ≡ true) (index-is v l m) (every-is (length l) pass .0 q (indexOf v l) m);
         contains = λ P keeps within. within;
       }
       on false q =

@@ -5,14 +5,12 @@ use mathlib.Core.Logic.{inl, inr}
 use mathlib.Core.List.{List}
 use native.Mathlib.Omega.{arith}
 use Rattle.reading.specs.Rule.{Rule}
-use Rattle.reading.specs.Outcome.{accepted}
-use Rattle.reading.specs.File.{ruleOf}
+use Rattle.reading.specs.File.{accepted, ruleOf}
 use Rattle.reading.proofs.Outcomes.{then-accepts}
 use Rattle.synthesis.specs.Building.{buildingOf, countedOf}
 use Rattle.synthesis.specs.declared.Counted.the-variants.{Equations}
 use Rattle.synthesis.proofs.Synthesized.{building-accepts, counted-accepts, accepts-as}
-use Rattle.models.specs.Phone.{Phone}
-use Rattle.models.specs.File.{phoneOf}
+use Rattle.models.specs.Phone.{Phone, phoneOf}
 use Rattle.models.specs.Judging.{judgingOf, JudgedAs}
 use Rattle.models.specs.Promises.{JudgedExactly, JudgesExactly}
 use Rattle.models.specs.declared.Judged.{Judged}

@@ -7,8 +7,7 @@ use mathlib.Core.List.{List}
 use native.Mathlib.Omega.{arith}
 use lib.ListN.{length}
 use Rattle.reading.specs.Rule.{Rule, Bytes}
-use Rattle.reading.specs.Outcome.{Outcome, accepted, refused}
-use Rattle.reading.specs.File.{ruleOf}
+use Rattle.reading.specs.File.{Outcome, accepted, refused, ruleOf}
 use Rattle.reading.specs.declared.Answer as Answer′
 use Rattle.synthesis.specs.Table.{entry}
 use Rattle.synthesis.specs.Building.{Synthesis, buildingOf, countedOf, tableAfter}
@@ -18,9 +17,8 @@ use Rattle.synthesis.proofs.Synthesized.{building-accepts, counted-accepts, cou
 use Rattle.synthesis.proofs.Built.{table-monitors}
 use Rattle.running.specs.Running.{WellFormedTable}
 use Rattle.running.proofs.BuiltTables.{built-well-formed}
-use Rattle.models.specs.Satisfaction.{SatisfiesDecided}
-use Rattle.models.specs.Phone.{Phone, modelOf, WellFormedPhone}
-use Rattle.models.specs.File.{phoneOf}
+use Rattle.models.specs.Model.{SatisfiesDecided}
+use Rattle.models.specs.Phone.{Phone, modelOf, WellFormedPhone, phoneOf}
 use Rattle.models.specs.Judging.{stored, modelReadingOf, judgingOf, JudgedAs, tableJudged}
 use Rattle.models.specs.Readings.{ruleRefusal, refusalBefore}
 use Rattle.models.specs.Exploring.{NeverDrops, HasPhone}

@@ -27,13 +27,13 @@ module _ (steps : List Step) (labels : Label → Bool) (X : ℕ → Bool) (s : �
   abbrev pub leads : Bool
   leads = every (length steps) (λ i. leadsAt (getD steps i noStep))
 
-  by-place : (leads ≡ true) ↔ ((i : ℕ) → i < length steps → leadsAt (getD steps i noStep) ≡ true)
-  by-place = every-is (length steps) (λ i. leadsAt (getD steps i noStep))
+  by-index : (leads ≡ true) ↔ ((i : ℕ) → i < length steps → leadsAt (getD steps i noStep) ≡ true)
+  by-index = every-is (length steps) (λ i. leadsAt (getD steps i noStep))
 
   pub leads-is : (leads ≡ true) ↔ ((a : Label) (t : ℕ) → labels a ≡ true → StepIn steps s a t → X t ≡ true)
   leads-is = (
     λ e a t h x. subst (λ (u : ℕ). X u ≡ true) (x .to-is)
-        (leads-at (getD steps (x .place) noStep) .0 (by-place .0 e (x .place) (x .inside)) (eq-eqb _ _ (x .from-is)) (ap labels (x .label-is) ∙ h)),
-    λ all. by-place .1 (λ i h. leads-at (getD steps i noStep) .1
-        (λ from label. all _ _ label (record { place = i; inside = h; from-is = eqb-true _ _ from; label-is = refl; to-is = refl }))),
+        (leads-at (getD steps (x .index) noStep) .0 (by-index .0 e (x .index) (x .inside)) (eq-eqb _ _ (x .from-is)) (ap labels (x .label-is) ∙ h)),
+    λ all. by-index .1 (λ i h. leads-at (getD steps i noStep) .1
+        (λ from label. all _ _ label (record { index = i; inside = h; from-is = eqb-true _ _ from; label-is = refl; to-is = refl }))),
   )

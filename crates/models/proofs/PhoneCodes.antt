@@ -33,5 +33,5 @@ step-among y w i =
 
 pub phone-codes : (y : Phone) → WellFormedPhone y → ByteCodes (modelOf y)
 phone-codes y w s t c h =
-    let (same, other) = label-code (getD (y .steps) (h .place) noStep .label) c (h .label-is) in
-    omega (arith, step-among y w (h .place) .label, same, other)
+    let (same, other) = label-code (getD (y .steps) (h .index) noStep .label) c (h .label-is) in
+    omega (arith, step-among y w (h .index) .label, same, other)

@@ -4,8 +4,8 @@ use mathlib.Core.Path.{refl, _∙_}
 use mathlib.Core.List.{List, _∷_, map}
 use native.Mathlib.Omega.{arith}
 use lib.ListN.{length-map, List·getD-map}
-use Rattle.synthesis.specs.Search.{place}
-use Rattle.synthesis.proofs.Places.{Member, place-is, member-at}
+use Rattle.synthesis.specs.Search.{indexOf}
+use Rattle.synthesis.proofs.Indices.{Member, index-is, member-at}
 use Rattle.models.specs.Model.{Label, Walk, stay, silent-first, code-first, Weak}
 use Rattle.models.specs.Phone.{Phone, StepIn, noStep, modelOf}
 use Rattle.models.specs.Promises.{PhonesFinite}
@@ -23,8 +23,8 @@ module _ (y : Phone) where
 
   pub step-listed : {s t : ℕ} {a : Label} → StepIn (y .steps) s a t → Listed t
   step-listed {t = t} x =
-      member-at t (statesIn y) (suc (x .place)) (omega (arith, x .inside, length-map (y .steps) (λ (x : Step). x .to)))
-      (List·getD-map (λ (x : Step). x .to) (y .steps) (x .place) noStep ∙ x .to-is)
+      member-at t (statesIn y) (suc (x .index)) (omega (arith, x .inside, length-map (y .steps) (λ (x : Step). x .to)))
+      (List·getD-map (λ (x : Step). x .to) (y .steps) (x .index) noStep ∙ x .to-is)
 
   walk-listed : {s t : ℕ} {w : List ℕ} → Walk (modelOf y) s w t → Listed s → Listed t
   walk-listed stay h = h
@@ -37,5 +37,5 @@ module _ (y : Phone) where
 pub phones-finite : PhonesFinite
 phones-finite y = record {
   states = statesIn y;
-  listed = λ w t walk. let h = walk-listed y walk (start-listed y) in (place t (statesIn y), h, place-is t (statesIn y) h);
+  listed = λ w t walk. let h = walk-listed y walk (start-listed y) in (indexOf t (statesIn y), h, index-is t (statesIn y) h);
 }

@@ -5,8 +5,7 @@ use mathlib.Core.Logic.{_↔_}
 use mathlib.Core.List.{List, []}
 use Rattle.reading.specs.Rule.{Rule}
 use Rattle.synthesis.specs.Violation.{ViolatesRule}
-use Rattle.models.specs.Model.{Label, silent, code, Model, Walk, stay, silent-first, code-first}
-use Rattle.models.specs.Satisfaction.{Satisfies}
+use Rattle.models.specs.Model.{Label, silent, code, Model, Walk, stay, silent-first, code-first, Satisfies}
 use Rattle.models.proofs.SatisfactionLaws.{satisfies-safe}
 
 -- what any model satisfies

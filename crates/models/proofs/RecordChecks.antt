@@ -7,7 +7,7 @@ use Prim.Native.Nat.{ℕ, _≤_, _<_}
 use lib.ListN.{length, getD}
 use lib.Dec.{eqb}
 use borrow.Author.Tests.{le-leb, lt-leb, le-ltb, lt-ltb, eq-eqb, ne-eqb}
-use Rattle.models.specs.File.{statesOf, among, endingAt, codeStepAt, silentStepAt, stepAt}
+use Rattle.models.specs.Phone.{statesOf, among, endingAt, codeStepAt, silentStepAt, stepAt}
 use Rattle.models.specs.Readings.{statesRead, stepRead}
 use Rattle.models.specs.declared.Step.{Step}
 use Rattle.models.specs.declared.records.StatesRead.the-variants as StatesRead′

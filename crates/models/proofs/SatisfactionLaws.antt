@@ -6,10 +6,9 @@ use mathlib.Core.List.{List, [], _∷_}
 use native.Mathlib.Omega.{arith}
 use lib.ListN.{drop}
 use lib.Seq.{drop-nil}
-use Rattle.reading.specs.Formula.{Formula, truth, falsity, both, necessity, max, variable}
+use Rattle.reading.specs.Rule.{Formula, truth, falsity, both, necessity, max, variable}
 use Rattle.synthesis.specs.Violation.{coveredBy, Violates, by-falsity, by-first, by-second, by-code, by-body, by-variable}
-use Rattle.models.specs.Model.{Model, Walk, stay}
-use Rattle.models.specs.Satisfaction.{InVariable, SatisfiesWith}
+use Rattle.models.specs.Model.{Model, Walk, stay, InVariable, SatisfiesWith}
 use Rattle.models.specs.Promises.{SatisfiesSafe}
 use Rattle.models.proofs.Walks.{walk-append, weak-walk, weak-first}
 

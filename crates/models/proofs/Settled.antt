@@ -8,11 +8,11 @@ use lib.Seq.{take-at}
 use borrow.Author.Tests.{lt-ltb, ne-eqb}
 use Rattle.reading.specs.Rule.{All}
 use Rattle.reading.proofs.ByteLaws.{bytes-append}
-use Rattle.reading.specs.Outcome.{accepted, refused}
+use Rattle.reading.specs.File.{accepted, refused}
 use Rattle.reading.proofs.Agreement.{Agree, inside, settled}
 use Rattle.reading.proofs.Outcomes.{then-agree, both-agree}
 use Rattle.models.specs.Phone.{Phone, WellFormedStep, WellFormedPhone, encodeSteps, encodePhone}
-use Rattle.models.specs.File.{statesOf, stepAt, recordLength, stepsAt, phoneOf}
+use Rattle.models.specs.Phone.{statesOf, stepAt, recordLength, stepsAt, phoneOf}
 use Rattle.models.specs.Promises.{SettledByFirstBytes, NotByFewer}
 use Rattle.models.specs.declared.Step.{Step}
 use Rattle.models.proofs.StepLaws.{record-bounds}

@@ -8,12 +8,12 @@ use lib.ListN.{length, getD, drop, length-drop, length-append, drop-of-length-le
 use lib.Dec.{eqb, ltb, leb}
 use borrow.Author.Tests.{ltb-true, ltb-false, leb-false, eqb-true, eqb-false, lt-ltb, lt-leb, ne-eqb, not-false}
 use Rattle.reading.specs.Rule.{All, Bytes}
-use Rattle.reading.specs.Outcome.{Outcome, accepted, refused, andThen}
+use Rattle.reading.specs.File.{Outcome, accepted, refused, andThen}
 use Rattle.reading.proofs.ByteLaws.{byte-at}
 use Rattle.reading.proofs.Outcomes.{accepted-is, accepted-by, then-accepts, passes}
 use Rattle.reading.proofs.Places.{Byte, from-byte, byte-of, first-byte, rest-after}
 use Rattle.models.specs.Phone.{WellFormedStep, recordBytes, encodeStep, encodeSteps}
-use Rattle.models.specs.File.{codeStepAt, silentStepAt, stepAt, recordLength, withStep, stepsAt}
+use Rattle.models.specs.Phone.{codeStepAt, silentStepAt, stepAt, recordLength, withStep, stepsAt}
 use Rattle.models.specs.declared.Step.{Step}
 use Rattle.models.proofs.StepLaws.{among-is, record-bounds, steps-end, one-more}
 

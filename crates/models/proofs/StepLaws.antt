@@ -7,9 +7,9 @@ use native.Mathlib.Omega.{arith}
 use lib.Dec.{eqb, leb}
 use lib.ListN.{length}
 use borrow.Author.Tests.{lt-ltb, le-ltb, leb-false}
-use Rattle.reading.specs.Outcome.{accepted, refused, andThen}
+use Rattle.reading.specs.File.{accepted, refused, andThen}
 use Rattle.reading.proofs.Outcomes.{accepted-is, passes}
-use Rattle.models.specs.File.{among, stepAt, recordLength, withStep, stepsAt}
+use Rattle.models.specs.Phone.{among, stepAt, recordLength, withStep, stepsAt}
 use Rattle.models.specs.declared.Step.{Step}
 
 pub among-is : (states at : ℕ) (x y : Step) → among states at x ≡ accepted y → (x .from < states) × (x .to < states) × (x ≡ y)

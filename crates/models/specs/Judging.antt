@@ -6,13 +6,12 @@ use mathlib.Core.Logic.{_⊎_}
 use mathlib.Core.List.{List, []}
 use lib.ListN.{length}
 use Rattle.reading.specs.Rule.{Rule}
-use Rattle.reading.specs.Outcome.{Outcome, accepted, refused, andThen}
+use Rattle.reading.specs.File.{Outcome, accepted, refused, andThen}
 use Rattle.reading.specs.Numbered.{padded}
 use Rattle.reading.specs.declared.Answer.the-variants.{Accepted, Refused}
 use Rattle.synthesis.specs.Building.{buildingOf}
-use Rattle.models.specs.Satisfaction.{SatisfiesDecided}
-use Rattle.models.specs.Phone.{Phone, noStep, modelOf}
-use Rattle.models.specs.File.{phoneOf}
+use Rattle.models.specs.Model.{SatisfiesDecided}
+use Rattle.models.specs.Phone.{Phone, noStep, modelOf, phoneOf}
 use Rattle.models.specs.declared.PhoneModel.{PhoneModel}
 use Rattle.models.specs.declared.ModelReading.{ModelReading}
 use Rattle.models.specs.declared.Judged.{Judged}

@@ -1,10 +1,7 @@
 -- In the order in which to read them. `Readings`, `Loading`, `Exploring` and `Searching` serve the crate's own functions alone.
 pub mod Model
-pub mod Satisfaction
-pub mod Bisimulation
 pub mod Monitored
 pub mod Phone
-pub mod File
 pub mod Judging
 pub mod Promises
 pub mod Readings

@@ -1,8 +1,15 @@
--- Models of any kind: labelled transition systems whose steps have a code or are silent. Their walks and traces.
-use Prim.Native.Nat.{ℕ, _<_}
+-- Models of any kind: labelled transition systems whose steps have a code or are silent. Their walks and traces; which of them satisfy a rule, by
+-- the paper's "Meaning"; and strong bisimulation.
+use Prim.Native.Nat.{ℕ, _<_, zero, suc}
 use mathlib.Core.Path.{_≡_}
 use mathlib.Core.List.{List, [], _∷_}
+use mathlib.Core.Logic.{Lift}
+use mathlib.Core.Bool.{Bool, true}
 use lib.ListN.{length, getD}
+use Rattle.reading.specs.Rule.{Formula, truth, falsity, both, necessity, max, variable, Rule}
+use Rattle.synthesis.specs.Violation.{coveredBy}
+
+-- ---- models and walks
 
 pub data Label : Type 0 where
   silent : Label
@@ -36,3 +43,42 @@ pub record Finite (m : Model) : Type 0 where
 -- The codes of its steps are bytes.
 abbrev pub ByteCodes : Model → Type 0
 ByteCodes m = (s t : m .State) (c : ℕ) → m .Step s (code c) t → c < 256
+
+-- ---- satisfaction
+
+-- `covered p c`: pattern p covers the code c. Sets of states are of some type; `Has X s`: the set X has the state s.
+module _ {ℓ} (m : Model) (covered : (pattern code : ℕ) → Bool) (Sets : Type ℓ) (Has : Sets → m .State → Type 0) where
+  -- s is in the set of the variable d, where `sets` are those of the maxes around it, innermost first. One that no max binds says nothing.
+  abbrev pub InVariable : (sets : List Sets) → (d : ℕ) → m .State → Type 0
+  InVariable [] d s = Unit
+  InVariable (X ∷ Xs) zero s = Has X s
+  InVariable (X ∷ Xs) (suc d) s = InVariable Xs d s
+
+  -- the state s satisfies f
+  abbrev pub SatisfiesWith : (sets : List Sets) → Formula → m .State → Type ℓ
+  SatisfiesWith Xs truth s = Unit {ℓ}
+  SatisfiesWith Xs falsity s = Lift {0, ℓ} ⊥
+  SatisfiesWith Xs (both f g) s = SatisfiesWith Xs f s × SatisfiesWith Xs g s
+  SatisfiesWith Xs (necessity p f) s = (c : ℕ) (t : m .State) → covered p c ≡ true → Weak m s c t → SatisfiesWith Xs f t
+  SatisfiesWith Xs (max f) s = (X : Sets) × ((t : m .State) → Has X t → SatisfiesWith (X ∷ Xs) f t) × Has X s
+  SatisfiesWith Xs (variable d) s = Lift {0, ℓ} (InVariable Xs d s)
+
+-- A model satisfies a rule when its start does. Sets are any predicates on states.
+abbrev pub Satisfies : Model → Rule → Type 1
+Satisfies m r = SatisfiesWith m (coveredBy (r .patterns)) (m .State → Type 0) (λ X s. X s) [] (r .formula) (m .start)
+
+-- The same with decided sets alone. A contract lives in `Type 0` and so can say this one. For phone models the two agree (`decided-satisfies`).
+abbrev pub SatisfiesDecided : Model → Rule → Type 0
+SatisfiesDecided m r = SatisfiesWith m (coveredBy (r .patterns)) (m .State → Bool) (λ X s. X s ≡ true) [] (r .formula) (m .start)
+
+-- ---- bisimulation
+
+-- R relates states of m to states of n by a strong bisimulation: where two states are related, each step of one has a partner among the steps of
+-- the other, with its label, and their ends are related again.
+pub record Bisimulation (m n : Model) (R : m .State → n .State → Type 0) : Type 0 where
+  pub forth : (s s′ : m .State) (t : n .State) (a : Label) → R s t → m .Step s a s′ → (t′ : n .State) × n .Step t a t′ × R s′ t′
+  pub back : (s : m .State) (t t′ : n .State) (a : Label) → R s t → n .Step t a t′ → (s′ : m .State) × m .Step s a s′ × R s′ t′
+
+-- Two models are strongly bisimilar from their starts.
+abbrev pub Bisimilar : Model → Model → Type 1
+Bisimilar m n = (R : m .State → n .State → Type 0) × Bisimulation m n R × R (m .start) (n .start)

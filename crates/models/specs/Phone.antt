@@ -1,13 +1,17 @@
--- Phone models: a count of states and a list of steps. Which are well formed, and their encoding as the bytes of a file.
-use Prim.Native.Nat.{ℕ, _≤_, _<_}
+-- Phone models: a count of states and a list of steps; which are well formed, and their encoding as the bytes of a file. What the bytes of a model
+-- file say: the checks of each record stand in the order of the paper's table, a line each. f is the file, `at` the place of a record.
+use Prim.Native.Nat.{ℕ, _≤_, _<_, zero, suc, _+_}
 use mathlib.Core.Path.{_≡_}
-use mathlib.Core.Bool.{Bool, true, false, cond}
+use mathlib.Core.Bool.{Bool, true, false, cond, not, _||_}
 use mathlib.Core.List.{List, [], _∷_, _++_}
-use lib.Dec.{eqb}
+use lib.Dec.{eqb, ltb, leb}
 use lib.ListN.{length, getD}
 use Rattle.reading.specs.Rule.{All}
+use Rattle.reading.specs.File.{Outcome, accepted, refuse, andThen}
 use Rattle.models.specs.Model.{Label, silent, code, Model}
 use Rattle.models.specs.declared.Step.{Step}
+
+-- ---- phone models
 
 pub record Phone : Type 0 where
   pub states : ℕ
@@ -23,11 +27,11 @@ noStep = record { from = 0; label = 0; to = 0 }
 
 -- A record of the list says that there is a step from s with the label a to t.
 pub record StepIn (steps : List Step) (s : ℕ) (a : Label) (t : ℕ) : Type 0 where
-  pub place : ℕ
-  pub inside : place < length steps
-  pub from-is : getD steps place noStep .from ≡ s
-  pub label-is : labelOf (getD steps place noStep .label) ≡ a
-  pub to-is : getD steps place noStep .to ≡ t
+  pub index : ℕ
+  pub inside : index < length steps
+  pub from-is : getD steps index noStep .from ≡ s
+  pub label-is : labelOf (getD steps index noStep .label) ≡ a
+  pub to-is : getD steps index noStep .to ≡ t
 
 -- The model that a phone model is, from its steps alone. Every number is a state; walks from state 0 lead only to 0 and to targets of steps.
 abbrev pub modelOf : Phone → Model
@@ -61,3 +65,69 @@ encodeSteps (x ∷ xs) = encodeStep x ++ encodeSteps xs
 -- kind 16 with the count of states, then the steps
 abbrev pub encodePhone : Phone → List ℕ
 encodePhone y = 16 ∷ y .states ∷ encodeSteps (y .steps)
+
+-- ---- what a file says
+
+-- the first record: the count of states
+unfoldable pub statesOf : List ℕ → Outcome ℕ
+statesOf f =
+    let states = getD f 1 0 in
+    refuse (eqb (length f) 0) 11 (length f)
+    (refuse (not (eqb (getD f 0 0) 16)) 12 0
+    (refuse (eqb (length f) 1) 11 (length f)
+    (refuse (eqb states 0) 12 0
+    (refuse (ltb 64 states) 12 0
+    (accepted states)))))
+
+-- a step among so many states
+abbrev pub among : (states at : ℕ) → Step → Outcome Step
+among states at x =
+    refuse (leb states (x .from)) 13 at
+    (refuse (leb states (x .to)) 13 at
+    (accepted x))
+
+-- a step whose record ends with the byte at `last`
+abbrev pub endingAt : List ℕ → (states at last : ℕ) → Step → Outcome Step
+endingAt f states at last x =
+    refuse (leb (length f) last) 11 (length f)
+    (among states at x)
+
+-- a kind 17 record
+abbrev pub codeStepAt : List ℕ → (states at : ℕ) → Outcome Step
+codeStepAt f states at =
+    endingAt f states at (at + 3) (record { from = getD f (at + 1) 0; label = getD f (at + 2) 0; to = getD f (at + 3) 0 })
+
+-- a kind 18 record
+abbrev pub silentStepAt : List ℕ → (states at : ℕ) → Outcome Step
+silentStepAt f states at =
+    endingAt f states at (at + 2) (record { from = getD f (at + 1) 0; label = 256; to = getD f (at + 2) 0 })
+
+-- The record of a step at `at`, with `left` of the 512 steps left.
+abbrev pub stepAt : List ℕ → (states at left : ℕ) → Outcome Step
+stepAt f states at left =
+    let kind = getD f at 0 in
+    refuse (not (eqb kind 17 || eqb kind 18)) 12 at
+    (refuse (eqb left 0) 14 at
+    (cond (eqb kind 17) (codeStepAt f states at) (silentStepAt f states at)))
+
+-- how many bytes the record of a step has
+abbrev pub recordLength : Step → ℕ
+recordLength x = cond (eqb (x .label) 256) 3 4
+
+abbrev pub withStep : Step → List Step → Outcome (List Step)
+withStep x xs = accepted (x ∷ xs)
+
+-- The steps from `at` on, with `left` of the 512 left. Where none is left, one more is refused by `stepAt`.
+unfoldable pub stepsAt : (left : ℕ) → List ℕ → (states at : ℕ) → Outcome (List Step)
+stepsAt zero f states at =
+    cond (ltb at (length f))
+    (andThen (stepAt f states at zero) (λ x. withStep x []))
+    (accepted [])
+stepsAt (suc left) f states at =
+    cond (ltb at (length f))
+    (andThen (stepAt f states at (suc left)) (λ x. andThen (stepsAt left f states (at + recordLength x)) (withStep x)))
+    (accepted [])
+
+-- the whole file
+unfoldable pub phoneOf : List ℕ → Outcome Phone
+phoneOf f = andThen (statesOf f) (λ states. andThen (stepsAt 512 f states 2) (λ steps. accepted (record { states = states; steps = steps })))

@@ -6,8 +6,7 @@ use mathlib.Core.Logic.{_↔_}
 use mathlib.Core.List.{List, [], _∷_}
 use lib.ListN.{length, take}
 use Rattle.reading.specs.Rule.{Rule, WellFormedRule, encode, Bytes}
-use Rattle.reading.specs.Outcome.{accepted, refused}
-use Rattle.reading.specs.File.{ruleOf}
+use Rattle.reading.specs.File.{accepted, refused, ruleOf}
 use Rattle.reading.specs.declared.Answer.the-variants.{Accepted}
 use Rattle.synthesis.specs.Violation.{ViolatesRule}
 use Rattle.synthesis.specs.Monitor.{Answer, kept, ended, Loses, Monitors}
@@ -15,12 +14,9 @@ use Rattle.synthesis.specs.Table.{entry}
 use Rattle.synthesis.specs.Building.{buildingOf, countedOf, tableAfter}
 use Rattle.synthesis.specs.Promises.{Closed}
 use Rattle.synthesis.specs.declared.Counted.the-variants.{Equations, Refused}
-use Rattle.models.specs.Model.{Model, Walk, Weak, Finite, ByteCodes}
-use Rattle.models.specs.Satisfaction.{Satisfies, SatisfiesDecided}
-use Rattle.models.specs.Bisimulation.{Bisimilar}
+use Rattle.models.specs.Model.{Model, Walk, Weak, Finite, ByteCodes, Satisfies, SatisfiesDecided, Bisimilar}
 use Rattle.models.specs.Monitored.{Response, suppressing, PassesKept, monitored}
-use Rattle.models.specs.Phone.{Phone, modelOf, WellFormedPhone, encodePhone}
-use Rattle.models.specs.File.{phoneOf}
+use Rattle.models.specs.Phone.{Phone, modelOf, WellFormedPhone, encodePhone, phoneOf}
 use Rattle.models.specs.Judging.{stored, modelReadingOf, judgingOf, JudgedAs}
 use Rattle.models.specs.declared.Judged.{Judged}
 use Rattle.models.specs.declared.Judged.the-variants.{Meets, Breaks}

@@ -1,6 +1,6 @@
 -- What the crate's own enums stand for. No public contract cites these.
 use Prim.Native.Nat.{ℕ}
-use Rattle.reading.specs.Outcome.{Outcome, accepted, refused}
+use Rattle.reading.specs.File.{Outcome, accepted, refused}
 use Rattle.reading.specs.declared.Answer.{Answer}
 use Rattle.reading.specs.declared.Answer as Answer′
 use Rattle.synthesis.specs.declared.Counted.{Counted}

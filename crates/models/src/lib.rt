@@ -11,7 +11,7 @@ use synthesis::Counted;
 ghost use mathlib.Core.Path.{_≡_};
 ghost use lib.ListN.{length};
 ghost use Rattle.synthesis.specs.Building.{buildingOf, countedOf, tableAfter};
-ghost use Rattle.models.specs.File.{phoneOf};
+ghost use Rattle.models.specs.Phone.{phoneOf};
 ghost use Rattle.models.specs.Judging.{blank, modelReadingOf, judgingOf, JudgedAs, tableJudged};
 ghost use Rattle.models.specs.Readings.{ruleRefusal, modelRefusal, refusalBefore};
 

@@ -8,8 +8,7 @@ use reading::Answer;
 ghost use mathlib.Core.Path.{_≡_};
 ghost use mathlib.Core.Bool.{false};
 ghost use mathlib.Core.List.{List};
-ghost use Rattle.models.specs.Phone.{noStep};
-ghost use Rattle.models.specs.File.{stepsAt};
+ghost use Rattle.models.specs.Phone.{noStep, stepsAt};
 ghost use Rattle.models.specs.Loading.{Begun, NextRead, LoadedAs};
 
 // What comes next in a file: the step with number n, and where the record after it begins; or, where no more is read, the answer and the

@@ -5,7 +5,7 @@ use reading::Answer;
 ghost use mathlib.Core.Path.{_≡_};
 ghost use Prim.Native.Nat.{_<_};
 ghost use lib.ListN.{length};
-ghost use Rattle.models.specs.File.{statesOf, among, codeStepAt, silentStepAt, stepAt, recordLength};
+ghost use Rattle.models.specs.Phone.{statesOf, among, codeStepAt, silentStepAt, stepAt, recordLength};
 ghost use Rattle.models.specs.Readings.{statesRead, stepRead, statesAnswer, stepAnswer};
 
 // The kind bytes of the records.

@@ -7,10 +7,9 @@ use native.Mathlib.Omega.{arith}
 use lib.ListN.{length, drop, length-append, drop-of-length-le}
 use lib.Dec.{ltb}
 use borrow.Author.Tests.{ltb-false, le-ltb}
-use Rattle.reading.specs.Formula.{Formula, truth, falsity, both, necessity, max, variable, size}
+use Rattle.reading.specs.Rule.{Formula, truth, falsity, both, necessity, max, variable, size}
 use Rattle.reading.specs.Rule.{Rule, WellFormedRule, encodePatterns, encodeFormula, encode, Bytes}
-use Rattle.reading.specs.Outcome.{Outcome, accepted, refused}
-use Rattle.reading.specs.File.{isPattern, patternsAt, Parsed, formulaOf, ended, ruleOf}
+use Rattle.reading.specs.File.{Outcome, accepted, refused, isPattern, patternsAt, Parsed, formulaOf, ended, ruleOf}
 use Rattle.reading.specs.Numbered.{numbered, readingOf}
 use Rattle.reading.specs.Promises.{AcceptsEncodings, OneRule, AnswersAccepted}
 use Rattle.reading.specs.declared.Answer.the-variants.{Accepted}

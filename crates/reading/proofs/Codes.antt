@@ -2,7 +2,7 @@
 use mathlib.Core.Path.{_≡_}
 use Prim.Native.Nat.{ℕ, _<_}
 use native.Mathlib.Omega.{arith}
-use Rattle.reading.specs.Code.{codeOf, kindOf, slotOf}
+use Rattle.reading.specs.Pattern.{codeOf, kindOf, slotOf}
 
 pub kind-of-code : (kind slot : ℕ) → slot < 32 → kindOf (codeOf kind slot) ≡ kind
 kind-of-code kind slot h = omega arith

@@ -6,7 +6,7 @@ use Prim.Native.Nat.{ℕ, _+_, _*_, _≤_, _<_}
 use native.Mathlib.Omega.{arith}
 use lib.ListN.{length, length-append, length-map}
 use Rattle.reading.specs.Pattern.{WellFormedPattern}
-use Rattle.reading.specs.Formula.{Formula, truth, falsity, both, necessity, max, variable, size, Guards, guarded, WellFormed}
+use Rattle.reading.specs.Rule.{Formula, truth, falsity, both, necessity, max, variable, size, Guards, guarded, WellFormed}
 use Rattle.reading.specs.Rule.{Rule, All, WellFormedRule, encodePatterns, encodeFormula, encode, Bytes}
 use Rattle.reading.specs.declared.Pattern.{Pattern}
 use Rattle.reading.proofs.ByteLaws.{bytes-append}

@@ -6,13 +6,10 @@ use mathlib.Core.List.{List, _∷_, _++_, append-assoc}
 use Prim.Native.Nat.{ℕ, suc, _+_, _-_, _≤_, _<_}
 use native.Mathlib.Omega.{arith}
 use lib.ListN.{length, drop, length-append}
-use Rattle.reading.specs.Formula.{Formula, truth, falsity, both, necessity, max, variable, size, Guards, guarded, WellFormed}
-use Rattle.reading.specs.Rule.{encodeFormula}
-use Rattle.reading.specs.Outcome.{accepted}
-use Rattle.reading.specs.File.{NodeRecord, Parsed, parsed, partsBy, formulaOf}
+use Rattle.reading.specs.Rule.{Formula, truth, falsity, both, necessity, max, variable, size, Guards, guarded, WellFormed, encodeFormula}
+use Rattle.reading.specs.File.{accepted, NodeRecord, Parsed, parsed, partsBy, formulaOf}
 use Rattle.reading.proofs.Places.{byte-of, first-byte, rest-of, rest-after}
-use Rattle.reading.proofs.NodeBytes.{bare-truth, bare-falsity, bare-both, bare-max}
-use Rattle.reading.proofs.NodeBytes.{NodeStands, bare, of-necessity, of-variable, node-accepts}
+use Rattle.reading.proofs.NodeBytes.{bare-truth, bare-falsity, bare-both, bare-max, NodeStands, bare, of-necessity, of-variable, node-accepts}
 use Rattle.reading.proofs.Sound.{FormulaStands}
 use Rattle.reading.proofs.Steps.{formula-step, formula-sound}
 

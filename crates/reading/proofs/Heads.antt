@@ -7,8 +7,7 @@ use native.Mathlib.Omega.{arith}
 use lib.ListN.{length, set, replicate, length-append, length-map}
 use lib.Seq.{set-at}
 use Rattle.reading.specs.Pattern.{extentOf}
-use Rattle.reading.specs.Outcome.{Outcome, accepted, refused, andThen}
-use Rattle.reading.specs.File.{Patterns, isPattern, patternAt, patternsAt, withPattern}
+use Rattle.reading.specs.File.{Outcome, accepted, refused, andThen, Patterns, isPattern, patternAt, patternsAt, withPattern}
 use Rattle.reading.specs.Numbered.{padded, noPattern, noExtent}
 use Rattle.reading.specs.Answers.{patternRead, HeadOf}
 use Rattle.reading.specs.declared.Pattern.{Pattern}

@@ -6,7 +6,7 @@ use Prim.Native.Nat.{ℕ, suc, _+_, _<_}
 use native.Mathlib.Omega.{arith}
 use lib.ListN.{length, getD, length-append, List·getD-append}
 use lib.Seq.{getD-append-add}
-use Rattle.reading.specs.Formula.{Formula, truth, falsity, both, necessity, max, variable, size}
+use Rattle.reading.specs.Rule.{Formula, truth, falsity, both, necessity, max, variable, size}
 use Rattle.reading.specs.Nodes.{EnclosingMax, Node, whole, first, second, after, body, inOrder}
 
 pub size-positive : (f : Formula) → 0 < size f

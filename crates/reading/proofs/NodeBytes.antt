@@ -8,8 +8,8 @@ use native.Mathlib.Omega.{arith}
 use lib.ListN.{length, getD}
 use lib.Dec.{ltb, leb, eqb}
 use borrow.Author.Tests.{ltb-false, leb-false, eqb-false, lt-leb, ne-eqb, not-false}
-use Rattle.reading.specs.Formula.{Guards}
-use Rattle.reading.specs.Outcome.{Outcome, accepted}
+use Rattle.reading.specs.Rule.{Guards}
+use Rattle.reading.specs.File.{Outcome, accepted}
 use Rattle.reading.specs.File.{Symbol, Truth, Falsity, Both, Necessity, Max, Variable, NodeRecord, necessityAt, variableAt, bareAt, nodeAt}
 use Rattle.reading.specs.Answers.{kindByte, nodeRead}
 use Rattle.reading.specs.declared.formulas.NodeRead.the-variants as NodeRead

@@ -8,7 +8,7 @@ use native.Mathlib.Omega.{arith}
 use lib.ListN.{length, getD, drop, length-map}
 use lib.Dec.{ltb}
 use borrow.Author.Tests.{ltb-true, ltb-false}
-use Rattle.reading.specs.Formula.{Formula, truth, falsity, both, necessity, max, variable, size, WellFormed}
+use Rattle.reading.specs.Rule.{Formula, truth, falsity, both, necessity, max, variable, size, WellFormed}
 use Rattle.reading.specs.Nodes.{EnclosingMax, noMax, Node, whole, first, second, after, body, guardsAt}
 
 -- the nodes of a node's formula are nodes of the whole

@@ -5,8 +5,7 @@ use Prim.Native.Nat.{ℕ, zero, suc, _-_, _≤_, _<_}
 use native.Mathlib.Omega.{arith}
 use lib.ListN.{length, getD, replicate, length-append, length-replicate, List·getD-map}
 use Rattle.reading.specs.Pattern.{extentOf}
-use Rattle.reading.specs.Formula.{Formula, truth, falsity, both, necessity, max, variable, size, WellFormed}
-use Rattle.reading.specs.Rule.{Rule}
+use Rattle.reading.specs.Rule.{Formula, truth, falsity, both, necessity, max, variable, size, WellFormed, Rule}
 use Rattle.reading.specs.Numbered.{kind, argument, numberOf, kinds, args, padded, numbered, noPattern, noExtent}
 use Rattle.reading.specs.Promises.{NumbersNodes, NumbersPatterns}
 use Rattle.reading.specs.Nodes.{EnclosingMax, noMax, Node, first, second, after, body}

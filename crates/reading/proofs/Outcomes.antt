@@ -3,7 +3,7 @@ use mathlib.Core.Path.{_≡_, refl}
 use mathlib.Core.Bool.{Bool, true, false, _||_}
 use Prim.Native.Nat.{ℕ}
 use native.Mathlib.Omega.{arith}
-use Rattle.reading.specs.Outcome.{Outcome, accepted, refused, refuse, andThen}
+use Rattle.reading.specs.File.{Outcome, accepted, refused, refuse, andThen}
 
 module _ {A : Type 0} where
   pub accepted-is : {a b : A} → accepted a ≡ accepted b → a ≡ b

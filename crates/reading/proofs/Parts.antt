@@ -7,8 +7,8 @@ use native.Mathlib.Omega.{arith}
 use lib.ListN.{length, getD, set}
 use lib.Dec.{eqb}
 use lib.Seq.{sets, set-set}
-use Rattle.reading.specs.Formula.{Formula, both, necessity, max, size, Guards, guarded}
-use Rattle.reading.specs.Outcome.{Outcome, accepted, refused, andThen}
+use Rattle.reading.specs.Rule.{Formula, both, necessity, max, size, Guards, guarded}
+use Rattle.reading.specs.File.{Outcome, accepted, refused, andThen}
 use Rattle.reading.specs.File.{Symbol, Truth, Falsity, Both, Necessity, Max, Variable, NodeRecord, nodeAt, Parsed, under, partsBy, formulaOf}
 use Rattle.reading.specs.Numbered.{kinds, args}
 use Rattle.reading.specs.Answers.{kindByte, bodyByte, nodeRead, formulaRead, passedUp, Reads}
@@ -19,8 +19,7 @@ use Rattle.reading.specs.declared.formulas.NodeRead.the-variants as Node
 use Rattle.reading.specs.declared.formulas.FormulaRead.{FormulaRead}
 use Rattle.reading.specs.declared.formulas.FormulaRead.the-variants as FormulaRead′
 use Rattle.reading.proofs.Steps.{formula-step, formula-sound}
-use Rattle.reading.proofs.NodeBytes.{bare-truth, bare-falsity, bare-both, bare-max}
-use Rattle.reading.proofs.NodeBytes.{NodeStands, bare, of-necessity, of-variable, node-accepts}
+use Rattle.reading.proofs.NodeBytes.{bare-truth, bare-falsity, bare-both, bare-max, NodeStands, bare, of-necessity, of-variable, node-accepts}
 use Rattle.reading.proofs.NumberedLaws.{kinds-size, args-size}
 use Rattle.reading.proofs.Stores.{two-lists, two-lists-over}
 

@@ -10,8 +10,7 @@ use lib.Dec.{ltb, leb, eqb}
 use borrow.Author.Tests.{ltb-true, ltb-false, leb-false, eqb-true, eqb-false, lt-ltb}
 use Rattle.reading.specs.Pattern.{WellFormedPattern}
 use Rattle.reading.specs.Rule.{All, Bytes, encodePatterns}
-use Rattle.reading.specs.Outcome.{Outcome, accepted}
-use Rattle.reading.specs.File.{patternAt, isPattern, Patterns, withPattern, patternsAt}
+use Rattle.reading.specs.File.{Outcome, accepted, patternAt, isPattern, Patterns, withPattern, patternsAt}
 use Rattle.reading.specs.declared.Pattern.{Pattern}
 use Rattle.reading.proofs.ByteLaws.{byte-at}
 use Rattle.reading.proofs.Outcomes.{accepted-is, never-accepted, accepted-by, passes}

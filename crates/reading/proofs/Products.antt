@@ -5,11 +5,9 @@ use Prim.Native.Nat.{ℕ, zero, suc, _+_, _*_, _≤_, _<_}
 use native.Mathlib.Nat.{add-mul, lt-of-not-le}
 use native.Mathlib.Decide.{decLe}
 use native.Mathlib.Omega.{arith}
-use Rattle.reading.specs.Code.{codeOf, kindOf, slotOf}
-use Rattle.reading.specs.Pattern.{least, howMany}
+use Rattle.reading.specs.Pattern.{codeOf, kindOf, slotOf, least, howMany}
 use Rattle.reading.proofs.Codes.{kind-of-code, slot-of-code}
-use Rattle.reading.proofs.Counting.{least-is, least-holds, least-below}
-use Rattle.reading.proofs.Counting.{howMany-zero, howMany-last, howMany-split, howMany-same, howMany-and}
+use Rattle.reading.proofs.Counting.{least-is, least-holds, least-below, howMany-zero, howMany-last, howMany-split, howMany-same, howMany-and}
 
 abbrev pub ofBoth : (ℕ → Bool) → (ℕ → Bool) → ℕ → Bool
 ofBoth kinds slots code = kinds (kindOf code) && slots (slotOf code)

@@ -5,14 +5,11 @@ use mathlib.Core.List.{List, _∷_, _++_, append-assoc}
 use Prim.Native.Nat.{ℕ, zero, suc, _+_, _-_, _<_}
 use native.Mathlib.Omega.{arith}
 use lib.ListN.{length, drop, length-append}
-use Rattle.reading.specs.Formula.{size, Guards, guarded, WellFormed}
-use Rattle.reading.specs.Rule.{encodeFormula}
-use Rattle.reading.specs.Outcome.{Outcome, accepted}
-use Rattle.reading.specs.File.{NodeRecord, nodeAt, Parsed, partsBy, formulaAt}
+use Rattle.reading.specs.Rule.{size, Guards, guarded, WellFormed, encodeFormula}
+use Rattle.reading.specs.File.{Outcome, accepted, NodeRecord, nodeAt, Parsed, partsBy, formulaAt}
 use Rattle.reading.proofs.Outcomes.{accepted-is, never-accepted, accepted-by}
 use Rattle.reading.proofs.Places.{from-byte}
-use Rattle.reading.proofs.NodeBytes.{bare-truth, bare-falsity, bare-both, bare-max}
-use Rattle.reading.proofs.NodeBytes.{NodeStands, bare, of-necessity, of-variable, node-accepts}
+use Rattle.reading.proofs.NodeBytes.{bare-truth, bare-falsity, bare-both, bare-max, NodeStands, bare, of-necessity, of-variable, node-accepts}
 
 -- The formula of f stands at `at` and fits, after n patterns, with `left` nodes left, inside maxes of which g says whether they are guarded.
 pub record FormulaStands (s : List ℕ) (n at left : ℕ) (g : Guards) (f : Parsed) : Type 0 where

@@ -4,12 +4,10 @@ use mathlib.Core.Bool.{false}
 use mathlib.Core.List.{List, _∷_}
 use Prim.Native.Nat.{ℕ, zero, suc, _+_, _-_, _<_}
 use native.Mathlib.Omega.{arith}
-use Rattle.reading.specs.Formula.{Formula, both, Guards, guarded}
-use Rattle.reading.specs.Outcome.{Outcome, andThen}
-use Rattle.reading.specs.File.{NodeRecord, nodeAt, Parsed, under, partsBy, formulaAt, formulaOf}
+use Rattle.reading.specs.Rule.{Formula, both, Guards, guarded}
+use Rattle.reading.specs.File.{Outcome, andThen, NodeRecord, nodeAt, Parsed, under, partsBy, formulaAt, formulaOf}
 use Rattle.reading.proofs.Outcomes.{then-agree, both-agree}
-use Rattle.reading.proofs.NodeBytes.{bare-truth, bare-falsity, bare-both, bare-max}
-use Rattle.reading.proofs.NodeBytes.{NodeStands, bare, of-necessity, of-variable, node-accepts}
+use Rattle.reading.proofs.NodeBytes.{bare-truth, bare-falsity, bare-both, bare-max, NodeStands, bare, of-necessity, of-variable, node-accepts}
 use Rattle.reading.proofs.Sound.{FormulaStands, Reader, Sound, at-sound}
 
 -- Readers that agree where P holds of a place and the nodes left give a node the same parts, if P holds where its parts begin and

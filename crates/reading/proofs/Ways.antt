@@ -6,9 +6,8 @@ use native.Mathlib.Omega.{arith}
 use lib.ListN.{length, drop, replicate, length-replicate}
 use lib.Seq.{sets, sets-eq}
 use borrow.Author.Tests.{le-ltb, lt-ltb}
-use Rattle.reading.specs.Formula.{size}
-use Rattle.reading.specs.Outcome.{Outcome, accepted, refused, andThen}
-use Rattle.reading.specs.File.{Patterns, patternsAt, Parsed, formulaOf, ended, ruleOf}
+use Rattle.reading.specs.Rule.{size}
+use Rattle.reading.specs.File.{Outcome, accepted, refused, andThen, Patterns, patternsAt, Parsed, formulaOf, ended, ruleOf}
 use Rattle.reading.specs.Numbered.{kinds, args, padded, blank, readingOf}
 use Rattle.reading.specs.Answers.{HeadOf, headOf, IsScope, enclosing, guardsOf, Reads, formulaAnswer}
 use Rattle.reading.specs.declared.Answer.{Answer}

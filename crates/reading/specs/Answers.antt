@@ -6,9 +6,9 @@ use mathlib.Core.Bool.{true, false}
 use lib.ListN.{length, getD, replicate}
 use lib.Seq.{sets}
 use Rattle.reading.specs.Pattern.{extentOf}
-use Rattle.reading.specs.Outcome.{Outcome, accepted, refused}
+use Rattle.reading.specs.File.{Outcome, accepted, refused}
 use Rattle.reading.specs.File.{Patterns, Symbol, Truth, Falsity, Both, Max, Necessity, Variable, NodeRecord, Parsed}
-use Rattle.reading.specs.Formula.{Guards}
+use Rattle.reading.specs.Rule.{Guards}
 use Rattle.reading.specs.Numbered.{kinds, args, padded, noPattern, noExtent}
 use Rattle.reading.specs.declared.Pattern.{Pattern}
 use Rattle.reading.specs.declared.Answer.{Answer}

@@ -1,14 +1,28 @@
 -- What the bytes of a rule file say. The checks of each record stand in the order of the paper's table, a line each.
 -- s is the file, `at` the place of a record, n the number of patterns, and g says which of the maxes around a node are guarded.
 use Prim.Native.Nat.{ℕ, zero, suc, _+_, _-_}
+use mathlib.Core.Bool.{Bool, true, false, cond, _||_, _&&_, not}
 use mathlib.Core.List.{List, [], _∷_}
-use mathlib.Core.Bool.{Bool, false, cond, _||_, _&&_, not}
 use lib.ListN.{length, getD}
 use lib.Dec.{ltb, leb, eqb}
-use Rattle.reading.specs.Formula.{Formula, truth, falsity, both, necessity, max, variable, Guards, guarded}
-use Rattle.reading.specs.Rule.{Rule}
-use Rattle.reading.specs.Outcome.{Outcome, accepted, refused, refuse, andThen}
+use Rattle.reading.specs.Rule.{Formula, truth, falsity, both, necessity, max, variable, Guards, guarded, Rule}
 use Rattle.reading.specs.declared.Pattern.{Pattern}
+
+-- ---- what checking some input gives
+
+-- accepted with a value, or refused with the paper's number and place
+pub data Outcome (A : Type 0) : Type 0 where
+  accepted : A → Outcome A
+  refused : (number place : ℕ) → Outcome A
+
+-- refused where the condition holds
+abbrev pub refuse : {A : Type 0} → Bool → (number place : ℕ) → Outcome A → Outcome A
+refuse true number place rest = refused number place
+refuse false number place rest = rest
+
+abbrev pub andThen : {A B : Type 0} → Outcome A → (A → Outcome B) → Outcome B
+andThen (accepted a) f = f a
+andThen (refused number place) f = refused number place
 
 -- ---- the patterns
 

@@ -1,9 +1,6 @@
 -- In the order in which to read them. `Answers` serves the reader's own functions alone.
-pub mod Code
 pub mod Pattern
-pub mod Formula
 pub mod Rule
-pub mod Outcome
 pub mod File
 pub mod Nodes
 pub mod Numbered

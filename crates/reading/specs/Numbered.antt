@@ -3,9 +3,8 @@ use Prim.Native.Nat.{ℕ, suc, _+_, _-_}
 use mathlib.Core.List.{List, [], _++_, map}
 use lib.ListN.{length, getD, replicate}
 use Rattle.reading.specs.Pattern.{extentOf}
-use Rattle.reading.specs.Formula.{Formula, truth, falsity, both, necessity, max, variable, size}
-use Rattle.reading.specs.Rule.{Rule}
-use Rattle.reading.specs.Outcome.{Outcome, accepted, refused}
+use Rattle.reading.specs.Rule.{Formula, truth, falsity, both, necessity, max, variable, size, Rule}
+use Rattle.reading.specs.File.{Outcome, accepted, refused}
 use Rattle.reading.specs.Nodes.{EnclosingMax, inOrder}
 use Rattle.reading.specs.declared.Pattern.{Pattern}
 use Rattle.reading.specs.declared.Extent.{Extent}

@@ -1,11 +1,48 @@
--- Patterns, and which codes they cover: the mask says for each kind whether it belongs, first and last bound the slots. `Pattern` and
--- `Extent` are the structs of src/lib.rt.
-use Prim.Native.Nat.{ℕ, zero, suc, _+_, _/_, _%_, _^_, _≤_, _<_}
+-- Scans and patterns. A scan is its code, made of its kind, 0 to 7, and its slot, 0 to 31. A pattern is a set of codes: the mask says for each
+-- kind whether it belongs, first and last bound the slots. `Pattern` and `Extent` are the structs of src/lib.rt.
+use Prim.Native.Nat.{ℕ, _+_, _*_, _/_, _%_, zero, suc, _^_, _≤_, _<_}
 use mathlib.Core.Bool.{Bool, cond, _&&_}
 use lib.Dec.{leb, eqb}
-use Rattle.reading.specs.Code.{kindOf, slotOf}
 use Rattle.reading.specs.declared.Pattern.{Pattern}
 use Rattle.reading.specs.declared.Extent.{Extent}
+
+-- ---- codes
+
+abbrev pub codeOf : ℕ → ℕ → ℕ
+codeOf kind slot = 32 * kind + slot
+
+abbrev pub kindOf : ℕ → ℕ
+kindOf code = code / 32
+
+abbrev pub slotOf : ℕ → ℕ
+slotOf code = code % 32
+
+-- The eight kinds. The slot of a sync is the phone's number.
+abbrev pub issue : ℕ
+issue = 0
+
+abbrev pub cancel : ℕ
+cancel = 1
+
+abbrev pub collect : ℕ
+collect = 2
+
+abbrev pub deliver : ℕ
+deliver = 3
+
+abbrev pub sync : ℕ
+sync = 4
+
+abbrev pub return : ℕ
+return = 5
+
+abbrev pub note : ℕ
+note = 6
+
+abbrev pub handover : ℕ
+handover = 7
+
+-- ---- patterns
 
 -- bit i of a number, 0 or 1
 unfoldable pub bit : ℕ → ℕ → ℕ

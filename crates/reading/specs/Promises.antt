@@ -7,10 +7,8 @@ use mathlib.Core.List.{List, [], map}
 use lib.ListN.{length, getD, take}
 use lib.Count.{ones, trailingZeros}
 use Rattle.reading.specs.Pattern.{covers, extentOf}
-use Rattle.reading.specs.Formula.{Formula, size, WellFormed}
-use Rattle.reading.specs.Rule.{Rule, WellFormedRule, encode, Bytes}
-use Rattle.reading.specs.Outcome.{accepted, refused}
-use Rattle.reading.specs.File.{ruleOf}
+use Rattle.reading.specs.Rule.{Formula, size, WellFormed, Rule, WellFormedRule, encode, Bytes}
+use Rattle.reading.specs.File.{accepted, refused, ruleOf}
 use Rattle.reading.specs.Numbered.{kind, argument, numberOf, numbered, noPattern, noExtent, readingOf}
 use Rattle.reading.specs.Nodes.{EnclosingMax, Node, guardsAt, Resolves}
 use Rattle.reading.specs.declared.Pattern.{Pattern}

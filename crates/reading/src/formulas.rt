@@ -10,7 +10,7 @@ ghost use Prim.Native.Nat.{_+_, _-_, _≤_, _<_};
 ghost use mathlib.Core.List.{[], _∷_};
 ghost use mathlib.Core.Bool.{false};
 ghost use lib.ListN.{length, getD};
-ghost use Rattle.reading.specs.Formula.{guarded};
+ghost use Rattle.reading.specs.Rule.{guarded};
 ghost use Rattle.reading.specs.File.{necessityAt, variableAt, nodeAt, formulaOf};
 ghost use Rattle.reading.specs.Answers.{nodeRead, passedUp, formulaAnswer, enclosing, guardsOf, IsScope, Fit, Reads};
 

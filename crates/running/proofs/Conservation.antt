@@ -4,7 +4,7 @@ use mathlib.Core.Path.{_≡_, refl, ap}
 use mathlib.Core.List.{List, [], _∷_}
 use native.Mathlib.Omega.{arith}
 use lib.ListN.{length, length-append}
-use Rattle.reading.specs.Outcome.{refused}
+use Rattle.reading.specs.File.{refused}
 use Rattle.synthesis.specs.Monitor.{Answer, kept, verdicts}
 use Rattle.synthesis.proofs.Runs.{run-induction, verdicts-length}
 use Rattle.running.specs.Running.{following, occurrences}

@@ -4,7 +4,7 @@ use mathlib.Core.Path.{_≡_, refl}
 use mathlib.Core.Bool.{Bool, true, false}
 use mathlib.Core.List.{List, _++_}
 use lib.ListN.{length-append}
-use Rattle.reading.specs.Outcome.{accepted}
+use Rattle.reading.specs.File.{accepted}
 use Rattle.synthesis.specs.Monitor.{kept, verdicts, ended}
 use Rattle.synthesis.proofs.Runs.{kept-append, verdicts-append, ended-append}
 use Rattle.running.specs.Running.{following, fits, followed, runOf, ranOf}

@@ -5,7 +5,7 @@ use mathlib.Core.Bool.{true}
 use mathlib.Core.List.{List}
 use native.Mathlib.Omega.{arith}
 use lib.ListN.{length}
-use Rattle.reading.specs.Outcome.{Outcome, accepted, refused}
+use Rattle.reading.specs.File.{Outcome, accepted, refused}
 use Rattle.running.specs.Running.{following, fits, roomy, Run, followed, runOf}
 use Rattle.running.specs.Running.{checkedOf, occurrences, ranOf, overlay, outputAfter, verdictsAfter}
 use Rattle.running.specs.declared.State.{State}

@@ -8,7 +8,7 @@ use native.Mathlib.Omega.{arith}
 use lib.Dec.{leb}
 use lib.ListN.{length}
 use borrow.Author.Tests.{leb-true, leb-false, le-leb, lt-leb}
-use Rattle.reading.specs.Outcome.{refused}
+use Rattle.reading.specs.File.{refused}
 use Rattle.running.specs.Running.{WellFormedTable, roomy, fits, runOf, checkedOf}
 use Rattle.running.specs.Promises.{RunsOnTables}
 use Rattle.running.specs.declared.Checked.the-variants.{Refused}

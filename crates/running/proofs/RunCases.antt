@@ -3,7 +3,7 @@ use Prim.Native.Nat.{ℕ}
 use mathlib.Core.Path.{_≡_, refl}
 use mathlib.Core.Bool.{Bool, true, false, not}
 use mathlib.Core.List.{List}
-use Rattle.reading.specs.Outcome.{Outcome, accepted, refused, refuse}
+use Rattle.reading.specs.File.{Outcome, accepted, refused, refuse}
 use Rattle.running.specs.Running.{fits, roomy, Run, followed, runOf}
 use Rattle.running.specs.declared.State.{State}
 

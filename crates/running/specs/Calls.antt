@@ -7,7 +7,7 @@ use mathlib.Core.List.{List, [], _∷_, _++_}
 use lib.Dec.{eqb}
 use lib.ListN.{length, take}
 use Rattle.reading.specs.Rule.{Bytes}
-use Rattle.reading.specs.Outcome.{Outcome, refused}
+use Rattle.reading.specs.File.{Outcome, refused}
 use Rattle.running.specs.Running.{start, Run, runOf, ranOf, outputAfter, verdictsAfter}
 use Rattle.running.specs.declared.State.{State}
 use Rattle.running.specs.declared.Checked.{Checked}

@@ -7,8 +7,7 @@ use mathlib.Core.Bool.{true}
 use mathlib.Core.List.{List, [], _∷_, _++_}
 use lib.ListN.{length, getD, take}
 use Rattle.reading.specs.Rule.{Rule, Bytes}
-use Rattle.reading.specs.Outcome.{Outcome, accepted}
-use Rattle.reading.specs.File.{ruleOf}
+use Rattle.reading.specs.File.{Outcome, accepted, ruleOf}
 use Rattle.synthesis.specs.Violation.{ViolatesRule}
 use Rattle.synthesis.specs.Monitor.{dropped, cases, next}
 use Rattle.synthesis.specs.Table.{meaning}

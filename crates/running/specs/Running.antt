@@ -7,7 +7,7 @@ use mathlib.Core.Bool.{Bool, true, not, cond, _&&_, _||_}
 use mathlib.Core.List.{List, [], _∷_, _++_}
 use lib.Dec.{eqb, ltb, leb}
 use lib.ListN.{length, getD, take, drop}
-use Rattle.reading.specs.Outcome.{Outcome, accepted, refused, refuse}
+use Rattle.reading.specs.File.{Outcome, accepted, refused, refuse}
 use Rattle.synthesis.specs.Monitor.{Answer, dropped, next, cases, kept, verdicts, ended}
 use Rattle.synthesis.specs.Table.{entry}
 use Rattle.running.specs.declared.State.{State}

@@ -4,7 +4,7 @@ use mathlib.Core.Path.{_≡_, refl, sym, _∙_, ap}
 use mathlib.Core.List.{List}
 use native.Mathlib.Omega.{arith}
 use lib.ListN.{length, take}
-use Rattle.reading.specs.Outcome.{Outcome, accepted, refused}
+use Rattle.reading.specs.File.{Outcome, accepted, refused}
 use Rattle.synthesis.specs.Answering.{answerOf}
 use Rattle.synthesis.specs.Table.{filled}
 use Rattle.synthesis.specs.Building.{Synthesis, synthesisOf, buildingOf, countedOf, tableAfter}

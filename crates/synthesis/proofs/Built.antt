@@ -7,12 +7,11 @@ use mathlib.Core.List.{List}
 use native.Mathlib.Omega.{arith}
 use lib.ListN.{length, getD}
 use Rattle.reading.specs.Rule.{Rule, Bytes}
-use Rattle.reading.specs.Outcome.{accepted}
-use Rattle.reading.specs.File.{ruleOf}
+use Rattle.reading.specs.File.{accepted, ruleOf}
 use Rattle.synthesis.specs.Monitor.{kept, verdicts, ended, Monitors, Renames}
 use Rattle.synthesis.specs.Opening.{Answers}
 use Rattle.synthesis.specs.Answering.{firstOf, answerOf, hopeless}
-use Rattle.synthesis.specs.Search.{place}
+use Rattle.synthesis.specs.Search.{indexOf}
 use Rattle.synthesis.specs.Table.{rowOf, entry, filled}
 use Rattle.synthesis.specs.Building.{equationsOf, Synthesis, synthesisOf, buildingOf, countedOf, tableAfter}
 use Rattle.synthesis.specs.declared.Counted.the-variants.{Equations}
@@ -20,21 +19,21 @@ use Rattle.synthesis.specs.Promises.{TableMonitors, TableDrops, RefusesH
 use Rattle.synthesis.specs.Promises.{RowInRange, EntriesInRange, EntryAnswers, EntriesAnswer, SameAfterRows, TableRest}
 use Rattle.synthesis.proofs.AnsweringLaws.{answers-as-defined}
 use Rattle.synthesis.proofs.RuleMonitor.{rule-monitors, hopeless-iff}
-use Rattle.synthesis.proofs.Places.{Member}
+use Rattle.synthesis.proofs.Indices.{Member}
 use Rattle.synthesis.proofs.Rows.{entries-length, filled-length, filled-row, filled-rest}
 use Rattle.synthesis.proofs.MonitorLaws.{drops-violations}
 use Rattle.synthesis.proofs.Renaming.{renamed-runs, renamed-monitors}
 use Rattle.synthesis.proofs.Tables.{table-renames, table-range, table-answers}
 use Rattle.synthesis.proofs.Synthesized.{made, synthesis-accepts, building-accepts, refused-eight, refuses-eight}
 use Rattle.synthesis.proofs.Synthesized.{counted-accepts, counted-refuses, accepts-as}
-use Rattle.synthesis.proofs.Equations.{file-well-formed, first-place, first-member, equations-closed}
+use Rattle.synthesis.proofs.Equations.{file-well-formed, first-index, first-member, equations-closed}
 
 -- ---- a run over a table that goes as one over the equations
 
 pub record RunsAs (mark : ℕ) (y : Synthesis) (table w : List ℕ) : Type 0 where
   pub keeps : kept (entry 256 mark table) 0 w ≡ kept (answerOf (y .rule)) (firstOf (y .rule)) w
   pub judges : verdicts (entry 256 mark table) 0 w ≡ verdicts (answerOf (y .rule)) (firstOf (y .rule)) w
-  pub ends : ended (entry 256 mark table) 0 w ≡ place (ended (answerOf (y .rule)) (firstOf (y .rule)) w) (y .equations)
+  pub ends : ended (entry 256 mark table) 0 w ≡ indexOf (ended (answerOf (y .rule)) (firstOf (y .rule)) w) (y .equations)
 
 module _ (limit mark : ℕ) (s table : List ℕ) where
   -- the table that building leaves
@@ -78,7 +77,7 @@ module _ (limit mark : ℕ) (s table : List ℕ) where
 
   module _ (below : limit ≤ mark) where
     rows-rename : (r : Rule) → Admits r
-        → Renames 256 (λ e. Member e (equationsOf limit r)) (answerOf r) (entry 256 mark (rowsFor r)) (λ e. place e (equationsOf limit r))
+        → Renames 256 (λ e. Member e (equationsOf limit r)) (answerOf r) (entry 256 mark (rowsFor r)) (λ e. indexOf e (equationsOf limit r))
     rows-rename r admits =
         table-renames 256 mark (answerOf r) (equationsOf limit r) (equations-closed limit r (admits .few)) table (admits .room)
         (omega (arith, admits .few))
@@ -88,11 +87,11 @@ module _ (limit mark : ℕ) (s table : List ℕ) where
         let l = equationsOf limit r in
         let t = entry 256 mark (rowsFor r) in
         let renames = rows-rename r admits in
-        let alike = renamed-runs 256 (λ e. Member e l) (answerOf r) t (λ e. place e l) renames (firstOf r) w (first-member limit r) bytes in
+        let alike = renamed-runs 256 (λ e. Member e l) (answerOf r) t (λ e. indexOf e l) renames (firstOf r) w (first-member limit r) bytes in
         record {
-          keeps = rw (first-place limit r) at (alike .keeps);
-          judges = rw (first-place limit r) at (alike .judges);
-          ends = rw (first-place limit r) at (alike .ends);
+          keeps = rw (first-index limit r) at (alike .keeps);
+          judges = rw (first-index limit r) at (alike .judges);
+          ends = rw (first-index limit r) at (alike .ends);
         }
 
     module _ (bytes : Bytes s) where
@@ -102,8 +101,8 @@ module _ (limit mark : ℕ) (s table : List ℕ) where
           let t = entry 256 mark (rowsFor r) in
           let renames = rows-rename r admits in
           let monitors = rule-monitors r (file-well-formed s bytes r (admits .read)) (admits .hopeful) in
-          subst (Monitors r t) (first-place limit r)
-          (renamed-monitors r (λ e. Member e l) (answerOf r) t (λ e. place e l) renames (firstOf r) (first-member limit r) monitors)
+          subst (Monitors r t) (first-index limit r)
+          (renamed-monitors r (λ e. Member e l) (answerOf r) t (λ e. indexOf e l) renames (firstOf r) (first-member limit r) monitors)
 
       pub built-answers : (k c : ℕ) → c < 256 → (y : Synthesis) → buildingOf limit s (length table) ≡ accepted y → k < length (y .equations)
           → EntryAnswers (y .rule) (y .equations) k c (entry 256 mark left k c)

@@ -4,8 +4,7 @@ use mathlib.Core.Logic.{_↔_, _⊎_, inl, inr}
 use mathlib.Core.Bool.{Bool}
 use mathlib.Core.List.{List, [], _∷_}
 use lib.ListN.{length}
-use Rattle.reading.specs.Formula.{WellFormed}
-use Rattle.reading.specs.Rule.{Rule}
+use Rattle.reading.specs.Rule.{WellFormed, Rule}
 use Rattle.reading.specs.Nodes.{whole, after}
 use Rattle.synthesis.specs.Violation.{coveredBy, by-falsity, by-code, ViolatesRule}
 use Rattle.synthesis.specs.Monitor.{Answer, dropped, next}
@@ -14,8 +13,7 @@ use Rattle.synthesis.specs.Opening.{IsFalsity, OpensToFalsity, Leads, le
 use Rattle.synthesis.specs.Answering.{firstOf, answerOf}
 use Rattle.synthesis.specs.Promises.{ViolatesNext, Follows, FollowsViolation}
 use Rattle.synthesis.proofs.AnsweringLaws.{answers-as-defined}
-use Rattle.synthesis.proofs.ViolationLaws.{ViolatesNode, violates-node, opens-violates}
-use Rattle.synthesis.proofs.ViolationLaws.{Ends, at-falsity, at-necessity, violates-opens}
+use Rattle.synthesis.proofs.ViolationLaws.{ViolatesNode, violates-node, opens-violates, Ends, at-falsity, at-necessity, violates-opens}
 
 abbrev covered : Rule → ℕ → ℕ → Bool
 covered r = coveredBy (r .patterns)

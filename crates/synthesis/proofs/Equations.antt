@@ -7,10 +7,8 @@ use mathlib.Core.List.{List, []}
 use native.Mathlib.Decide.{decLt}
 use native.Mathlib.Omega.{arith}
 use lib.ListN.{length, getD}
-use Rattle.reading.specs.Formula.{Formula, necessity}
-use Rattle.reading.specs.Rule.{Rule, Bytes}
-use Rattle.reading.specs.Outcome.{accepted}
-use Rattle.reading.specs.File.{ruleOf}
+use Rattle.reading.specs.Rule.{Formula, necessity, Rule, Bytes}
+use Rattle.reading.specs.File.{accepted, ruleOf}
 use Rattle.reading.specs.Nodes.{EnclosingMax, Node}
 use Rattle.reading.proofs.Accepted.{reading-accepts}
 use Rattle.reading.proofs.AllLaws.{all-at}
@@ -19,11 +17,11 @@ use Rattle.synthesis.specs.NodeSet.{Has}
 use Rattle.synthesis.specs.Opening.{Opens, falsity-itself, necessity-itself, first-part, second-part, body-of-max, body-of-variable}
 use Rattle.synthesis.specs.Opening.{IsFalsity, Leads, leads, Answers}
 use Rattle.synthesis.specs.Answering.{firstOf, answerOf, hopeless}
-use Rattle.synthesis.specs.Search.{place, found}
+use Rattle.synthesis.specs.Search.{indexOf, found}
 use Rattle.synthesis.specs.Building.{equationsOf, Synthesis, synthesisOf, countedOf}
 use Rattle.synthesis.specs.Promises.{WellFormedFormula, Counts, AnswersCount, ChecksTable, Closed, RefusesTooMany, Reached, ReachesEquations}
 use Rattle.synthesis.specs.declared.Counted.the-variants.{Refused}
-use Rattle.synthesis.proofs.Places.{Member, place-is, place-first, member-at, Distinct, distinct-places, distinct-fits}
+use Rattle.synthesis.proofs.Indices.{Member, index-is, index-first, member-at, Distinct, distinct-indices, distinct-fits}
 use Rattle.synthesis.proofs.Finding.{ClosedUnder, found-closed, found-inside, Reached as ReachedBy, found-reached, found-all}
 use Rattle.synthesis.proofs.Finding.{found-first, found-distinct}
 use Rattle.synthesis.proofs.AnsweringLaws.{answers-as-defined}
@@ -63,15 +61,15 @@ else-necessity x d = ⊎-elim (λ f. absurd (d f)) (λ n. n) x
 
 module _ (limit : ℕ) (r : Rule) where
   -- the first equation has row 0
-  pub first-place : place (firstOf r) (equationsOf limit r) ≡ 0
+  pub first-index : indexOf (firstOf r) (equationsOf limit r) ≡ 0
   unfolding equationsOf
-  first-place =
+  first-index =
       let first = found-first 256 (answerOf r) limit (firstOf r) in
-      omega (arith, place-first (firstOf r) (found 256 (answerOf r) limit (firstOf r)) 0 (first .0) (first .1))
+      omega (arith, index-first (firstOf r) (found 256 (answerOf r) limit (firstOf r)) 0 (first .0) (first .1))
 
   pub first-member : Member (firstOf r) (equationsOf limit r)
   unfolding equationsOf
-  first-member = omega (arith, first-place, found-first 256 (answerOf r) limit (firstOf r) .0)
+  first-member = omega (arith, first-index, found-first 256 (answerOf r) limit (firstOf r) .0)
 
   equations-distinct : Distinct (equationsOf limit r)
   unfolding equationsOf
@@ -91,8 +89,8 @@ module _ (limit : ℕ) (r : Rule) where
   closed-list few =
       let l = equationsOf limit r in
       record {
-        first = (place (firstOf r) l, first-member, place-is (firstOf r) l first-member);
-        follows = λ i c e h b q. let m = equations-closed few i c e h b q in (place e l, m, place-is e l m);
+        first = (indexOf (firstOf r) l, first-member, index-is (firstOf r) l first-member);
+        follows = λ i c e h b q. let m = equations-closed few i c e h b q in (indexOf e l, m, index-is e l m);
       }
 
   -- no closed list is shorter
@@ -162,21 +160,21 @@ reaches-equations limit s bytes r n read e =
     let small : length (equationsOf limit r) ≤ limit = subst (λ x. length (equationsOf limit x) ≤ limit) same few in
     record {
       members = λ i m h. equations-necessities limit r (file-well-formed s bytes r read) hope i h m;
-      distinct = distinct-places (equationsOf limit r) (equations-distinct limit r);
+      distinct = distinct-indices (equationsOf limit r) (equations-distinct limit r);
       reached = λ i h. let w = equations-reached limit r i h in (w .word, w .codes-of, w .keeps, w .ends);
       closed = closed-list limit r small;
     })
     (y .0) (y .1) (accepts-as limit s r read (y .0) (y .1))
 
 pub refuses-too-many : RefusesTooMany
-refuses-too-many limit s r read hopeful = (over, none)
+refuses-too-many limit s r read hopeful = (over, emptySet)
   where
     over : countedOf (synthesisOf limit s) ≡ Refused 9 0 → (es : List ℕ) → length es ≤ limit → Closed r es → ⊥
     over e es few closed =
         omega (arith, refused-nine limit s r read (counted-refuses (synthesisOf limit s) 9 0 e), closed-longer limit r es closed)
 
-    none : ((es : List ℕ) → length es ≤ limit → Closed r es → ⊥) → countedOf (synthesisOf limit s) ≡ Refused 9 0
-    none h = on (hopeless r) refl (decLt limit (length (equationsOf limit r)))
+    emptySet : ((es : List ℕ) → length es ≤ limit → Closed r es → ⊥) → countedOf (synthesisOf limit s) ≡ Refused 9 0
+    emptySet h = on (hopeless r) refl (decLt limit (length (equationsOf limit r)))
       where
         on : (b : Bool) → hopeless r ≡ b → Dec (limit < length (equationsOf limit r)) → countedOf (synthesisOf limit s) ≡ Refused 9 0
         on true q d = absurd (hopeful (rw (refuses-eight limit s r read q)))

@@ -2,7 +2,7 @@
 use Prim.Native.Nat.{ℕ}
 use mathlib.Core.Bool.{Bool}
 use mathlib.Core.List.{List, _++_}
-use Rattle.reading.specs.Formula.{Formula}
+use Rattle.reading.specs.Rule.{Formula}
 use Rattle.synthesis.specs.Violation.{Violates, by-falsity, by-first, by-second, by-code, by-body, by-variable}
 use Rattle.synthesis.specs.Promises.{ClosedUnderExtension}
 

@@ -11,9 +11,9 @@ use borrow.Author.Tests.{eq-eqb, ltb-true, ltb-false, lt-ltb, le-ltb}
 use Rattle.reading.specs.Rule.{All}
 use Rattle.reading.proofs.AllLaws.{all-at, all-append}
 use Rattle.synthesis.specs.Monitor.{Answer, dropped, next, cases, kept, ended}
-use Rattle.synthesis.specs.Search.{place, with, noted, turn, found}
+use Rattle.synthesis.specs.Search.{indexOf, with, noted, turn, found}
 use Rattle.synthesis.proofs.Runs.{kept-last, ended-last}
-use Rattle.synthesis.proofs.Places.{Member, place-is, member-append, member-last, with-cases, Distinct, distinct-last}
+use Rattle.synthesis.proofs.Indices.{Member, index-is, member-append, member-last, with-cases, Distinct, distinct-last}
 
 -- ---- lists that grow at the end
 
@@ -78,11 +78,11 @@ module _ (codes : ℕ) (answer : ℕ → ℕ → Answer ℕ) where
 
   pub turn-cases : (P : List ℕ → Type 0) (k : ℕ) (l : List ℕ) → (k < length l → P (noted codes answer (getD l k 0) codes l))
       → (length l ≤ k → P l) → P (turn codes answer k l)
-  turn-cases P k l some none = on (ltb k (length l)) refl
+  turn-cases P k l some emptySet = on (ltb k (length l)) refl
     where
       on : (b : Bool) → ltb k (length l) ≡ b → P (cond b (noted codes answer (getD l k 0) codes l) l)
       on true q = some (ltb-true k (length l) q)
-      on false q = none (ltb-false k (length l) q)
+      on false q = emptySet (ltb-false k (length l) q)
 
   pub turn-some : (k : ℕ) (l : List ℕ) → k < length l → turn codes answer k l ≡ noted codes answer (getD l k 0) codes l
   turn-some k l h = rw (lt-ltb k (length l) h)
@@ -175,7 +175,7 @@ module _ (codes : ℕ) (answer : ℕ → ℕ → Answer ℕ) where
   pub found-inside : (l : List ℕ) (first : ℕ) → Member first l → ClosedUnder l → (turns : ℕ)
       → All (λ e. Member e l) (found codes answer turns first)
   found-inside l first m closed k =
-      found-all (λ e. Member e l) first m (λ e c e′ h b q. closed (place e l) c e′ h b (rw (place-is e l h) q)) k
+      found-all (λ e. Member e l) first m (λ e c e′ h b q. closed (indexOf e l) c e′ h b (rw (index-is e l h) q)) k
 
   -- ---- each is reached
 

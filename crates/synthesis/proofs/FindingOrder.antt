@@ -9,10 +9,10 @@ use lib.ListN.{length, getD, length-append}
 use lib.Seq.{getD-at}
 use Rattle.synthesis.specs.Monitor.{Answer, dropped, next}
 use Rattle.synthesis.specs.Answering.{firstOf, answerOf}
-use Rattle.synthesis.specs.Search.{place, with, noted, found}
+use Rattle.synthesis.specs.Search.{indexOf, with, noted, found}
 use Rattle.synthesis.specs.Building.{equationsOf}
 use Rattle.synthesis.specs.Promises.{Before, FoundBy, AsFound, NumberedAsFound}
-use Rattle.synthesis.proofs.Places.{Member, place-is, with-cases}
+use Rattle.synthesis.proofs.Indices.{Member, index-is, with-cases}
 use Rattle.synthesis.proofs.Finding.{Grows, grows-member, grows-at, grows-length, noted-grows, noted-member, turn-cases}
 use Rattle.synthesis.proofs.Finding.{ClosedBelow, found-closed-below}
 
@@ -54,7 +54,7 @@ module _ (codes : ℕ) (answer : ℕ → ℕ → Answer ℕ) where
     leads = rw (same k h, getD-at l e [] 0 (length l) refl) q;
     before = λ j c′ e′ p b′ q′.
         let m = followed j c′ e′ p b′ (rw (same j (omega (arith, before-le p))) at q′) in
-        (place e′ l, m, same (place e′ l) m ∙ place-is e′ l m);
+        (indexOf e′ l, m, same (indexOf e′ l) m ∙ index-is e′ l m);
   }
     where
       same : (j : ℕ) → j < length l → getD (l ++ (e ∷ [])) j 0 ≡ getD l j 0

@@ -12,7 +12,7 @@ use lib.ListN.{getD}
 use Rattle.reading.specs.Pattern.{least}
 use Rattle.reading.proofs.Counting.{least-holds}
 use Rattle.reading.proofs.Bits.{isSet, trailing-is-least, trailing-lt}
-use Rattle.synthesis.specs.NodeSet.{Has, has, none, union}
+use Rattle.synthesis.specs.NodeSet.{Has, has, emptySet, union}
 use Rattle.synthesis.specs.Arrays.{gathered}
 use Rattle.synthesis.proofs.NodeSetLaws.{has-none, half-has, has-true, true-has, has-ext, none-of, toggled, toggled-other}
 use Rattle.synthesis.proofs.MemberLaws.{cond-has, in-first, in-second, union-cases}
@@ -29,15 +29,15 @@ gathered-has xs live m = (there xs live, λ g. back xs live (g .0) (g .1) (g .2)
     there : (xs : List ℕ) (live : ℕ) → Has (gathered xs live) m → Gathers xs live m
     there [] live h = absurd (has-none m h)
     there (x ∷ xs) live h =
-        union-cases (cond (has live 0) x none) (gathered xs (live / 2)) m
+        union-cases (cond (has live 0) x emptySet) (gathered xs (live / 2)) m
         (λ a. let (test, k) = cond-has (has live 0) x m a in (0, has-true live 0 test, k))
         (λ a. let (n, l, k) = there xs (live / 2) a in (suc n, half-has live n .0 l, k)) h
 
     back : (xs : List ℕ) (live n : ℕ) → Has live n → Has (getD xs n 0) m → Has (gathered xs live) m
     back [] live n h k = k
-    back (x ∷ xs) live zero h k = in-first (cond (has live 0) x none) (gathered xs (live / 2)) m (rw (true-has live 0 h) k)
+    back (x ∷ xs) live zero h k = in-first (cond (has live 0) x emptySet) (gathered xs (live / 2)) m (rw (true-has live 0 h) k)
     back (x ∷ xs) live (suc n) h k =
-        in-second (cond (has live 0) x none) (gathered xs (live / 2)) m (back xs (live / 2) n (half-has live n .1 h) k)
+        in-second (cond (has live 0) x emptySet) (gathered xs (live / 2)) m (back xs (live / 2) n (half-has live n .1 h) k)
 
 -- ---- one member at a time
 
@@ -73,11 +73,11 @@ gather-step xs all rest i h = has-ext _ _ (λ m. (there m, back m))
         union-cases all (gathered xs rest) m (λ a. in-first (union all one) others m (in-first all one m a))
         (λ a. let (n, r, x) = gathered-has xs rest m .0 a in member m n r x (ℕ-discrete i n))
 
-pub gather-none : (xs : List ℕ) (all : ℕ) → union all (gathered xs none) ≡ all
+pub gather-none : (xs : List ℕ) (all : ℕ) → union all (gathered xs emptySet) ≡ all
 gather-none xs all = rw nothing (or-zero-r all)
   where
-    nothing : gathered xs none ≡ none
-    nothing = none-of (gathered xs none) (λ m a. let (n, h, x) = gathered-has xs none m .0 a in has-none n h)
+    nothing : gathered xs emptySet ≡ emptySet
+    nothing = none-of (gathered xs emptySet) (λ m a. let (n, h, x) = gathered-has xs emptySet m .0 a in has-none n h)
 
 -- ---- the lowest member
 

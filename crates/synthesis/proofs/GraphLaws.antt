@@ -5,14 +5,13 @@ use mathlib.Core.Logic.{_↔_}
 use mathlib.Core.List.{List, []}
 use native.Mathlib.Omega.{arith}
 use lib.ListN.{getD, replicate}
-use Rattle.reading.specs.Formula.{Formula, size}
-use Rattle.reading.specs.Rule.{Rule}
+use Rattle.reading.specs.Rule.{Formula, size, Rule}
 use Rattle.reading.specs.Nodes.{EnclosingMax, Node, whole, Resolves, is-falsity}
 use Rattle.reading.specs.declared.NumberedRule.{NumberedRule}
 use Rattle.reading.proofs.NodeLaws.{node-exists}
 use Rattle.reading.proofs.NumberedLaws.{repeated-at}
 use Rattle.synthesis.specs.Violation.{coveredBy}
-use Rattle.synthesis.specs.NodeSet.{Has, common}
+use Rattle.synthesis.specs.NodeSet.{Has, intersection}
 use Rattle.synthesis.specs.Opening.{IsFalsity}
 use Rattle.synthesis.specs.Answering.{falsities, reached, firstOf, judged, answerOf}
 use Rattle.synthesis.specs.Arrays.{IsRule, SomeNode, SomeNumbered, IsOpening, HasKind, IsGraph, gathered, answerBy}
@@ -53,7 +52,7 @@ module _ {r : Rule} {kinds args : List ℕ} (ir : IsRule r kinds args) where
 module _ {r : Rule} (g : Graph) (is : IsGraph r g) (e c : ℕ) (code : c < 256) where
   -- the members that wait for the code
   abbrev live : ℕ
-  live = common e (getD (g .waiting) c 0)
+  live = intersection e (getD (g .waiting) c 0)
 
   -- what the members lead to
   abbrev led : ℕ

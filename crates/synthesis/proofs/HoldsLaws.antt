@@ -8,9 +8,9 @@ use native.Mathlib.Omega.{arith}
 use lib.ListN.{length, getD, take, set, length-append}
 use lib.Seq.{getD-take, take-suc-set, length-take-le}
 use Rattle.synthesis.specs.Monitor.{Answer}
-use Rattle.synthesis.specs.Search.{place, with, noted, turn}
+use Rattle.synthesis.specs.Search.{indexOf, with, noted, turn}
 use Rattle.synthesis.specs.Arrays.{Holds}
-use Rattle.synthesis.proofs.Places.{with-old, with-new}
+use Rattle.synthesis.proofs.Indices.{with-old, with-new}
 use Rattle.synthesis.proofs.Finding.{Grows, grows-length, turn-some, turn-none}
 
 -- ---- what the count says
@@ -38,17 +38,17 @@ module _ (limit : ℕ) (a : List ℕ) (n : ℕ) (l : List ℕ) (room : length a 
 
   -- ---- one more equation
 
-  pub held-old : (e : ℕ) → n ≤ limit → place e (take n a) < n → Holds limit a n (with l e)
+  pub held-old : (e : ℕ) → n ≤ limit → indexOf e (take n a) < n → Holds limit a n (with l e)
   held-old e h old = rw (← few h, with-old (take n a) e (omega (arith, size h))) (inl (h, refl))
 
-  new : (e : ℕ) → n ≤ limit → n ≤ place e (take n a) → with l e ≡ take n a ++ (e ∷ [])
+  new : (e : ℕ) → n ≤ limit → n ≤ indexOf e (take n a) → with l e ≡ take n a ++ (e ∷ [])
   new e h absent = rw (← few h) (with-new (take n a) e (λ m. omega (arith, size h)))
 
-  pub held-full : (e : ℕ) → n ≡ limit → n ≤ place e (take n a) → Holds limit a (suc limit) (with l e)
+  pub held-full : (e : ℕ) → n ≡ limit → n ≤ indexOf e (take n a) → Holds limit a (suc limit) (with l e)
   held-full e h absent =
       rw (new e (omega arith) absent) (inr (refl, omega (arith, size (omega arith), length-append (take n a) (e ∷ []))))
 
-  pub held-new : (e : ℕ) → n < limit → n ≤ place e (take n a) → Holds limit (set a n e) (n + 1) (with l e)
+  pub held-new : (e : ℕ) → n < limit → n ≤ indexOf e (take n a) → Holds limit (set a n e) (n + 1) (with l e)
   held-new e h absent = rw (new e (omega arith) absent, add-one n) (inl (omega arith, take-suc-set a n e (omega arith)))
 
   -- ---- the turn of equation k

@@ -10,7 +10,7 @@ pub mod EquationLaws
 pub mod Runs
 pub mod Verdicts
 pub mod RuleMonitor
-pub mod Places
+pub mod Indices
 pub mod Finding
 pub mod FindingOrder
 pub mod Numbering

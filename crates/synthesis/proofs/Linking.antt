@@ -7,8 +7,7 @@ use native.Mathlib.Omega.{arith}
 use lib.ListN.{length, getD, set, replicate}
 use lib.Seq.{getD-set-same, getD-set-other}
 use borrow.Author.Count.{below-more}
-use Rattle.reading.specs.Formula.{Formula, necessity, max, size}
-use Rattle.reading.specs.Rule.{Rule}
+use Rattle.reading.specs.Rule.{Formula, necessity, max, size, Rule}
 use Rattle.reading.specs.Nodes.{EnclosingMax, Node, whole, first, second, after, body}
 use Rattle.reading.proofs.NumberedLaws.{repeated-at}
 use Rattle.synthesis.specs.Answering.{opening, opensAround}

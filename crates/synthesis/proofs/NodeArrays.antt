@@ -4,8 +4,7 @@ use mathlib.Core.Path.{_≡_}
 use mathlib.Core.List.{List, [], map}
 use native.Mathlib.Omega.{arith}
 use lib.ListN.{length, getD}
-use Rattle.reading.specs.Formula.{Formula, size}
-use Rattle.reading.specs.Rule.{Rule}
+use Rattle.reading.specs.Rule.{Formula, size, Rule}
 use Rattle.reading.specs.Nodes.{EnclosingMax, Node, Resolves}
 use Rattle.reading.specs.Numbered.{kind, argument, numberOf, kinds, args}
 use Rattle.reading.proofs.NodeLaws.{node-fits}

@@ -10,7 +10,7 @@ use lib.Pow.{pow-lt}
 use borrow.Author.Tests.{eq-eqb, eqb-true}
 use Rattle.reading.specs.Pattern.{bit}
 use Rattle.reading.proofs.Bits.{bit-zero, bit-suc}
-use Rattle.synthesis.specs.NodeSet.{Has, has, none, single, union, common}
+use Rattle.synthesis.specs.NodeSet.{Has, has, emptySet, singleton, union, intersection}
 use Rattle.synthesis.specs.Promises.{SameMembersSameSet}
 
 -- ---- bits
@@ -38,12 +38,12 @@ module _ (op digit : ℕ → ℕ → ℕ) (shift : (a b i : ℕ) → op a b / 2 
 bit-union : (a b i : ℕ) → bit i (union a b) ≡ max (bit i a) (bit i b)
 bit-union = bit-wise bitOr max or-shr or-step (λ x y h k. omega arith)
 
-bit-common : (a b i : ℕ) → bit i (common a b) ≡ min (bit i a) (bit i b)
+bit-common : (a b i : ℕ) → bit i (intersection a b) ≡ min (bit i a) (bit i b)
 bit-common = bit-wise bitAnd min and-shr and-step (λ x y h k. omega arith)
 
 -- ---- members
 
-pub has-none : (n : ℕ) → Has none n → ⊥
+pub has-none : (n : ℕ) → Has emptySet n → ⊥
 unfolding bit
 has-none n h = no-bit (0 / 2 ^ n) (zero-div (2 ^ n)) h
 
@@ -61,18 +61,18 @@ has-union a b n = (λ h. either _ _ (sym (bit-union a b n) ∙ h) (bit-small n a
     back : Has a n ⊎ Has b n → Has (union a b) n
     back h = bit-union a b n ∙ most _ _ h (bit-small n a) (bit-small n b)
 
-pub has-common : (a b n : ℕ) → Has (common a b) n ↔ (Has a n × Has b n)
+pub has-common : (a b n : ℕ) → Has (intersection a b) n ↔ (Has a n × Has b n)
 has-common a b n =
     (λ h. least _ _ (sym (bit-common a b n) ∙ h) (bit-small n a) (bit-small n b), λ h. bit-common a b n ∙ rw (h .0, h .1))
   where
     least : (x y : ℕ) → min x y ≡ 1 → x < 2 → y < 2 → (x ≡ 1) × (y ≡ 1)
     least x y e h k = (omega arith, omega arith)
 
-pub has-single : (k : ℕ) → Has (single k) k
+pub has-single : (k : ℕ) → Has (singleton k) k
 unfolding bit
 has-single k = rw (div-self {n = 2 ^ k} (one-le-pow k 2 (omega arith)))
 
-pub single-has : (k n : ℕ) → Has (single k) n → k ≡ n
+pub single-has : (k n : ℕ) → Has (singleton k) n → k ≡ n
 unfolding bit
 single-has zero zero h = refl
 single-has zero (suc n) h = absurd (no-bit (1 / 2 ^ suc n) (div-eq-of-lt (pow-lt {i = 0} {j = suc n} (omega arith))) h)
@@ -91,7 +91,7 @@ half-has e n = (λ h. bit-suc n e ∙ h, λ h. sym (bit-suc n e) ∙ h)
 abbrev pub shiftedOne : ℕ → ℕ
 shiftedOne k = 1 * 2 ^ k % 18446744073709551616
 
-pub shl-one : (k : ℕ) → k < 64 → shiftedOne k ≡ single k
+pub shl-one : (k : ℕ) → k < 64 → shiftedOne k ≡ singleton k
 shl-one k h = rw (one-mul (2 ^ k), mod-eq-of-lt (pow-lt {j = 64} h))
 
 -- ---- the test for a member
@@ -120,8 +120,8 @@ pub has-ext : SameMembersSameSet
 has-ext a b h = ext (a + b) a b (omega arith) (omega arith) h
 
 -- a set without members is none
-pub none-of : (e : ℕ) → ((n : ℕ) → Has e n → ⊥) → e ≡ none
-none-of e h = has-ext e none (λ n. (λ x. absurd (h n x), λ x. absurd (has-none n x)))
+pub none-of : (e : ℕ) → ((n : ℕ) → Has e n → ⊥) → e ≡ emptySet
+none-of e h = has-ext e emptySet (λ n. (λ x. absurd (h n x), λ x. absurd (has-none n x)))
 
 -- a set that isn't none has a member
 pub some-of : (e : ℕ) → 0 < e → (n : ℕ) × Has e n
@@ -139,7 +139,7 @@ some-of e h = below e e (omega arith) h
 
 -- the set with a node put in, or taken out where it was in
 abbrev pub toggled : ℕ → ℕ → ℕ
-toggled e k = bitXor e (single k)
+toggled e k = bitXor e (singleton k)
 
 differ-small : (x y : ℕ) → x < 2 → y < 2 → differ x y < 2
 differ-small zero y h k = k
@@ -147,8 +147,8 @@ differ-small (suc zero) zero h k = h
 differ-small (suc zero) (suc y) h k = omega arith
 differ-small (suc (suc x)) y h k = absurd (omega arith)
 
-bit-toggled : (e k n : ℕ) → bit n (toggled e k) ≡ differ (bit n e) (bit n (single k))
-bit-toggled e k = bit-wise bitXor differ xor-shr xor-step differ-small e (single k)
+bit-toggled : (e k n : ℕ) → bit n (toggled e k) ≡ differ (bit n e) (bit n (singleton k))
+bit-toggled e k = bit-wise bitXor differ xor-shr xor-step differ-small e (singleton k)
 
 differ-none : (x y : ℕ) → y < 2 → (y ≡ 1 → ⊥) → differ x y ≡ x
 differ-none zero zero h n = refl
@@ -161,18 +161,18 @@ pub toggled-other : (e k n : ℕ) → (k ≡ n → ⊥) → Has (toggled e k) n 
 toggled-other e k n d = (λ h. sym stays ∙ h, λ h. stays ∙ h)
   where
     stays : bit n (toggled e k) ≡ bit n e
-    stays = bit-toggled e k n ∙ differ-none (bit n e) (bit n (single k)) (bit-small n (single k)) (λ h. d (single-has k n h))
+    stays = bit-toggled e k n ∙ differ-none (bit n e) (bit n (singleton k)) (bit-small n (singleton k)) (λ h. d (single-has k n h))
 
 pub toggled-lt : (e k : ℕ) → Has e k → toggled e k < e
 toggled-lt e k h =
-    less (toggled e k) (common e (single k)) e (single k) inside (xor-add-and e (single k)) (one-le-pow k 2 (omega arith))
+    less (toggled e k) (intersection e (singleton k)) e (singleton k) inside (xor-add-and e (singleton k)) (one-le-pow k 2 (omega arith))
   where
     member : (n : ℕ) → k ≡ n → Has e n
     member n q = rw (← q) h
 
-    inside : common e (single k) ≡ single k
-    inside = has-ext (common e (single k)) (single k) (λ n.
-        (λ x. has-common e (single k) n .0 x .1, λ x. has-common e (single k) n .1 (member n (single-has k n x), x)))
+    inside : intersection e (singleton k) ≡ singleton k
+    inside = has-ext (intersection e (singleton k)) (singleton k) (λ n.
+        (λ x. has-common e (singleton k) n .0 x .1, λ x. has-common e (singleton k) n .1 (member n (single-has k n x), x)))
 
     less : (x c e s : ℕ) → c ≡ s → x + c * 2 ≡ e + s → 0 < s → x < e
     less x c e s p q r = omega arith

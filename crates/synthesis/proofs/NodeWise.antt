@@ -5,9 +5,9 @@ use mathlib.Core.Logic.{_↔_}
 use mathlib.Core.Bool.{Bool, true, false, cond, _&&_, and-eq-true-iff}
 use mathlib.Core.List.{List, []}
 use lib.Dec.{eqb}
-use Rattle.reading.specs.Formula.{Formula, truth, falsity, both, necessity, max, variable, size}
+use Rattle.reading.specs.Rule.{Formula, truth, falsity, both, necessity, max, variable, size}
 use Rattle.reading.specs.Nodes.{EnclosingMax, Node, whole, first, second, after, body}
-use Rattle.synthesis.specs.NodeSet.{Has, has, none, single, common}
+use Rattle.synthesis.specs.NodeSet.{Has, has, emptySet, singleton, intersection}
 use Rattle.synthesis.specs.Opening.{IsFalsity}
 use Rattle.synthesis.specs.Answering.{opening, opensAround, falsities, reached}
 use Rattle.synthesis.proofs.NodeSetLaws.{has-none, has-single, single-has, has-true, true-has}
@@ -16,7 +16,7 @@ use Rattle.synthesis.proofs.MemberLaws.{cond-has, in-first, in-second, 
 -- ---- the ff nodes
 
 module _ (m : ℕ) {root : Formula} where
-  itself : {k : ℕ} {ms : List EnclosingMax} → Node root k ms falsity → Has (single k) m → IsFalsity root m
+  itself : {k : ℕ} {ms : List EnclosingMax} → Node root k ms falsity → Has (singleton k) m → IsFalsity root m
   itself {k} {ms} n h = rw (← (single-has k m h)) (ms, n)
 
   falsities-sound : {k : ℕ} {ms : List EnclosingMax} (f : Formula) → Node root k ms f → Has (falsities k f) m → IsFalsity root m
@@ -40,10 +40,10 @@ pub falsities-has : (root : Formula) (n : ℕ) → Has (falsities 0 root) n ↔ 
 falsities-has root n = (falsities-sound n root whole, λ h. falsities-inside n (h .1) (has-single n))
 
 -- a set without an ff node, and one with some
-pub no-falsity : (root : Formula) (s : ℕ) → eqb (common s (falsities 0 root)) none ≡ true → (m : ℕ) → Has s m → IsFalsity root m → ⊥
+pub no-falsity : (root : Formula) (s : ℕ) → eqb (intersection s (falsities 0 root)) emptySet ≡ true → (m : ℕ) → Has s m → IsFalsity root m → ⊥
 no-falsity root s h m p f = none-common s (falsities 0 root) h m p (falsities-has root m .1 f)
 
-pub some-falsity : (root : Formula) (s : ℕ) → eqb (common s (falsities 0 root)) none ≡ false → (m : ℕ) × Has s m × IsFalsity root m
+pub some-falsity : (root : Formula) (s : ℕ) → eqb (intersection s (falsities 0 root)) emptySet ≡ false → (m : ℕ) × Has s m × IsFalsity root m
 some-falsity root s h = let (m, p, q) = some-common s (falsities 0 root) h in (m, p, falsities-has root m .0 q)
 
 -- ---- what the members of an equation lead to
@@ -60,7 +60,7 @@ module _ (covered : ℕ → ℕ → Bool) (root : Formula) (e c m : ℕ) where
   inside k ms f = reached covered e c k (opensAround ms) f
 
   abbrev alone : ℕ → List EnclosingMax → ℕ → Formula → ℕ
-  alone k ms p f = cond (has e k && covered p c) (opening (suc k) (opensAround ms) f) none
+  alone k ms p f = cond (has e k && covered p c) (opening (suc k) (opensAround ms) f) emptySet
 
   alone-sound : {k p : ℕ} {ms : List EnclosingMax} {f : Formula} → Node root k ms (necessity p f) → Has (alone k ms p f) m → Reaches
   alone-sound {k} {p} {ms} {f} n h =

@@ -8,8 +8,7 @@ use native.Mathlib.Omega.{arith}
 use lib.Dec.{ltb}
 use lib.Bits.{bitOr}
 use lib.ListN.{length, getD}
-use Rattle.reading.specs.Formula.{Formula, truth, falsity, both, necessity, max, variable}
-use Rattle.reading.specs.Rule.{Rule}
+use Rattle.reading.specs.Rule.{Formula, truth, falsity, both, necessity, max, variable, Rule}
 use Rattle.reading.specs.Nodes.{EnclosingMax, noMax, Node, Resolves, is-truth, is-falsity, is-both, is-necessity, is-max, is-variable}
 use Rattle.reading.specs.Numbered.{kind, numberOf}
 use Rattle.reading.proofs.NodeLaws.{Numbers, node-exists, variable-bound}

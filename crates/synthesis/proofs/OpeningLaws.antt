@@ -6,11 +6,11 @@ use mathlib.Core.Bool.{true, false, false≢true}
 use mathlib.Core.List.{List, [], _∷_}
 use native.Mathlib.Omega.{arith}
 use lib.ListN.{length, getD}
-use Rattle.reading.specs.Formula.{Formula, truth, falsity, both, necessity, max, variable, size, Guards, WellFormed}
+use Rattle.reading.specs.Rule.{Formula, truth, falsity, both, necessity, max, variable, size, Guards, WellFormed}
 use Rattle.reading.specs.Nodes.{EnclosingMax, noMax, Node, whole, first, second, after, body}
 use Rattle.reading.proofs.NodeLaws.{well-formed-at, variable-bound}
 use Rattle.reading.proofs.Listings.{node-unique}
-use Rattle.synthesis.specs.NodeSet.{Has, none}
+use Rattle.synthesis.specs.NodeSet.{Has, emptySet}
 use Rattle.synthesis.specs.Opening.{Opens, falsity-itself, necessity-itself, first-part, second-part, body-of-max, body-of-variable}
 use Rattle.synthesis.specs.Answering.{opening, opensAround}
 use Rattle.synthesis.specs.Promises.{OpensAsDefined}
@@ -61,15 +61,15 @@ module _ (root : Formula) where
 -- The list `around` has what opening the body of each guarded max gives.
 record Known (root : Formula) (g : Guards) (ms : List EnclosingMax) (around : List ℕ) : Type 0 where
   pub at : (d : ℕ) → d < length ms → getD g d false ≡ true → (m : ℕ)
-      → Has (getD around d none) m ↔ Opens root (suc (getD ms d noMax .number)) m
+      → Has (getD around d emptySet) m ↔ Opens root (suc (getD ms d noMax .number)) m
 
 -- inside one more max, which isn't guarded yet
 known-inside : {root : Formula} {g : Guards} {ms : List EnclosingMax} {around : List ℕ} (x : EnclosingMax) → Known root g ms around
-    → Known root (false ∷ g) (x ∷ ms) (none ∷ around)
+    → Known root (false ∷ g) (x ∷ ms) (emptySet ∷ around)
 known-inside {root} {g} {ms} {around} x known = record { at = at }
   where
     at : (d : ℕ) → d < suc (length ms) → getD (false ∷ g) d false ≡ true → (m : ℕ)
-        → Has (getD (none ∷ around) d none) m ↔ Opens root (suc (getD (x ∷ ms) d noMax .number)) m
+        → Has (getD (emptySet ∷ around) d emptySet) m ↔ Opens root (suc (getD (x ∷ ms) d noMax .number)) m
     at zero b e m = absurd (false≢true e)
     at (suc d) b e m = known .at d (omega arith) e m
 
@@ -91,7 +91,7 @@ module _ (patterns : ℕ) (root : Formula) (wf : WellFormed patterns [] root) wh
 
   -- Of the maxes around a node this is known, guarded or not.
   around-opened : {k : ℕ} {ms : List EnclosingMax} {f : Formula} → Node root k ms f → (d : ℕ) → d < length ms → (m : ℕ)
-      → Has (getD (opensAround ms) d none) m ↔ Opens root (suc (getD ms d noMax .number)) m
+      → Has (getD (opensAround ms) d emptySet) m ↔ Opens root (suc (getD ms d noMax .number)) m
   around-opened whole d b m = absurd (omega arith)
   around-opened (first n) d b m = around-opened n d b m
   around-opened (second n) d b m = around-opened n d b m

@@ -10,15 +10,14 @@ use lib.ListN.{length, take}
 use lib.Seq.{length-take-le}
 use borrow.Author.Tests.{ne-eqb, eq-eqb}
 use Rattle.reading.specs.Rule.{Rule, Bytes}
-use Rattle.reading.specs.Outcome.{Outcome, accepted, refused}
-use Rattle.reading.specs.File.{ruleOf}
+use Rattle.reading.specs.File.{Outcome, accepted, refused, ruleOf}
 use Rattle.reading.specs.Numbered.{readingOf}
 use Rattle.reading.specs.declared.Answer.the-variants.{Accepted, Refused}
 use Rattle.reading.specs.declared.Reading.{Reading}
 use Rattle.reading.specs.declared.NumberedRule.{NumberedRule}
 use Rattle.reading.proofs.Accepted.{reading-accepts}
 use Rattle.reading.proofs.Listings.{size-positive}
-use Rattle.synthesis.specs.NodeSet.{none, common}
+use Rattle.synthesis.specs.NodeSet.{emptySet, intersection}
 use Rattle.synthesis.specs.Answering.{answerOf, hopeless}
 use Rattle.synthesis.specs.Search.{found}
 use Rattle.synthesis.specs.Building.{equationsOf, synthesisOf}
@@ -90,17 +89,17 @@ module _ {s : List ℕ} {n : NumberedRule} (d : Read s n) (g : Graph) (is : (r :
 
   -- ---- refusal 8
 
-  tested : hopeless (d .rule) ≡ not (eqb (common (g .first) (g .falsities)) none)
+  tested : hopeless (d .rule) ≡ not (eqb (intersection (g .first) (g .falsities)) emptySet)
   unfolding hopeless
   tested = rw (graph .first-is, graph .falsities-are)
 
   pub hopeless-plan : (bitAnd (g .first) (g .falsities) ≡ 0 → ⊥) → {p : Plan} → p .answer ≡ counted.Refused 8 0
       → IsPlan (synthesisOf 128 s) p
   hopeless-plan h e =
-      refused-plan 128 s 8 0 (refuses-eight 128 s (d .rule) (d .is) (rw (tested, ne-eqb (common (g .first) (g .falsities)) none h))) e
+      refused-plan 128 s 8 0 (refuses-eight 128 s (d .rule) (d .is) (rw (tested, ne-eqb (intersection (g .first) (g .falsities)) emptySet h))) e
 
   hopeful : bitAnd (g .first) (g .falsities) ≡ 0 → hopeless (d .rule) ≡ false
-  hopeful h = rw (tested, eq-eqb (common (g .first) (g .falsities)) none h)
+  hopeful h = rw (tested, eq-eqb (intersection (g .first) (g .falsities)) emptySet h)
 
   -- ---- refusal 9
 

@@ -15,8 +15,8 @@ module _ {E F : Type 0} (codes : ℕ) (Ok : E → Type 0) (answer : E → ℕ �
       → ((e : E) (c : ℕ) (w : List ℕ) → answer e c ≡ dropped → answer′ (f e) c ≡ dropped → P e w → P e (c ∷ w))
       → ((e e′ : E) (c : ℕ) (w : List ℕ) → answer e c ≡ next e′ → answer′ (f e) c ≡ next (f e′) → P e′ w → P e (c ∷ w))
       → (e : E) (w : List ℕ) → Ok e → All (λ c. c < codes) w → P e w
-  renamed-induction P none dropping keeping =
-      run-induction answer (λ e w. Ok e → All (λ c. c < codes) w → P e w) (λ e ok all. none e)
+  renamed-induction P emptySet dropping keeping =
+      run-induction answer (λ e w. Ok e → All (λ c. c < codes) w → P e w) (λ e ok all. emptySet e)
       (λ e c w q h ok all. dropping e c w q (renames .drops e c ok (all .0) q) (h ok (all .1)))
       (λ e e′ c w q h ok all. keeping e e′ c w q (renames .follows e e′ c ok (all .0) q) (h (renames .stays e e′ c ok (all .0) q) (all .1)))
 

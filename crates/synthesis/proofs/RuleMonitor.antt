@@ -6,11 +6,10 @@ use mathlib.Core.Bool.{Bool, true, false, not, true≢false, false≢true}
 use mathlib.Core.List.{List, []}
 use lib.Dec.{eqb}
 use lib.ListN.{length}
-use Rattle.reading.specs.Formula.{WellFormed}
-use Rattle.reading.specs.Rule.{Rule}
+use Rattle.reading.specs.Rule.{WellFormed, Rule}
 use Rattle.synthesis.specs.Violation.{ViolatesRule}
 use Rattle.synthesis.specs.Monitor.{Loses, now, later, Monitors}
-use Rattle.synthesis.specs.NodeSet.{Has, none, common}
+use Rattle.synthesis.specs.NodeSet.{Has, emptySet, intersection}
 use Rattle.synthesis.specs.Opening.{Opens, OpensToFalsity, ViolatesEquation}
 use Rattle.synthesis.specs.Answering.{falsities, firstOf, answerOf, hopeless}
 use Rattle.synthesis.proofs.NodeWise.{no-falsity, some-falsity}
@@ -23,12 +22,12 @@ module _ (r : Rule) (wf : WellFormed (length (r .patterns)) [] (r .formula)) whe
 
   hopeless-opens : (hopeless r ≡ true) ↔ OpensToFalsity (r .formula) 0
   unfolding hopeless
-  hopeless-opens = on (eqb (common (firstOf r) (falsities 0 (r .formula))) none) refl
+  hopeless-opens = on (eqb (intersection (firstOf r) (falsities 0 (r .formula))) emptySet) refl
     where
       first : (m : ℕ) → Has (firstOf r) m ↔ Opens (r .formula) 0 m
       first = answers-as-defined r wf .first
 
-      on : (b : Bool) → eqb (common (firstOf r) (falsities 0 (r .formula))) none ≡ b → (not b ≡ true) ↔ OpensToFalsity (r .formula) 0
+      on : (b : Bool) → eqb (intersection (firstOf r) (falsities 0 (r .formula))) emptySet ≡ b → (not b ≡ true) ↔ OpensToFalsity (r .formula) 0
       on true e = (λ h. absurd (false≢true h), λ (m, o, f). absurd (no-falsity (r .formula) (firstOf r) e m (first m .1 o) f))
       on false e = let (m, p, f) = some-falsity (r .formula) (firstOf r) e in (λ h. (m, first m .0 p, f), λ o. refl)
 

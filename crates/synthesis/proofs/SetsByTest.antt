@@ -10,7 +10,7 @@ use lib.Bits.{bitOr}
 use lib.ListN.{getD}
 use borrow.Author.Count.{below-more}
 use borrow.Author.Tests.{eq-eqb, eqb-true}
-use Rattle.synthesis.specs.NodeSet.{Has, none, single}
+use Rattle.synthesis.specs.NodeSet.{Has, emptySet, singleton}
 use Rattle.synthesis.specs.Arrays.{withNode, HasKind}
 use Rattle.synthesis.proofs.NodeSetLaws.{has-none, shiftedOne, shl-one}
 use Rattle.synthesis.proofs.MemberLaws.{single-iff, union-iff}
@@ -22,7 +22,7 @@ with-is e k b h t = rw (t, shl-one k h)
 pub with-has : (e k : ℕ) (b : Bool) (j : ℕ) → Has (withNode e k b) j ↔ (Has e j ⊎ ((k ≡ j) × (b ≡ true)))
 with-has e k true j =
     let alone = single-iff k j in
-    union-iff e (single k) j (λ h. h, λ h. h) (λ h. (alone .0 h, refl), λ h. alone .1 (h .0))
+    union-iff e (singleton k) j (λ h. h, λ h. h) (λ h. (alone .0 h, refl), λ h. alone .1 (h .0))
 with-has e k false j = (λ h. inl h, ⊎-elim (λ h. h) (λ h. absurd (false≢true (h .1))))
 
 -- One more number is tested: what holds of the members below k holds of those below k + 1.
@@ -38,7 +38,7 @@ with-next P e k b test h j = (λ x. there (with-has e k b j .0 x), λ x. with-ha
     back = below-more (λ j. P j → Has e j ⊎ ((k ≡ j) × (b ≡ true))) k (λ j l p. inl (h j .1 (l, p))) (λ p. inr (refl, test .1 p))
 
 -- at first there are none
-pub none-yet : (P : ℕ → Type 0) (j : ℕ) → Has none j ↔ ((j < 0) × P j)
+pub none-yet : (P : ℕ → Type 0) (j : ℕ) → Has emptySet j ↔ ((j < 0) × P j)
 none-yet P j = (λ h. absurd (has-none j h), λ h. absurd (omega (arith, h .0)))
 
 -- ---- the nodes of a kind

@@ -8,8 +8,7 @@ use lib.Dec.{ltb}
 use lib.ListN.{length}
 use borrow.Author.Tests.{ltb-true, ltb-false, lt-ltb, le-ltb}
 use Rattle.reading.specs.Rule.{Rule}
-use Rattle.reading.specs.Outcome.{Outcome, accepted, refused, refuse}
-use Rattle.reading.specs.File.{ruleOf}
+use Rattle.reading.specs.File.{Outcome, accepted, refused, refuse, ruleOf}
 use Rattle.reading.proofs.Outcomes.{accepted-is, passes, accepted-by}
 use Rattle.synthesis.specs.Answering.{hopeless}
 use Rattle.synthesis.specs.Building.{equationsOf, Synthesis, synthesized, synthesisOf, buildingOf, countedOf}

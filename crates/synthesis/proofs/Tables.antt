@@ -1,4 +1,4 @@
--- The filled table of a closed list of equations answers as they do: it is their monitor, each equation renamed to its place.
+-- The filled table of a closed list of equations answers as they do: it is their monitor, each equation renamed to its index.
 use Prim.Native.Nat.{ℕ, _*_, _≤_, _<_}
 use mathlib.Core.Path.{_≡_, refl, _∙_, ap}
 use mathlib.Core.Logic.{_⊎_, inl, inr}
@@ -7,9 +7,9 @@ use native.Mathlib.Omega.{arith}
 use lib.ListN.{length, getD}
 use borrow.Author.Tests.{eq-eqb, ne-eqb}
 use Rattle.synthesis.specs.Monitor.{Answer, dropped, next, cases, Renames}
-use Rattle.synthesis.specs.Search.{place}
+use Rattle.synthesis.specs.Search.{indexOf}
 use Rattle.synthesis.specs.Table.{rowOf, meaning, entry, entryFor, filled}
-use Rattle.synthesis.proofs.Places.{Member, place-is}
+use Rattle.synthesis.proofs.Indices.{Member, index-is}
 use Rattle.synthesis.proofs.Finding.{ClosedUnder}
 use Rattle.synthesis.proofs.Rows.{filled-entry}
 
@@ -17,27 +17,27 @@ module _ (codes mark : ℕ) (answer : ℕ → ℕ → Answer ℕ) (l : List ℕ)
     (room : codes * length l ≤ length table) where
   -- what the table answers in the row of an equation
   entry-of : (e c : ℕ) → Member e l → c < codes
-      → entry codes mark (filled mark answer l codes table) (place e l) c ≡ meaning mark (entryFor mark l (answer e c))
-  entry-of e c m h = rw (filled-entry mark answer l codes table room (place e l) c mark m h, place-is e l m)
+      → entry codes mark (filled mark answer l codes table) (indexOf e l) c ≡ meaning mark (entryFor mark l (answer e c))
+  entry-of e c m h = rw (filled-entry mark answer l codes table room (indexOf e l) c mark m h, index-is e l m)
 
   pub table-renames : length l ≤ mark
-      → Renames codes (λ e. Member e l) answer (entry codes mark (filled mark answer l codes table)) (λ e. place e l)
+      → Renames codes (λ e. Member e l) answer (entry codes mark (filled mark answer l codes table)) (λ e. indexOf e l)
   table-renames few = record { stays = stays; drops = drops; follows = follows }
     where
       stays : (e e′ c : ℕ) → Member e l → c < codes → answer e c ≡ next e′ → Member e′ l
-      stays e e′ c m h q = closed (place e l) c e′ m h (rw (place-is e l m) q)
+      stays e e′ c m h q = closed (indexOf e l) c e′ m h (rw (index-is e l m) q)
 
       drops : (e c : ℕ) → Member e l → c < codes → answer e c ≡ dropped
-          → entry codes mark (filled mark answer l codes table) (place e l) c ≡ dropped
+          → entry codes mark (filled mark answer l codes table) (indexOf e l) c ≡ dropped
       drops e c m h q = entry-of e c m h ∙ rw (q, eq-eqb mark mark refl)
 
       follows : (e e′ c : ℕ) → Member e l → c < codes → answer e c ≡ next e′
-          → entry codes mark (filled mark answer l codes table) (place e l) c ≡ next (place e′ l)
+          → entry codes mark (filled mark answer l codes table) (indexOf e l) c ≡ next (indexOf e′ l)
       follows e e′ c m h q =
           let m′ = stays e e′ c m h q in
-          entry-of e c m h ∙ rw (q, ne-eqb (place e′ l) mark (λ z. omega arith))
+          entry-of e c m h ∙ rw (q, ne-eqb (indexOf e′ l) mark (λ z. omega arith))
 
-  -- an entry is the mark, or the place of an equation
+  -- an entry is the mark, or the index of an equation
   pub table-range : (k c : ℕ) → k < length l → c < codes
       → (getD (rowOf codes (filled mark answer l codes table) k) c 0 ≡ mark)
       ⊎ (getD (rowOf codes (filled mark answer l codes table) k) c 0 < length l)
@@ -59,4 +59,4 @@ module _ (codes mark : ℕ) (answer : ℕ → ℕ → Answer ℕ) (l : List ℕ)
       on dropped q = rw (eq-eqb mark mark refl) (refl, λ j e. let z : _≡_ {A = ℕ} 0 1 = cc in absurd (omega arith))
       on (next e) q =
           let m = closed k c e h b q in
-          rw (ne-eqb (place e l) mark (λ z. omega arith)) (ap next (place-is e l m), λ j p. let z : place e l ≡ j = cc in omega arith)
+          rw (ne-eqb (indexOf e l) mark (λ z. omega arith)) (ap next (index-is e l m), λ j p. let z : indexOf e l ≡ j = cc in omega arith)

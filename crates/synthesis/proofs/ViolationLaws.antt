@@ -5,7 +5,7 @@ use mathlib.Core.Bool.{Bool}
 use mathlib.Core.List.{List, [], _∷_, map}
 use native.Mathlib.Omega.{arith}
 use lib.ListN.{length, getD, drop}
-use Rattle.reading.specs.Formula.{Formula, necessity, WellFormed}
+use Rattle.reading.specs.Rule.{Formula, necessity, WellFormed}
 use Rattle.reading.specs.Nodes.{EnclosingMax, noMax, Node, first, second, body}
 use Rattle.reading.proofs.NodeLaws.{max-around, variable-bound}
 use Rattle.synthesis.specs.Violation.{Violates, by-falsity, by-first, by-second, by-code, by-body, by-variable}

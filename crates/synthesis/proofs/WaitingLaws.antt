@@ -8,8 +8,7 @@ use native.Mathlib.Omega.{arith}
 use lib.ListN.{length, getD, replicate}
 use borrow.Author.Count.{below-more}
 use Rattle.reading.specs.Pattern.{covers}
-use Rattle.reading.specs.Formula.{Formula, size}
-use Rattle.reading.specs.Rule.{Rule}
+use Rattle.reading.specs.Rule.{Formula, size, Rule}
 use Rattle.reading.specs.Nodes.{EnclosingMax, Node, Resolves, is-necessity}
 use Rattle.reading.specs.Numbered.{noPattern}
 use Rattle.reading.specs.declared.Pattern.{Pattern}

@@ -4,22 +4,21 @@ use mathlib.Core.Bool.{Bool, cond, not, _&&_}
 use mathlib.Core.List.{List, [], _∷_}
 use lib.Dec.{eqb}
 use lib.ListN.{getD}
-use Rattle.reading.specs.Formula.{Formula, truth, falsity, both, necessity, max, variable, size}
-use Rattle.reading.specs.Rule.{Rule}
+use Rattle.reading.specs.Rule.{Formula, truth, falsity, both, necessity, max, variable, size, Rule}
 use Rattle.reading.specs.Nodes.{EnclosingMax}
 use Rattle.synthesis.specs.Violation.{coveredBy}
 use Rattle.synthesis.specs.Monitor.{Answer, dropped, next}
-use Rattle.synthesis.specs.NodeSet.{has, none, single, union, common}
+use Rattle.synthesis.specs.NodeSet.{has, emptySet, singleton, union, intersection}
 
 -- What opening f gives. f begins at node k, and `around` has what opening each max around it gives, innermost first. A max stands
 -- in for itself with nothing while it is opened: its variable comes only below a necessity.
 abbrev pub opening : (k : ℕ) → (around : List ℕ) → Formula → ℕ
-opening k around truth = none
-opening k around falsity = single k
+opening k around truth = emptySet
+opening k around falsity = singleton k
 opening k around (both f g) = union (opening (suc k) around f) (opening (k + suc (size f)) around g)
-opening k around (necessity p f) = single k
-opening k around (max f) = opening (suc k) (none ∷ around) f
-opening k around (variable d) = getD around d none
+opening k around (necessity p f) = singleton k
+opening k around (max f) = opening (suc k) (emptySet ∷ around) f
+opening k around (variable d) = getD around d emptySet
 
 -- what opening each of some nested maxes gives, innermost first
 abbrev pub opensAround : List EnclosingMax → List ℕ
@@ -28,23 +27,23 @@ opensAround (m ∷ ms) = opening (m .number) (opensAround ms) (max (m .body)) �
 
 -- the ff nodes of f
 abbrev pub falsities : (k : ℕ) → Formula → ℕ
-falsities k truth = none
-falsities k falsity = single k
+falsities k truth = emptySet
+falsities k falsity = singleton k
 falsities k (both f g) = union (falsities (suc k) f) (falsities (k + suc (size f)) g)
 falsities k (necessity p f) = falsities (suc k) f
 falsities k (max f) = falsities (suc k) f
-falsities k (variable d) = none
+falsities k (variable d) = emptySet
 
 -- What the members of e that stand in f lead to under the code c.
 abbrev pub reached : (covered : (pattern code : ℕ) → Bool) → (e c k : ℕ) → (around : List ℕ) → Formula → ℕ
-reached covered e c k around truth = none
-reached covered e c k around falsity = none
+reached covered e c k around truth = emptySet
+reached covered e c k around falsity = emptySet
 reached covered e c k around (both f g) =
     union (reached covered e c (suc k) around f) (reached covered e c (k + suc (size f)) around g)
 reached covered e c k around (necessity p f) =
-    union (cond (has e k && covered p c) (opening (suc k) around f) none) (reached covered e c (suc k) around f)
+    union (cond (has e k && covered p c) (opening (suc k) around f) emptySet) (reached covered e c (suc k) around f)
 reached covered e c k around (max f) = reached covered e c (suc k) (opening k around (max f) ∷ around) f
-reached covered e c k around (variable d) = none
+reached covered e c k around (variable d) = emptySet
 
 -- the first equation
 unfoldable pub firstOf : Rule → ℕ
@@ -52,7 +51,7 @@ firstOf r = opening 0 [] (r .formula)
 
 -- A set of reached nodes as an answer: dropped where an ff node is among them, else it is the next equation.
 abbrev pub judged : (ffs set : ℕ) → Answer ℕ
-judged ffs set = cond (eqb (common set ffs) none) (next set) dropped
+judged ffs set = cond (eqb (intersection set ffs) emptySet) (next set) dropped
 
 -- the answer of the equation e to the code c
 unfoldable pub answerOf : Rule → (e c : ℕ) → Answer ℕ
@@ -60,4 +59,4 @@ answerOf r e c = judged (falsities 0 (r .formula)) (reached (coveredBy (r .patte
 
 -- opening node 0 gives ff
 unfoldable pub hopeless : Rule → Bool
-hopeless r = not (eqb (common (firstOf r) (falsities 0 (r .formula))) none)
+hopeless r = not (eqb (intersection (firstOf r) (falsities 0 (r .formula))) emptySet)

@@ -5,8 +5,7 @@ use mathlib.Core.Logic.{_↔_, _⊎_}
 use mathlib.Core.Bool.{Bool, true, false, cond}
 use mathlib.Core.List.{List, [], _∷_, map}
 use lib.ListN.{length, getD, take}
-use Rattle.reading.specs.Formula.{Formula, necessity, max, size}
-use Rattle.reading.specs.Rule.{Rule, WellFormedRule}
+use Rattle.reading.specs.Rule.{Formula, necessity, max, size, Rule, WellFormedRule}
 use Rattle.reading.specs.Nodes.{EnclosingMax, Node}
 use Rattle.reading.specs.Numbered.{numbered}
 use Rattle.reading.specs.Pattern.{covers}
@@ -14,7 +13,7 @@ use Rattle.reading.specs.declared.Pattern.{Pattern}
 use Rattle.reading.specs.declared.NumberedRule.{NumberedRule}
 use Rattle.synthesis.specs.Violation.{coveredBy}
 use Rattle.synthesis.specs.Monitor.{Answer}
-use Rattle.synthesis.specs.NodeSet.{Has, has, none, single, union, common}
+use Rattle.synthesis.specs.NodeSet.{Has, has, emptySet, singleton, union, intersection}
 use Rattle.synthesis.specs.Answering.{opening, opensAround, falsities, judged, firstOf}
 use Rattle.synthesis.specs.declared.graph.Graph.{Graph}
 
@@ -63,7 +62,7 @@ pub record AfterAll (r : Rule) (after : List ℕ) : Type 0 where
 
 -- the set with node k where the test holds
 abbrev pub withNode : (set k : ℕ) → Bool → ℕ
-withNode e k true = union e (single k)
+withNode e k true = union e (singleton k)
 withNode e k false = e
 
 -- The set has those of the first n nodes that are of a kind.
@@ -110,17 +109,17 @@ pub record IsGraph (r : Rule) (g : Graph) : Type 0 where
   pub after-length : length (g .after) ≡ 64
   pub waiting-length : length (g .waiting) ≡ 256
 
--- the union of those sets of a list whose places are in `live`
+-- the union of those sets of a list whose indices are in `live`
 abbrev pub gathered : List ℕ → (live : ℕ) → ℕ
-gathered [] live = none
-gathered (x ∷ xs) live = union (cond (has live 0) x none) (gathered xs (live / 2))
+gathered [] live = emptySet
+gathered (x ∷ xs) live = union (cond (has live 0) x emptySet) (gathered xs (live / 2))
 
 -- The answer of the equation e to the code c from the arrays of a graph: `after` for each node, `waiting` for each code.
 unfoldable pub answerBy : (after waiting : List ℕ) (falsities e c : ℕ) → Answer ℕ
-answerBy after waiting falsities e c = judged falsities (gathered after (common e (getD waiting c 0)))
+answerBy after waiting falsities e c = judged falsities (gathered after (intersection e (getD waiting c 0)))
 
 -- ---- the search
 
--- The first n places of the array are the list; or the list is over the limit, and n is one more than the limit.
+-- The first n elements of the array are the list; or the list is over the limit, and n is one more than the limit.
 abbrev pub Holds : (limit : ℕ) → List ℕ → (n : ℕ) → List ℕ → Type 0
 Holds limit a n l = ((n ≤ limit) × (take n a ≡ l)) ⊎ ((n ≡ suc limit) × (limit < length l))

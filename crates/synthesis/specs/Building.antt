@@ -5,8 +5,7 @@ use mathlib.Core.List.{List}
 use lib.Dec.{ltb}
 use lib.ListN.{length}
 use Rattle.reading.specs.Rule.{Rule}
-use Rattle.reading.specs.Outcome.{Outcome, accepted, refused, refuse, andThen}
-use Rattle.reading.specs.File.{ruleOf}
+use Rattle.reading.specs.File.{Outcome, accepted, refused, refuse, andThen, ruleOf}
 use Rattle.synthesis.specs.Answering.{firstOf, answerOf, hopeless}
 use Rattle.synthesis.specs.Search.{found}
 use Rattle.synthesis.specs.Table.{filled}

@@ -12,14 +12,14 @@ Has e n = bit n e ≡ 1
 abbrev pub has : (set node : ℕ) → Bool
 has e n = eqb (bit n e) 1
 
-abbrev pub none : ℕ
-none = 0
+abbrev pub emptySet : ℕ
+emptySet = 0
 
-abbrev pub single : ℕ → ℕ
-single n = 2 ^ n
+abbrev pub singleton : ℕ → ℕ
+singleton n = 2 ^ n
 
 abbrev pub union : ℕ → ℕ → ℕ
 union = bitOr
 
-abbrev pub common : ℕ → ℕ → ℕ
-common = bitAnd
+abbrev pub intersection : ℕ → ℕ → ℕ
+intersection = bitAnd

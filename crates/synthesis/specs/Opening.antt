@@ -5,8 +5,7 @@ use mathlib.Core.Logic.{_↔_}
 use mathlib.Core.Bool.{true}
 use mathlib.Core.List.{List, map}
 use lib.ListN.{length, getD}
-use Rattle.reading.specs.Formula.{Formula, falsity, both, necessity, max, variable, size}
-use Rattle.reading.specs.Rule.{Rule}
+use Rattle.reading.specs.Rule.{Formula, falsity, both, necessity, max, variable, size, Rule}
 use Rattle.reading.specs.Nodes.{EnclosingMax, noMax, Node}
 use Rattle.synthesis.specs.Violation.{coveredBy, Violates}
 use Rattle.synthesis.specs.Monitor.{Answer, dropped, next}

@@ -5,14 +5,12 @@ use mathlib.Core.Logic.{_↔_, _⊎_}
 use mathlib.Core.Bool.{Bool}
 use mathlib.Core.List.{List, [], _∷_, _++_}
 use lib.ListN.{length, getD, drop}
-use Rattle.reading.specs.Formula.{Formula, necessity, WellFormed}
-use Rattle.reading.specs.Rule.{Rule, Bytes}
-use Rattle.reading.specs.Outcome.{accepted, refused}
-use Rattle.reading.specs.File.{ruleOf}
+use Rattle.reading.specs.Rule.{Formula, necessity, WellFormed, Rule, Bytes}
+use Rattle.reading.specs.File.{accepted, refused, ruleOf}
 use Rattle.reading.specs.Nodes.{EnclosingMax, Node}
 use Rattle.synthesis.specs.Violation.{Violates, ViolatesRule}
 use Rattle.synthesis.specs.Monitor.{Answer, dropped, next, cases, kept, ended, Monitors}
-use Rattle.synthesis.specs.NodeSet.{Has, none}
+use Rattle.synthesis.specs.NodeSet.{Has, emptySet}
 use Rattle.synthesis.specs.Opening.{Opens, OpensToFalsity, Answers, IsFirst, ViolatesEquation}
 use Rattle.synthesis.specs.Answering.{opening, opensAround, firstOf, answerOf}
 use Rattle.synthesis.specs.Table.{rowOf, entry}
@@ -39,7 +37,7 @@ OpensAsDefined =
 pub record Answered (r : Rule) : Type 0 where
   pub first : IsFirst r (firstOf r)
   pub answers : (e c : ℕ) → Answers r e c (answerOf r e c)
-  pub empty : (c : ℕ) → answerOf r none c ≡ next none
+  pub empty : (c : ℕ) → answerOf r emptySet c ≡ next emptySet
 
 abbrev pub AnswersAsDefined : Type 0
 AnswersAsDefined = (r : Rule) → WellFormedFormula r → Answered r

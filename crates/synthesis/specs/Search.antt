@@ -7,14 +7,14 @@ use lib.Dec.{eqb, ltb}
 use lib.ListN.{length, getD}
 use Rattle.synthesis.specs.Monitor.{Answer, cases}
 
--- the place of e in a list; the list's length where it isn't there
-abbrev pub place : ℕ → List ℕ → ℕ
-place e [] = 0
-place e (x ∷ xs) = cond (eqb e x) 0 (suc (place e xs))
+-- the index of e in a list; the list's length where it isn't there
+abbrev pub indexOf : ℕ → List ℕ → ℕ
+indexOf e [] = 0
+indexOf e (x ∷ xs) = cond (eqb e x) 0 (suc (indexOf e xs))
 
 -- the found equations with e, put last if it is new
 abbrev pub with : List ℕ → ℕ → List ℕ
-with found e = cond (ltb (place e found) (length found)) found (found ++ (e ∷ []))
+with found e = cond (ltb (indexOf e found) (length found)) found (found ++ (e ∷ []))
 
 module _ (codes : ℕ) (answer : ℕ → ℕ → Answer ℕ) where
   -- the found equations after the answers of e to the first c codes

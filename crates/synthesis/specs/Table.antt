@@ -6,7 +6,7 @@ use mathlib.Core.List.{List, [], _∷_, _++_}
 use lib.Dec.{eqb, leb}
 use lib.ListN.{length, getD, take, drop}
 use Rattle.synthesis.specs.Monitor.{Answer, dropped, next, cases}
-use Rattle.synthesis.specs.Search.{place}
+use Rattle.synthesis.specs.Search.{indexOf}
 
 -- ---- any table
 
@@ -30,7 +30,7 @@ tabled = entry 256 255
 
 -- the entry for an answer: where its equation stands among those found
 abbrev pub entryFor : (mark : ℕ) → (found : List ℕ) → Answer ℕ → ℕ
-entryFor mark found a = cases a mark (λ e. place e found)
+entryFor mark found a = cases a mark (λ e. indexOf e found)
 
 module _ (mark : ℕ) (answer : ℕ → ℕ → Answer ℕ) (found : List ℕ) where
   -- the entries of the equation e for the first c codes

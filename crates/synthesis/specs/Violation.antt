@@ -5,8 +5,7 @@ use mathlib.Core.Bool.{Bool, true}
 use mathlib.Core.List.{List, [], _∷_}
 use lib.ListN.{getD, drop}
 use Rattle.reading.specs.Pattern.{covers}
-use Rattle.reading.specs.Formula.{Formula, falsity, both, necessity, max, variable}
-use Rattle.reading.specs.Rule.{Rule}
+use Rattle.reading.specs.Rule.{Formula, falsity, both, necessity, max, variable, Rule}
 use Rattle.reading.specs.Numbered.{noPattern}
 use Rattle.reading.specs.declared.Pattern.{Pattern}
 

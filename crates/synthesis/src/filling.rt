@@ -9,7 +9,7 @@ ghost use Rattle.synthesis.specs.Answering.{judged};
 ghost use Rattle.synthesis.specs.Table.{entryFor, entries, filled};
 ghost use Rattle.synthesis.specs.Arrays.{answerBy};
 
-// The entry for a set of reached nodes: dropped where it has an ff node, else its place among the n equations.
+// The entry for a set of reached nodes: dropped where it has an ff node, else its index among the n equations.
 fn entry(found: &[u64], n: usize, falsities: u64, reached: u64) -> u8
     requires { ⌜ (n ≤ 128) × (n ≤ length (now found)) ⌝ }
     ensures { λ r. ⌜ r ≡ entryFor 255 (take n (now (found .entry))) (judged falsities reached) ⌝ }

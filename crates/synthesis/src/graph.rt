@@ -9,8 +9,7 @@ use reading::kinds::VARIABLE;
 ghost use mathlib.Core.Path.{_≡_};
 ghost use Prim.Native.Nat.{ℕ, _+_, _≤_, _<_};
 ghost use lib.ListN.{length, replicate};
-ghost use Rattle.reading.specs.Formula.{size};
-ghost use Rattle.reading.specs.Rule.{Rule};
+ghost use Rattle.reading.specs.Rule.{size, Rule};
 ghost use Rattle.synthesis.specs.Arrays.{IsRule, SomeNode, IsOpening, Linked, AfterAll, withNode, HasKind, Marked};
 ghost use Rattle.synthesis.specs.Arrays.{IsNumbered, SomeNumbered, Waiting, WaitingAll, IsGraph};
 

@@ -33,7 +33,7 @@ fn refusal(answer: Answer) -> Counted
 {
     match answer {
         Answer::Accepted => Counted::Refused(0, 0),
-        Answer::Refused(number, place) => Counted::Refused(number, place),
+        Answer::Refused(number, indexOf) => Counted::Refused(number, indexOf),
     }
 }
 

@@ -1,15 +1,15 @@
-// The search for the equations of a rule. They are numbered by their places in an array.
+// The search for the equations of a rule. They are numbered by their indices in an array.
 ghost use mathlib.Core.Path.{_≡_};
 ghost use Prim.Native.Nat.{ℕ, _≤_, _<_};
 ghost use mathlib.Core.List.{List};
 ghost use lib.ListN.{length, getD, take};
 ghost use Rattle.synthesis.specs.Monitor.{cases};
-ghost use Rattle.synthesis.specs.NodeSet.{common};
+ghost use Rattle.synthesis.specs.NodeSet.{intersection};
 ghost use Rattle.synthesis.specs.Answering.{judged};
-ghost use Rattle.synthesis.specs.Search.{place, with, noted, turn, found};
+ghost use Rattle.synthesis.specs.Search.{indexOf, with, noted, turn, found};
 ghost use Rattle.synthesis.specs.Arrays.{gathered, answerBy, Holds};
 
-// The union of those sets whose places are in `live`.
+// The union of those sets whose indices are in `live`.
 fn gather(sets: &[u64], live: u64) -> u64
     requires { ⌜ length (now sets) ≡ 64 ⌝ }
     ensures { λ r. ⌜ r ≡ gathered (now (sets .entry)) live ⌝ }
@@ -27,15 +27,15 @@ fn gather(sets: &[u64], live: u64) -> u64
 // The nodes that an equation reaches under a code; with an ff node among them, the code is dropped.
 pub(crate) fn reached(after: &[u64], waiting: &[u64], e: u64, c: usize) -> u64
     requires { ⌜ (length (now after) ≡ 64) × (c < length (now waiting)) ⌝ }
-    ensures { λ r. ⌜ r ≡ gathered (now (after .entry)) (common e (getD (now (waiting .entry)) c 0)) ⌝ }
+    ensures { λ r. ⌜ r ≡ gathered (now (after .entry)) (intersection e (getD (now (waiting .entry)) c 0)) ⌝ }
 {
     gather(after, e & waiting[c])
 }
 
-// The place of a set among the first n of the list, or n.
+// The index of a set among the first n of the list, or n.
 pub(crate) fn find(list: &[u64], n: usize, e: u64) -> usize
     requires { ⌜ n ≤ length (now list) ⌝ }
-    ensures { λ r. ⌜ r ≡ place e (take n (now (list .entry))) ⌝ }
+    ensures { λ r. ⌜ r ≡ indexOf e (take n (now (list .entry))) ⌝ }
 {
     let mut i = 0;
     while i < n {

@@ -3,9 +3,9 @@ use mathlib.Core.Path.{_≡_, sym, _∙_, subst}
 use Prim.Native.Nat.{ℕ}
 use mathlib.Core.List.{List}
 use borrow.Author.Needs.{needs}
-use Rattle.reading.specs.Outcome.{accepted}
+use Rattle.reading.specs.File.{accepted}
 use Rattle.reading.proofs.ByteLaws.{slice-bytes}
-use Rattle.models.specs.File.{statesOf}
+use Rattle.models.specs.Phone.{statesOf}
 use Rattle.models.specs.Loading.{Begun}
 use Rattle.models.specs.declared.PhoneModel.{PhoneModel}
 use Rattle.models.proofs.FileWays.{states-found, none-begun, states-refused, loaded-accepted, loaded-refused}

@@ -4,8 +4,7 @@ use mathlib.Core.Bool.{and-false}
 use native.Mathlib.Omega.{arith}
 use borrow.Author.Needs.{needs}
 use borrow.Author.Tests.{eq-eqb, le-leb, lt-leb}
-use Rattle.reading.specs.Code.{kindOf}
-use Rattle.reading.specs.Pattern.{bit, covers}
+use Rattle.reading.specs.Pattern.{kindOf, bit, covers}
 use Rattle.reading.proofs.covers.Statement.{statement}
 use Rattle.reading.proofs.covers.Tie as tie
 

@@ -4,8 +4,8 @@ use Prim.Native.Nat.{_+_, _-_, _≤_, _<_}
 use lib.ListN.{length}
 use native.Mathlib.Omega.{arith}
 use borrow.Author.Needs.{needs}
-use Rattle.reading.specs.Outcome.{Outcome, accepted}
-use Rattle.models.specs.File.{stepAt, recordLength}
+use Rattle.reading.specs.File.{Outcome, accepted}
+use Rattle.models.specs.Phone.{stepAt, recordLength}
 use Rattle.models.specs.declared.Step.{Step}
 use Rattle.models.proofs.FileWays.{step-found, all-read, step-refused, step-read}
 use Rattle.models.proofs.StepBytes.{step-fits}

@@ -39,7 +39,7 @@ use denote.Triple.Entry.{Vals, onEntry}
 use denote.Triple.Table.{cited}
 use denote.Triple.Walked.{says, needs, Stays, stay-none-slice, stay-none, walkOf, ends-at, goes-none-slice, goes-none}
 use denote.Exit.{yes}
-use Rattle.models.specs.File.{stepsAt}
+use Rattle.models.specs.Phone.{stepsAt}
 use Rattle.models.specs.Loading.{Begun, LoadedAs}
 use Rattle.models.specs.declared.Step.{Step}
 use Rattle.models.specs.declared.loading.Next.{Next}

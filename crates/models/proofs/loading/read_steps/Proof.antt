@@ -36,7 +36,7 @@ use denote.Triple.Table.{cited}
 use denote.Triple.Walked.{says, needs, Stays, stay-none-slice, stay-none, stay-slice, walkOf, ends-at}
 use denote.Triple.Walked.{goes-none-slice, goes-none, goes-slice}
 use denote.Exit.{yes}
-use Rattle.models.specs.File.{stepsAt}
+use Rattle.models.specs.Phone.{stepsAt}
 use Rattle.models.specs.Loading.{Begun, LoadedAs}
 use Rattle.models.specs.declared.Step.{Step}
 use Rattle.models.specs.declared.loading.Next.{Next}

@@ -5,8 +5,7 @@ use mathlib.Core.List.{List}
 use Prim.Native.Nat.{ℕ, _+_, _-_}
 use native.Mathlib.Omega.{arith}
 use borrow.Author.Needs.{needs}
-use Rattle.reading.specs.Outcome.{accepted}
-use Rattle.reading.specs.File.{isPattern, patternAt}
+use Rattle.reading.specs.File.{accepted, isPattern, patternAt}
 use Rattle.reading.specs.Answers.{patternAnswer}
 use Rattle.reading.specs.declared.NumberedRule.{NumberedRule}
 use Rattle.reading.proofs.Heads.{Begun, none-begun, one-begun, all-begun, begun-refused, found-pattern, no-pattern-found}

@@ -13,7 +13,7 @@ Inv-loop p k waiting₀ c₀ waiting c = (c ≤ 256) × MarkedTo c p k waiting�
 abbrev μ-loop : tie.MeasureT-loop
 μ-loop p k waiting₀ c₀ waiting c = 256 - c
 
--- every code below 256 has its place
+-- there is an element for every code below 256
 room : (c : tie.In-loop Inv-loop μ-loop) → c .before .loop .c < length (c .before .loop .waiting)
 room c = omega (arith, c .before .loop .inv .1 .long)
 

@@ -4,7 +4,7 @@ use mathlib.Core.Path.{_≡_, sym}
 use native.Mathlib.Omega.{arith}
 use borrow.Author.Count.{below-more}
 use borrow.Author.Needs.{needs}
-use Rattle.synthesis.proofs.Places.{AbsentBelow, take-place, take-absent}
+use Rattle.synthesis.proofs.Indices.{AbsentBelow, take-index, take-absent}
 use Rattle.synthesis.proofs.search.find.Statement.{statement}
 use Rattle.synthesis.proofs.search.find.Tie as tie
 
@@ -26,7 +26,7 @@ shared-slice-read-if1 c = search needs
 returns : tie.Need-returns Inv-loop μ-loop
 returns c =
     let l = c .before .before .before in
-    sym (take-place _ _ _ (l .before .pre) _ (search needs) (l .loop .inv .1) (c .if1 .taken))
+    sym (take-index _ _ _ (l .before .pre) _ (search needs) (l .loop .inv .1) (c .if1 .taken))
 
 add-i : tie.Need-add-i Inv-loop μ-loop
 add-i c = search needs

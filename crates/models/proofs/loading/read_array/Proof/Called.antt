@@ -27,7 +27,7 @@ use denote.Triple.Entry.{Vals}
 use denote.Triple.Spec.{tripleOf}
 use denote.Triple.Clauses.{Lasts, lasts}
 use denote.Triple.Walked.{says}
-use Rattle.models.specs.File.{stepsAt}
+use Rattle.models.specs.Phone.{stepsAt}
 use Rattle.models.specs.Loading.{Begun, LoadedAs}
 use Rattle.models.specs.declared.Step.{Step}
 use Rattle.models.specs.declared.loading.Next.{Next}
