@@ -1,0 +1,52 @@
+/* C functions that do what the library does, by the same algorithms. The library is measured against them. */
+#ifndef TWIN_H
+#define TWIN_H
+
+#include <stddef.h>
+#include <stdint.h>
+
+enum { CODES = 256, DROPPED = 255, MOST_EQUATIONS = 128, LEAST_TABLE = CODES * MOST_EQUATIONS };
+enum { MOST_PATTERNS = 32, MOST_NODES = 64, MOST_STATES = 64, MOST_STEPS = 512 };
+enum kind { PATTERN = 1, TRUTH, FALSITY, BOTH, NECESSITY, MAX, VARIABLE };
+
+struct pattern {
+    uint8_t mask, first, last;
+};
+
+/* Node k's first part is node k + 1. args[k]: the second part of a "both", the pattern of a necessity, the max of a variable. */
+struct rule {
+    struct pattern patterns[MOST_PATTERNS];
+    uint8_t kinds[MOST_NODES], args[MOST_NODES];
+    size_t npatterns, nnodes;
+};
+
+/* 0 and the rule, or one of refusals 1 to 7 with its place. */
+uint8_t twin_read(const uint8_t *bytes, size_t len, struct rule *rule, size_t *place);
+
+/* As jarveun_build, without a table: one of refusals 1 to 9. */
+uint8_t twin_count(const uint8_t *rule, size_t rule_len, size_t *value);
+
+/* As jarveun_build and jarveun_judge. */
+uint8_t twin_build(const uint8_t *rule, size_t rule_len, uint8_t *table, size_t table_len, size_t *value);
+uint8_t twin_judge(const uint8_t *rule, size_t rule_len, const uint8_t *model, size_t model_len, uint8_t *table, size_t table_len, size_t *value);
+
+/* Where a run is, and how many scans its last block kept. */
+struct run {
+    size_t equation, kept;
+};
+
+/* A loop over a block of n scans. It checks nothing, and may write over the byte of the output after the kept scans. */
+typedef void run_loop(const uint8_t *table, struct run *run, const uint8_t *scans, size_t n, uint8_t *output, uint8_t *verdicts);
+
+struct named_loop {
+    const char *name;
+    run_loop *loop;
+};
+
+extern const struct named_loop loops[];
+extern const size_t nloops;
+
+/* NULL where there is none of that name. */
+run_loop *loop_named(const char *name);
+
+#endif

@@ -1,0 +1,144 @@
+/* Builds the table of a rule. Sets of nodes are numbers, node k is bit k. */
+#include "twin.h"
+
+#include <string.h>
+
+/* The first equation and the ff nodes; what opening the formula after each necessity gives; the necessities whose patterns hold each code. */
+struct graph {
+    uint64_t first, falsities;
+    uint64_t after[MOST_NODES];
+    uint64_t waiting[CODES];
+};
+
+/* What opening node k gives, where `opened` has that of each max before it. */
+static uint64_t opening(const struct rule *rule, const uint64_t *opened, size_t k)
+{
+    switch (rule->kinds[k]) {
+    case FALSITY:
+    case NECESSITY:
+        return (uint64_t)1 << k;
+    case BOTH:
+        return opening(rule, opened, k + 1) | opening(rule, opened, rule->args[k]);
+    case MAX:
+        return opening(rule, opened, k + 1);
+    case VARIABLE:
+        return opened[rule->args[k]];
+    default:
+        return 0;
+    }
+}
+
+/* Puts a necessity into the set of each code that its pattern holds. */
+static void wait_for(uint64_t *waiting, struct pattern p, uint64_t node)
+{
+    for (unsigned kind = 0; kind < 8; kind++)
+        if (p.mask >> kind & 1)
+            for (unsigned slot = p.first; slot <= p.last; slot++)
+                waiting[32 * kind + slot] |= node;
+}
+
+static void link_nodes(const struct rule *rule, struct graph *g)
+{
+    uint64_t opened[MOST_NODES];
+    memset(g, 0, sizeof *g);
+    g->first = opening(rule, opened, 0);
+    for (size_t k = 0; k < rule->nnodes; k++) {
+        uint64_t node = (uint64_t)1 << k;
+        if (rule->kinds[k] == FALSITY) {
+            g->falsities |= node;
+        } else if (rule->kinds[k] == MAX) {
+            opened[k] = opening(rule, opened, k + 1);
+        } else if (rule->kinds[k] == NECESSITY) {
+            g->after[k] = opening(rule, opened, k + 1);
+            wait_for(g->waiting, rule->patterns[rule->args[k]], node);
+        }
+    }
+}
+
+/* The nodes that an equation reaches under a code. With an ff node among them the code is dropped. */
+static inline uint64_t reached(const struct graph *g, uint64_t equation, size_t code)
+{
+    uint64_t all = 0;
+    for (uint64_t live = equation & g->waiting[code]; live; live &= live - 1)
+        all |= g->after[__builtin_ctzll(live)];
+    return all;
+}
+
+/* The place of an equation among the first n, or n. It is put after them, so that the loop needs no test for the end. */
+static inline size_t find(uint64_t *found, size_t n, uint64_t equation)
+{
+    size_t i = 0;
+    found[n] = equation;
+    while (found[i] != equation)
+        i++;
+    return i;
+}
+
+/* Finds the equations, and says how many there are; 129 where they are over 128. There is a place more than for 128. */
+static size_t search(const struct graph *g, uint64_t *found)
+{
+    size_t n = 1;
+    found[0] = g->first;
+    for (size_t k = 0; k < n; k++) {
+        uint64_t equation = found[k];
+        for (size_t code = 0; code < CODES; code++) {
+            uint64_t next = reached(g, equation, code);
+            if (next & g->falsities || find(found, n, next) < n)
+                continue;
+            if (n == MOST_EQUATIONS)
+                return n + 1;
+            n++;
+        }
+    }
+    return n;
+}
+
+static void fill(const struct graph *g, uint64_t *found, size_t n, uint8_t *restrict table)
+{
+    for (size_t k = 0; k < n; k++) {
+        uint64_t equation = found[k];
+        for (size_t code = 0; code < CODES; code++) {
+            uint64_t next = reached(g, equation, code);
+            *table++ = next & g->falsities ? DROPPED : (uint8_t)find(found, n, next);
+        }
+    }
+}
+
+/* Reads a rule and finds its equations: 0 and their count, or one of refusals 1 to 9 with its place. */
+static uint8_t plan(const uint8_t *bytes, size_t len, struct graph *g, uint64_t *found, size_t *value)
+{
+    struct rule rule;
+    uint8_t refused = twin_read(bytes, len, &rule, value);
+    if (refused)
+        return refused;
+    link_nodes(&rule, g);
+    *value = 0;
+    if (g->first & g->falsities)
+        return 8;
+    size_t n = search(g, found);
+    if (n > MOST_EQUATIONS)
+        return 9;
+    *value = n;
+    return 0;
+}
+
+uint8_t twin_count(const uint8_t *rule, size_t rule_len, size_t *value)
+{
+    struct graph g;
+    uint64_t found[MOST_EQUATIONS + 1];
+    return plan(rule, rule_len, &g, found, value);
+}
+
+uint8_t twin_build(const uint8_t *rule, size_t rule_len, uint8_t *table, size_t table_len, size_t *value)
+{
+    struct graph g;
+    uint64_t found[MOST_EQUATIONS + 1];
+    if (table_len < LEAST_TABLE) {
+        *value = 0;
+        return 10;
+    }
+    uint8_t refused = plan(rule, rule_len, &g, found, value);
+    if (!refused)
+        fill(&g, found, *value, table);
+    return refused;
+}
