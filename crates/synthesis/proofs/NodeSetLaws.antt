@@ -1,11 +1,13 @@
 -- Laws of sets of nodes. Nothing but these looks at their bits.
-use Prim.Native.Nat.{ℕ, zero, suc, _+_, _*_, _/_, _%_, _^_, _≤_, _<_, min, max}
+use Prim.Native.Nat.{ℕ, zero, suc, _+_, _-_, _*_, _/_, _%_, _^_, _≤_, _<_, min, max}
 use mathlib.Core.Path.{_≡_, refl, sym, _∙_, ap}
 use mathlib.Core.Logic.{_↔_, _⊎_, inl, inr}
 use mathlib.Core.Bool.{true}
-use native.Mathlib.Nat.{mod-lt, mod-eq-of-lt, one-mul, mul-div-mul-right, pow-suc, div-one, div-eq-of-lt, zero-div, div-self, one-le-pow}
+use native.Mathlib.Nat.{mod-lt, mod-eq-of-lt, one-mul, mul-div-mul-right, pow-suc, one-le-pow, zero-lt-suc}
+use native.Mathlib.Nat.{div-one, div-eq-of-lt, div-lt-iff-lt-mul, div-self, zero-div}
 use native.Mathlib.Omega.{arith}
-use lib.Bits.{bitAnd, bitOr, bitXor, differ, or-shr, or-step, and-shr, and-step, xor-shr, xor-step, xor-add-and}
+use lib.Bits.{bitAnd, bitOr, bitXor, differ, or-shr, or-step, and-self, and-shr, and-step, xor-shr, xor-step, xor-zero-r, xor-add-and}
+use lib.Count.{trailingZeros, under}
 use lib.Pow.{pow-lt}
 use borrow.Author.Tests.{eq-eqb, eqb-true}
 use Rattle.reading.specs.Pattern.{bit}
@@ -176,3 +178,40 @@ toggled-lt e k h =
 
     less : (x c e s : ℕ) → c ≡ s → x + c * 2 ≡ e + s → 0 < s → x < e
     less x c e s p q r = omega arith
+
+-- ---- a set without its lowest member
+
+-- an operation that goes digit by digit, from the halves and the lowest digits of two numbers
+digits : (op digit : ℕ → ℕ → ℕ) → ((a b : ℕ) → op a b ≡ op (a / 2) (b / 2) * 2 + digit (a % 2) (b % 2))
+    → (a b x y u v : ℕ) → a / 2 ≡ x → b / 2 ≡ y → a % 2 ≡ u → b % 2 ≡ v → op a b ≡ op x y * 2 + digit u v
+digits op digit step a b x y u v p q r s = step a b ∙ rw (p, q, r, s) refl
+
+doubles : (z w x y : ℕ) → z ≡ x * 2 + 0 → w ≡ y * 2 + 0 → x ≡ y → z ≡ w
+doubles z w x y p q e = omega arith
+
+half-double : (x y : ℕ) → y ≡ x * 2 → y / 2 ≡ x
+half-double x y h = omega arith
+
+even-double : (x y : ℕ) → y ≡ x * 2 → y % 2 ≡ 0
+even-double x y h = omega arith
+
+-- a number has all of its members but the lowest in intersection with the number before it
+pub lowest-out : (k e : ℕ) → 0 < e → e < 2 ^ k → intersection e (e - 1) ≡ toggled e (trailingZeros k e)
+unfolding trailingZeros
+lowest-out zero e p h = absurd (omega arith)
+lowest-out (suc k) e p h = on (e % 2) refl (lowest-out k (e / 2))
+  where
+    half : e / 2 < 2 ^ k
+    half = div-lt-iff-lt-mul (zero-lt-suc 1) .1 (rw pow-suc at h)
+
+    on : (d : ℕ) → e % 2 ≡ d → (0 < e / 2 → e / 2 < 2 ^ k → intersection (e / 2) (e / 2 - 1) ≡ toggled (e / 2) (trailingZeros k (e / 2)))
+        → intersection e (e - 1) ≡ toggled e (under d (trailingZeros k (e / 2)))
+    on zero q ih =
+        let t = trailingZeros k (e / 2) in
+        let double = pow-suc 2 t in
+        doubles _ _ _ _ (digits bitAnd min and-step e (e - 1) (e / 2) (e / 2 - 1) 0 1 refl (omega arith) q (omega arith))
+        (digits bitXor differ xor-step e (2 ^ suc t) (e / 2) (2 ^ t) 0 0 refl (half-double _ _ double) q (even-double _ _ double))
+        (ih (omega arith) half)
+    on (suc d) q ih =
+        doubles _ _ _ _ (digits bitAnd min and-step e (e - 1) (e / 2) (e / 2) 1 0 refl (omega arith) (omega arith) (omega arith))
+        (digits bitXor differ xor-step e 1 (e / 2) 0 1 1 refl refl (omega arith) refl) (and-self (e / 2) ∙ sym (xor-zero-r (e / 2)))

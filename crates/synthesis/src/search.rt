@@ -9,7 +9,8 @@ ghost use Rattle.synthesis.specs.Answering.{judged};
 ghost use Rattle.synthesis.specs.Search.{indexOf, with, noted, turn, found};
 ghost use Rattle.synthesis.specs.Arrays.{gathered, answerBy, Holds};
 
-// The union of those sets whose indices are in `live`.
+// The union of those sets whose indices are in `live`. Each turn takes the lowest index out: a number has all its other bits in common with
+// the one before it.
 fn gather(sets: &[u64], live: u64) -> u64
     requires { ⌜ length (now sets) ≡ 64 ⌝ }
     ensures { λ r. ⌜ r ≡ gathered (now (sets .entry)) live ⌝ }
@@ -19,7 +20,7 @@ fn gather(sets: &[u64], live: u64) -> u64
     while rest != 0 {
         let i = u64::trailing_zeros(rest) as usize;
         all = all | sets[i];
-        rest = rest ^ (1 << i);
+        rest = rest & (rest - 1);
     }
     all
 }

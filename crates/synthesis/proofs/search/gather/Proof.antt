@@ -1,11 +1,11 @@
 -- `search::gather` meets its contract. Each turn takes the lowest member out and puts its set in; the measure is the set that is left.
-use Prim.Native.Nat.{_^_, _≤_, _<_}
+use Prim.Native.Nat.{_-_, _^_, _≤_, _<_}
 use mathlib.Core.Path.{_≡_, refl, sym, _∙_}
 use native.Mathlib.Omega.{arith}
 use lib.Count.{trailingZeros}
-use Rattle.synthesis.specs.NodeSet.{Has, union}
+use Rattle.synthesis.specs.NodeSet.{Has, union, intersection}
 use Rattle.synthesis.specs.Arrays.{gathered}
-use Rattle.synthesis.proofs.NodeSetLaws.{shl-one, toggled, toggled-lt}
+use Rattle.synthesis.proofs.NodeSetLaws.{toggled, toggled-lt, lowest-out}
 use Rattle.synthesis.proofs.Gathering.{gather-step, gather-none, lowest-lt, has-lowest}
 use Rattle.synthesis.proofs.search.gather.Statement.{statement}
 use Rattle.synthesis.proofs.search.gather.Tie as tie
@@ -26,6 +26,9 @@ low c = lowest-lt _ (c .loop-test .taken) (small c)
 member : (c : tie.In-loop Inv-loop μ-loop) → Has (c .before .loop .rest) (trailingZeros 64 (c .before .loop .rest))
 member c = has-lowest _ (c .loop-test .taken) (small c)
 
+one-out : (c : tie.In-loop Inv-loop μ-loop) → let rest = c .before .loop .rest in intersection rest (rest - 1) ≡ toggled rest (trailingZeros 64 rest)
+one-out c = lowest-out 64 _ (omega (arith, c .loop-test .taken)) (small c)
+
 out : (c : tie.In-loop Inv-loop μ-loop) → let rest = c .before .loop .rest in toggled rest (trailingZeros 64 rest) < rest
 out c = toggled-lt _ _ (member c)
 
@@ -41,17 +44,17 @@ mul-all c = omega (arith, low c)
 shared-slice-read-all : tie.Need-shared-slice-read-all Inv-loop μ-loop
 shared-slice-read-all c = omega (arith, low (c .before), c .before .before .before .pre)
 
-shl-rest : tie.Need-shl-rest Inv-loop μ-loop
-shl-rest c = low (c .before)
+sub-rest : tie.Need-sub-rest Inv-loop μ-loop
+sub-rest c = omega (arith, c .before .loop-test .taken)
 
 loop-less : tie.Need-loop-less Inv-loop μ-loop
-loop-less c = rw (shl-one _ (low (c .before))) (out (c .before))
+loop-less c = rw (one-out (c .before)) (out (c .before))
 
 loop-again : tie.Need-loop-again Inv-loop μ-loop
 loop-again c =
     let turn = c .before in
     let l = turn .before in
-    rw (shl-one _ (low turn)) (
+    rw (one-out turn) (
       omega (arith, out turn, l .loop .inv .0),
       gather-step (l .before .args .sets .now) (l .loop .all) (l .loop .rest) _ (member turn) ∙ l .loop .inv .1,
     )
@@ -71,7 +74,7 @@ gather-spec =
     cast-i
     mul-all
     shared-slice-read-all
-    shl-rest
+    sub-rest
     loop-less
     loop-again
     returns)
