@@ -15,7 +15,8 @@ pub(crate) struct End {
     pub(crate) kept: usize,
 }
 
-// The entry of an equation for a code; DROPPED where the table has none.
+// The entry of an equation for a code; DROPPED where the table has none. Where the row is there, the entry is read from the column of the code:
+// in the loop below the row is known last, and then there is one sum less to wait for.
 fn entry(table: &[u8], equation: usize, code: u8) -> usize
     ensures { λ r. ⌜ r ≡ getD (rowOf 256 (now (table .entry)) equation) code 255 ⌝ }
     ensures { λ r. ⌜ r < 256 ⌝ }
@@ -23,7 +24,9 @@ fn entry(table: &[u8], equation: usize, code: u8) -> usize
     let entries = row(table, equation);
     let at = code as usize;
     if at < entries.len() {
-        return entries[at] as usize;
+        let from = 256 * equation;
+        let column = &table[at..];
+        return column[from] as usize;
     }
     DROPPED as usize
 }
