@@ -1,7 +1,7 @@
 -- What reading says of the refused files is computed, and with it what counting, building and judging answer.
 use Prim.Native.Nat.{ℕ}
 use mathlib.Core.Path.{_≡_, refl}
-use mathlib.Core.List.{List, [], _∷_}
+use mathlib.Core.List.{List}
 use lib.ListN.{length}
 use Rattle.reading.specs.File.{refused, patternsAt, formulaAt, formulaOf, ruleOf}
 use Rattle.synthesis.specs.Building.{buildingOf}

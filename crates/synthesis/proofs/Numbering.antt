@@ -7,10 +7,9 @@ use native.Mathlib.Decide.{decLt}
 use native.Mathlib.Omega.{arith}
 use lib.ListN.{length, getD}
 use lib.Seq.{ext-getD}
-use Rattle.reading.specs.Rule.{Rule}
 use Rattle.synthesis.specs.Monitor.{Answer, next}
 use Rattle.synthesis.specs.Answering.{firstOf, answerOf}
-use Rattle.synthesis.specs.Promises.{Reached, Before, FoundBy, AsFound, OneNumbering}
+use Rattle.synthesis.specs.Promises.{Before, FoundBy, AsFound, OneNumbering}
 
 -- of two codes of equations, of which neither is asked before the other
 unordered : (j c j′ c′ : ℕ) → (Before j c j′ c′ → ⊥) → (Before j′ c′ j c → ⊥) → (j ≡ j′) × (c ≡ c′)

@@ -1,5 +1,5 @@
 -- `jarveun_run` meets its contract: each number is a field of what `run` hands back.
-use mathlib.Core.Path.{_≡_, ap, sym, _∙_}
+use mathlib.Core.Path.{ap, _∙_}
 use borrow.Author.Needs.{needs}
 use Rattle.running.specs.declared.Ran.{Ran}
 use Rattle.boundary.specs.Results.{checkedNumber}
