@@ -1,4 +1,5 @@
-/* The library's functions that C calls. A slice is a pointer and a length. */
+/* The library's functions that C calls. A slice is a pointer and a length: that many bytes are there, and what is written to overlaps nothing else
+   that is handed over. No pointer is null. */
 #ifndef JARVEUN_H
 #define JARVEUN_H
 

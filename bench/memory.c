@@ -112,7 +112,8 @@ static void contest_of_jobs(const char *what, struct job ours, struct job twin, 
     print(what, entrants, 2);
 }
 
-/* The largest model. Each state has a silent step to the next and seven steps with codes, four of them with code 5, to states at random. */
+/* The largest model. Each state has a silent step to the next and seven steps with codes to states at random: code 5 from odd states, codes at
+   random from even ones. */
 static void largest_model(uint8_t *model)
 {
     uint64_t seed = 7;

@@ -1,1 +1,2 @@
+-- What the contracts cite besides the definitions of the layers.
 pub mod Results

@@ -1,5 +1,5 @@
-// The library for programs in C: building, judging and running, under plain names. A slice is a pointer and a length. bench/jarveun.h declares
-// them. The definitions that the contracts cite stand in specs/ of the layers; Results.antt has the answers as numbers.
+// The library for programs in C: building, judging and running, under plain names. A slice is a pointer and a length; the contracts suppose that
+// it is good, and apart from what is changed. bench/jarveun.h declares the functions. The definitions that the contracts cite stand in specs/ of the layers; Results.antt has the answers as numbers.
 use models::Judged;
 use running::Checked;
 use running::State;
@@ -85,7 +85,8 @@ pub extern "C" fn jarveun_run(
     kept: &mut usize,
     dropped: &mut usize,
 ) -> u8
-    ensures { λ r. ⌜ IsRun (record { equation = now (equation .entry) }) (runOf 128 255 (now (table .entry)) count (record { equation = now (equation .entry) })
+    ensures { λ r. ⌜ IsRun (record { equation = now (equation .entry) })
+        (runOf 128 255 (now (table .entry)) count (record { equation = now (equation .entry) })
         (now (scans .entry)) (length (now (output .entry))) (length (now (verdicts .entry))))
         r (now (equation .exit)) (now (kept .exit)) (now (dropped .exit)) ⌝ }
     ensures { λ _. ⌜ now (output .exit) ≡ outputAfter (runOf 128 255 (now (table .entry)) count (record { equation = now (equation .entry) })

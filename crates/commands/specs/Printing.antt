@@ -1,5 +1,5 @@
--- The text that is due to an answer, and the text of the lines for which the loop of `equations` asks. That they are written, no contract
--- can say.
+-- The text that is due to an answer, and the text of the lines for which the loop of `equations` is meant to ask. That it asks for them and
+-- writes them, no contract can say.
 use Prim.Native.Nat.{ℕ}
 use mathlib.Core.Bool.{true, false}
 use mathlib.Core.List.{List, map}
@@ -20,7 +20,7 @@ abbrev pub textFor : Outcome Synthesis → (table : List ℕ) → List ℕ
 textFor (accepted y) table = listing (map extentOf (y .rule .patterns)) (length (y .equations)) table
 textFor (refused number place) table = refusalLine number place
 
--- the text of the lines that `print_answer` asks for, one after the other
+-- the text of the lines that `print_answer` is meant to ask for, one after the other
 abbrev pub printed : Counted → NumberedRule → (table : List ℕ) → List ℕ
 printed (Equations count) rule table = linesFrom rule table count 32802 0
 printed (Refused number place) rule table = refusalLine number place

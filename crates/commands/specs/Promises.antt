@@ -14,7 +14,8 @@ use Rattle.models.specs.Judging.{judgingOf}
 use Rattle.commands.specs.Printing.{textFor, printed}
 use Rattle.commands.specs.Sifting.{UnderRule}
 
--- 1. From what building and reading leave, the lines that `equations` asks for are the text that is due: none is missing.
+-- 1. From what building and reading leave, the lines that `listing_line` gives to a loop like that of `equations` are the text that is due: none
+-- is missing.
 abbrev pub PrintsAnswer : Type 0
 PrintsAnswer =
     (s table : List ℕ) → Bytes s →

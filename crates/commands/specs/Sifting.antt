@@ -1,5 +1,5 @@
--- The calls that `sift` makes, and what it hands back. That their scans are those of standard input, and that the kept ones are written, no
--- contract can say.
+-- What `sift` hands back: a state in which calls end, one after the other. That it makes these calls, that their scans are those of standard input,
+-- and that the kept ones are written, no contract can say.
 use Prim.Native.Nat.{ℕ, _≤_}
 use mathlib.Core.Path.{_≡_}
 use mathlib.Core.Logic.{_⊎_}

@@ -3,9 +3,9 @@ use Prim.Native.Nat.{ℕ, _<_}
 use mathlib.Core.Path.{_≡_, sym, subst}
 use mathlib.Core.List.{List}
 use native.Mathlib.Omega.{arith}
-use Rattle.synthesis.specs.Table.{entry}
+use Rattle.synthesis.specs.Monitor.{entry}
 use Rattle.models.specs.Model.{Label, silent, code, Model, Bisimilar}
-use Rattle.models.specs.Monitored.{Response, passed, silenced, suppressing, Behind, silent-step, passed-step, silenced-step, monitored}
+use Rattle.models.specs.Model.{Response, passed, silenced, suppressing, Behind, silent-step, passed-step, silenced-step, monitored}
 use Rattle.models.specs.Phone.{StepIn, modelOf}
 use Rattle.examples.specs.Examples.{PoolRows}
 use Rattle.examples.specs.ModelExamples.{breakingPhone, drawnPhone}

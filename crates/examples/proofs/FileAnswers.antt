@@ -8,7 +8,8 @@ use lib.ListN.{length, getD}
 use Rattle.reading.specs.Rule.{Rule}
 use Rattle.reading.specs.File.{accepted, refused, ruleOf}
 use Rattle.synthesis.specs.Answering.{answerOf, hopeless}
-use Rattle.synthesis.specs.Table.{rowOf, entries}
+use Rattle.synthesis.specs.Monitor.{rowOf}
+use Rattle.synthesis.specs.Table.{entries}
 use Rattle.synthesis.specs.Building.{equationsOf, synthesisOf, countedOf}
 use Rattle.synthesis.specs.declared.Counted.{Counted}
 use Rattle.synthesis.specs.declared.Counted.the-variants.{Equations, Refused}

@@ -9,7 +9,8 @@ use Rattle.reading.specs.Pattern.{bit, covers, least, howMany, extentOf}
 use Rattle.reading.specs.File.{Outcome, accepted, patternsAt, formulaAt, formulaOf, ruleOf}
 use Rattle.synthesis.specs.Answering.{firstOf, answerOf, hopeless}
 use Rattle.synthesis.specs.Search.{noted, found}
-use Rattle.synthesis.specs.Table.{rowOf, entries}
+use Rattle.synthesis.specs.Monitor.{rowOf}
+use Rattle.synthesis.specs.Table.{entries}
 use Rattle.synthesis.specs.Building.{equationsOf}
 use Rattle.running.specs.Running.{start, WellFormedTable, Run, followed, runOf, occurrences}
 use Rattle.running.specs.Promises.{RunsOn}

@@ -10,9 +10,9 @@ use Rattle.reading.specs.Pattern.{bit, covers}
 use Rattle.reading.specs.Rule.{Formula, falsity, both, necessity, variable, Bytes}
 use Rattle.reading.specs.File.{accepted}
 use Rattle.synthesis.specs.Violation.{coveredBy, ViolatesRule, by-falsity, by-first, by-code, by-body}
-use Rattle.synthesis.specs.Table.{entry}
+use Rattle.synthesis.specs.Monitor.{entry}
 use Rattle.models.specs.Model.{Label, silent, code, Walk, stay, silent-first, code-first, Weak, SatisfiesWith, Satisfies, SatisfiesDecided}
-use Rattle.models.specs.Monitored.{suppressing}
+use Rattle.models.specs.Model.{suppressing}
 use Rattle.models.specs.Phone.{Phone, StepIn, modelOf, statesOf, stepsAt, phoneOf}
 use Rattle.models.specs.Judging.{judgingOf, JudgedAs}
 use Rattle.models.specs.Promises.{Enforces}

@@ -10,10 +10,11 @@ use Rattle.reading.specs.File.{accepted, patternsAt, formulaAt, formulaOf, rule
 use Rattle.synthesis.specs.Violation.{ViolatesRule, by-falsity, by-code}
 use Rattle.synthesis.specs.Answering.{firstOf, answerOf, hopeless}
 use Rattle.synthesis.specs.Search.{noted, found}
-use Rattle.synthesis.specs.Table.{rowOf, entry, entries}
+use Rattle.synthesis.specs.Monitor.{rowOf, entry}
+use Rattle.synthesis.specs.Table.{entries}
 use Rattle.synthesis.specs.Building.{equationsOf}
 use Rattle.models.specs.Model.{Label, silent, code, Walk, stay, silent-first, code-first}
-use Rattle.models.specs.Monitored.{Response, passed, silenced, suppressing, passed-step, silenced-step}
+use Rattle.models.specs.Model.{Response, passed, silenced, suppressing, passed-step, silenced-step}
 use Rattle.models.specs.Phone.{StepIn, modelOf, statesOf, stepsAt, phoneOf}
 use Rattle.examples.specs.Examples.{tableLeft}
 use Rattle.examples.specs.ModelExamples.{behind, neverFile, neverRule, shorteningFile, shorteningPhone, Shortening}

@@ -11,7 +11,7 @@ use Rattle.reading.specs.Rule.{Formula, truth, falsity, both, necessity, max, v
 use Rattle.reading.specs.File.{Outcome, accepted, refused, ruleOf}
 use Rattle.reading.specs.declared.Pattern.{Pattern}
 use Rattle.reading.specs.declared.Extent.{Extent}
-use Rattle.synthesis.specs.Table.{rowOf}
+use Rattle.synthesis.specs.Monitor.{rowOf}
 use Rattle.synthesis.specs.Building.{synthesisOf, buildingOf, countedOf, tableAfter}
 use Rattle.synthesis.specs.declared.Counted.{Counted}
 use Rattle.synthesis.specs.declared.Counted.the-variants.{Equations, Refused}

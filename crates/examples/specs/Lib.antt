@@ -1,3 +1,4 @@
+-- In the order in which to read them.
 pub mod Examples
 pub mod NumberingExamples
 pub mod ModelExamples

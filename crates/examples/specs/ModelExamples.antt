@@ -8,10 +8,9 @@ use lib.ListN.{length}
 use Rattle.reading.specs.Rule.{falsity, necessity, Rule}
 use Rattle.reading.specs.File.{accepted}
 use Rattle.synthesis.specs.Violation.{ViolatesRule}
-use Rattle.synthesis.specs.Table.{entry}
+use Rattle.synthesis.specs.Monitor.{entry}
 use Rattle.synthesis.specs.declared.Counted.the-variants.{Equations}
-use Rattle.models.specs.Model.{code, Model, Walk, Finite, Satisfies, Bisimilar}
-use Rattle.models.specs.Monitored.{suppressing, monitored}
+use Rattle.models.specs.Model.{code, Model, Walk, Finite, Satisfies, Bisimilar, suppressing, monitored}
 use Rattle.models.specs.Phone.{Phone, modelOf, phoneOf}
 use Rattle.models.specs.Judging.{judgingOf, JudgedAs}
 use Rattle.models.specs.declared.Step.{Step}

@@ -13,7 +13,7 @@ use Rattle.reading.specs.Numbered.{numbered, noExtent}
 use Rattle.reading.specs.declared.Extent.{Extent}
 use Rattle.reading.specs.declared.NumberedRule.{NumberedRule}
 use Rattle.reading.proofs.NumberedLaws.{padded-long}
-use Rattle.synthesis.specs.Table.{rowOf, meaning}
+use Rattle.synthesis.specs.Monitor.{rowOf, meaning}
 use Rattle.synthesis.proofs.Rows.{row-none}
 use Rattle.listing.specs.Text.{text, decimal}
 use Rattle.listing.specs.Runs.{runsFrom, RunTo}

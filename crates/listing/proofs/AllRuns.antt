@@ -10,7 +10,7 @@ use borrow.Author.Tests.{ltb-true, ltb-false}
 use Rattle.reading.specs.Rule.{All}
 use Rattle.reading.proofs.AllLaws.{all-map}
 use Rattle.reading.proofs.ListLaws.{getD-inside}
-use Rattle.synthesis.specs.Table.{rowOf, meaning}
+use Rattle.synthesis.specs.Monitor.{rowOf, meaning}
 use Rattle.listing.specs.Runs.{Run, run, runsFrom, runs, RunTo}
 use Rattle.listing.specs.Promises.{Longest, InOrder, Groups, ShowsAnswers}
 use Rattle.listing.proofs.RunLaws.{first-run, no-runs, some-run}

@@ -8,7 +8,7 @@ use native.Mathlib.Omega.{arith}
 use lib.ListN.{length, length-append}
 use lib.Dec.{ltb, eqb}
 use borrow.Author.Tests.{lt-ltb, le-ltb, eq-eqb, ne-eqb, ltb-true, ltb-false, eqb-true, eqb-false}
-use Rattle.synthesis.specs.Table.{meaning}
+use Rattle.synthesis.specs.Monitor.{meaning}
 use Rattle.listing.specs.Text.{text, digit, decimalIn, decimal}
 use Rattle.listing.specs.Lines.{answerText}
 use Rattle.listing.specs.Promises.{SpellsDecimal}

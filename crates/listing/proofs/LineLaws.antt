@@ -8,7 +8,7 @@ use borrow.Author.Tests.{lt-ltb, le-ltb, le-leb, lt-leb, eq-eqb, ne-eqb}
 use Rattle.reading.specs.Numbered.{noExtent}
 use Rattle.reading.specs.declared.Extent.{Extent}
 use Rattle.reading.specs.declared.NumberedRule.{NumberedRule}
-use Rattle.synthesis.specs.Table.{rowOf}
+use Rattle.synthesis.specs.Monitor.{rowOf}
 use Rattle.listing.specs.Runs.{run, RunTo}
 use Rattle.listing.specs.Lines.{patternsLine, patternLine, equationsLine, runLine}
 use Rattle.listing.specs.Positions.{Within, lineThen, noLine, rowLineAt, lineAt, patternCount, listingLineAt}

@@ -4,8 +4,7 @@ use mathlib.Core.Bool.{Bool, true, false}
 use mathlib.Core.List.{List, [], _∷_, _++_}
 use lib.ListN.{length}
 use Rattle.reading.specs.declared.Extent.{Extent}
-use Rattle.synthesis.specs.Monitor.{Answer, cases}
-use Rattle.synthesis.specs.Table.{rowOf, meaning}
+use Rattle.synthesis.specs.Monitor.{Answer, cases, rowOf, meaning}
 use Rattle.listing.specs.Text.{text, decimal}
 use Rattle.listing.specs.Runs.{Run, runs}
 

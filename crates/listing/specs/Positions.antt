@@ -9,7 +9,7 @@ use lib.ListN.{length, getD, take, drop}
 use Rattle.reading.specs.Numbered.{padded, noExtent}
 use Rattle.reading.specs.declared.Extent.{Extent}
 use Rattle.reading.specs.declared.NumberedRule.{NumberedRule}
-use Rattle.synthesis.specs.Table.{rowOf}
+use Rattle.synthesis.specs.Monitor.{rowOf}
 use Rattle.listing.specs.Runs.{Run, runsFrom}
 use Rattle.listing.specs.Lines.{patternsLine, patternLine, equationsLine, runLine}
 use Rattle.listing.specs.declared.Line.{Line}

@@ -7,7 +7,7 @@ use Rattle.reading.specs.Pattern.{extentOf}
 use Rattle.reading.specs.Rule.{Rule, WellFormedRule, All}
 use Rattle.reading.specs.Numbered.{numbered}
 use Rattle.reading.specs.declared.NumberedRule.{NumberedRule}
-use Rattle.synthesis.specs.Table.{rowOf, meaning, tabled}
+use Rattle.synthesis.specs.Monitor.{rowOf, meaning, tabled}
 use Rattle.listing.specs.Text.{digit, decimal}
 use Rattle.listing.specs.Runs.{Run, runs, RunTo}
 use Rattle.listing.specs.Lines.{listing}

@@ -5,7 +5,7 @@ ghost use mathlib.Core.Path.{_≡_};
 ghost use mathlib.Core.List.{[], _∷_, _++_};
 ghost use Prim.Native.Nat.{suc};
 ghost use lib.ListN.{length};
-ghost use Rattle.synthesis.specs.Table.{meaning};
+ghost use Rattle.synthesis.specs.Monitor.{meaning};
 ghost use Rattle.listing.specs.Text.{text, decimal};
 ghost use Rattle.listing.specs.Lines.{answerText};
 ghost use Rattle.listing.specs.Positions.{lineOf};

@@ -1,11 +1,10 @@
 -- Demand 3: the table that building leaves enforces the rule on the model of every file that isn't refused, and loses no walk.
 use Prim.Native.Nat.{ℕ}
 use lib.ListN.{length}
-use Rattle.synthesis.specs.Monitor.{Answer}
-use Rattle.synthesis.specs.Table.{entry}
+use Rattle.synthesis.specs.Monitor.{Answer, entry}
 use Rattle.synthesis.specs.Building.{buildingOf, tableAfter}
 use Rattle.synthesis.proofs.Built.{table-monitors}
-use Rattle.models.specs.Monitored.{suppressing}
+use Rattle.models.specs.Model.{suppressing}
 use Rattle.models.specs.Phone.{modelOf}
 use Rattle.models.specs.Promises.{DemandThree}
 use Rattle.models.proofs.Responses.{suppressing-passes}

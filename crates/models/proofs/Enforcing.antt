@@ -5,7 +5,7 @@ use mathlib.Core.List.{List, _∷_}
 use Rattle.synthesis.specs.Monitor.{Answer, dropped, next, Loses, now, later}
 use Rattle.synthesis.proofs.MonitorLaws.{kept-loses}
 use Rattle.models.specs.Model.{Label, silent, code, Model, Walk, stay, silent-first, code-first, ByteCodes, Bisimulation}
-use Rattle.models.specs.Monitored.{Response, PassesKept, silent-step, passed-step, silenced-step, monitored}
+use Rattle.models.specs.Model.{Response, PassesKept, silent-step, passed-step, silenced-step, monitored}
 use Rattle.models.specs.Promises.{MonitorsEnforce, SoundSatisfies}
 use Rattle.models.proofs.Walks.{walk-bytes}
 use Rattle.models.proofs.SatisfactionLaws.{satisfies-safe}

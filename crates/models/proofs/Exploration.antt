@@ -8,7 +8,7 @@ use native.Mathlib.Decide.{decLt}
 use native.Mathlib.Omega.{arith}
 use lib.ListN.{getD, replicate}
 use Rattle.reading.proofs.NumberedLaws.{repeated-at}
-use Rattle.synthesis.specs.Table.{entry}
+use Rattle.synthesis.specs.Monitor.{entry}
 use Rattle.running.specs.Running.{WellFormedTable}
 use Rattle.models.specs.Model.{Label}
 use Rattle.models.specs.Phone.{Phone, noStep, labelOf, StepIn, modelOf, WellFormedStep}

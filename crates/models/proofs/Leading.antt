@@ -9,8 +9,7 @@ use lib.Dec.{eqb}
 use lib.ListN.{length, getD, drop, length-take, length-drop}
 use borrow.Author.Tests.{eqb-true, eqb-false, eq-eqb, ne-eqb}
 use Rattle.reading.proofs.ListLaws.{getD-inside}
-use Rattle.synthesis.specs.Monitor.{dropped, next}
-use Rattle.synthesis.specs.Table.{rowOf, meaning, entry}
+use Rattle.synthesis.specs.Monitor.{dropped, next, rowOf, meaning, entry}
 use Rattle.synthesis.specs.Promises.{RowInRange}
 use Rattle.synthesis.proofs.Rows.{row-is}
 use Rattle.running.specs.Running.{WellFormedTable}

@@ -3,7 +3,7 @@ use Prim.Native.Nat.{ℕ}
 use mathlib.Core.Path.{_≡_, refl}
 use native.Mathlib.Omega.{arith}
 use Rattle.synthesis.specs.Monitor.{Answer, dropped, next, cases}
-use Rattle.models.specs.Monitored.{Response, passed, silenced, suppressing, PassesKept}
+use Rattle.models.specs.Model.{Response, passed, silenced, suppressing, PassesKept}
 
 -- what is silenced is dropped
 pub silenced-dropped : {E : Type 0} (respond : E → ℕ → Response E) (answer : E → ℕ → Answer E) → PassesKept respond answer

@@ -9,12 +9,11 @@ use native.Mathlib.Omega.{arith}
 use lib.ListN.{length, getD, replicate}
 use borrow.Author.Tests.{not-true}
 use Rattle.synthesis.specs.Promises.{RowInRange}
-use Rattle.synthesis.specs.Table.{entry}
+use Rattle.synthesis.specs.Monitor.{entry}
 use Rattle.running.specs.Running.{WellFormedTable}
 use Rattle.models.specs.Phone.{Phone, noStep, modelOf}
 use Rattle.models.specs.Judging.{stored}
-use Rattle.models.specs.Exploring.{NeverDrops, HasPhone, Linked, LinksInRange}
-use Rattle.models.specs.Exploring.{Worklist, Noted, leadsTo, equationAfter, ExpandedTo}
+use Rattle.models.specs.Exploring.{NeverDrops, HasPhone, Linked, LinksInRange, Worklist, Noted, leadsTo, equationAfter, ExpandedTo}
 use Rattle.models.specs.Searching.{NextPair, rowAt, Complete, Explored, Expanding, Searchable, Searched, Searching}
 use Rattle.models.specs.declared.Step.{Step}
 use Rattle.models.specs.declared.PhoneModel.{PhoneModel}

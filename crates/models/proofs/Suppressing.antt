@@ -4,7 +4,7 @@ use mathlib.Core.Path.{_≡_, refl}
 use mathlib.Core.List.{List, _∷_}
 use Rattle.synthesis.specs.Monitor.{Answer, dropped, next, cases, kept, ended}
 use Rattle.models.specs.Model.{Model, Walk, stay, silent-first, code-first}
-use Rattle.models.specs.Monitored.{Response, suppressing, PassesKept, silent-step, passed-step, silenced-step, monitored}
+use Rattle.models.specs.Model.{Response, suppressing, PassesKept, silent-step, passed-step, silenced-step, monitored}
 use Rattle.models.specs.Promises.{CameFrom, RunsBehind}
 use Rattle.models.proofs.Responses.{silenced-dropped, dropped-silenced, suppressing-passes}
 

@@ -37,7 +37,7 @@ pub record HasPhone (model : PhoneModel) : Type 0 where
   pub well-formed : WellFormedPhone phone
   pub is-stored : model ≡ stored phone
 
--- one more than the place of the last of the first n steps that goes from s; 0 where there is none
+-- one more than the index of the last of the first n steps that goes from s; 0 where there is none
 unfoldable pub lastFrom : List Step → (s n : ℕ) → ℕ
 lastFrom steps s zero = 0
 lastFrom steps s (suc n) = cond (eqb (getD steps n noStep .from) s) (suc n) (lastFrom steps s n)

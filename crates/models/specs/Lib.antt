@@ -1,6 +1,5 @@
 -- In the order in which to read them. `Readings`, `Loading`, `Exploring` and `Searching` serve the crate's own functions alone.
 pub mod Model
-pub mod Monitored
 pub mod Phone
 pub mod Judging
 pub mod Promises

@@ -9,13 +9,12 @@ use Rattle.reading.specs.Rule.{Rule, WellFormedRule, encode, Bytes}
 use Rattle.reading.specs.File.{accepted, refused, ruleOf}
 use Rattle.reading.specs.declared.Answer.the-variants.{Accepted}
 use Rattle.synthesis.specs.Violation.{ViolatesRule}
-use Rattle.synthesis.specs.Monitor.{Answer, kept, ended, Loses, Monitors}
-use Rattle.synthesis.specs.Table.{entry}
+use Rattle.synthesis.specs.Monitor.{Answer, kept, ended, Loses, Monitors, entry}
 use Rattle.synthesis.specs.Building.{buildingOf, countedOf, tableAfter}
 use Rattle.synthesis.specs.Promises.{Closed}
 use Rattle.synthesis.specs.declared.Counted.the-variants.{Equations, Refused}
 use Rattle.models.specs.Model.{Model, Walk, Weak, Finite, ByteCodes, Satisfies, SatisfiesDecided, Bisimilar}
-use Rattle.models.specs.Monitored.{Response, suppressing, PassesKept, monitored}
+use Rattle.models.specs.Model.{Response, suppressing, PassesKept, monitored}
 use Rattle.models.specs.Phone.{Phone, modelOf, WellFormedPhone, encodePhone, phoneOf}
 use Rattle.models.specs.Judging.{stored, modelReadingOf, judgingOf, JudgedAs}
 use Rattle.models.specs.declared.Judged.{Judged}
@@ -23,15 +22,15 @@ use Rattle.models.specs.declared.Judged.the-variants.{Meets, Breaks}
 
 -- 1. Demand 3. The model behind the monitor satisfies the rule; where the model already does, the two are strongly bisimilar; and every walk
 -- of the model whose trace doesn't violate the rule is there behind the monitor, with the same trace, to the same state of the model. The field
--- calls these soundness, transparency, and the first half of transparency for traces that don't violate the rule.
+-- calls these soundness, transparency, and the first half of non-violating trace transparency.
 pub record Enforces (r : Rule) {E : Type 0} (respond : E → ℕ → Response E) (first : E) (m : Model) : Type 1 where
   pub satisfies : Satisfies (monitored respond first m) r
   pub bisimilar : Satisfies m r → Bisimilar m (monitored respond first m)
   pub keeps : (w : List ℕ) (t : m .State) → Walk m (m .start) w t → (ViolatesRule r w → ⊥)
       → (e : E) × Walk (monitored respond first m) (m .start, first) w (t, e)
 
--- Dropped scans too: every walk of the model, violating or not, is there behind any monitor, with what a run keeps of its trace, to the same state of the model
--- beside the equation in which the run ends. Every walk behind it has the ends and the trace of such a one.
+-- Dropped scans too: every walk of the model, violating or not, is there behind any monitor, with what a run keeps of its trace, to the same
+-- state of the model beside the equation in which the run ends. Every walk behind it has the ends and the trace of such a one.
 pub record CameFrom {E : Type 0} (answer : E → ℕ → Answer E) (m : Model) (x : m .State × E) (v : List ℕ) (y : m .State × E) : Type 0 where
   pub trace : List ℕ
   pub walk : Walk m (x .0) trace (y .0)

@@ -5,7 +5,7 @@ use mathlib.Core.Logic.{_↔_}
 use mathlib.Core.Bool.{Bool, false}
 use mathlib.Core.List.{List}
 use lib.ListN.{length, getD}
-use Rattle.synthesis.specs.Table.{rowOf, entry}
+use Rattle.synthesis.specs.Monitor.{rowOf, entry}
 use Rattle.running.specs.Running.{WellFormedTable}
 use Rattle.models.specs.Phone.{Phone, noStep, modelOf, WellFormedStep}
 use Rattle.models.specs.Exploring.{Reached, NeverDrops, Linked, LinksInRange, Seen, Worklist, Leaves, Done, ExpandedTo}

@@ -11,14 +11,14 @@ ghost use mathlib.Core.Bool.{true};
 ghost use mathlib.Core.List.{List};
 ghost use Prim.Native.Nat.{ℕ, _+_, _*_, _-_, _≤_, _<_};
 ghost use lib.ListN.{length, getD};
-ghost use Rattle.synthesis.specs.Table.{rowOf, entry};
+ghost use Rattle.synthesis.specs.Monitor.{rowOf, entry};
 ghost use Rattle.running.specs.Running.{WellFormedTable};
 ghost use Rattle.models.specs.Phone.{Phone, noStep, modelOf};
 ghost use Rattle.models.specs.Judging.{stored};
 ghost use Rattle.models.specs.Exploring.{NeverDrops, HasPhone, linksOf, Worklist, Noted, leadsTo};
 ghost use Rattle.models.specs.Searching.{Searching, Searched, remaining, NextPair};
 
-// Where the search is. found: how many pairs have been found. turn, pair: the place in the list, and the pair, that is being expanded. step:
+// Where the search is. found: how many pairs have been found. turn, pair: the index in the list, and the pair, that is being expanded. step:
 // one more than the number of the step that comes next; 0 at the end. dropped: whether a step was dropped.
 pub(crate) struct Cursor {
     found: usize,

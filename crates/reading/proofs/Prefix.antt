@@ -6,13 +6,14 @@ use Prim.Native.Nat.{ℕ, zero, suc, _+_, _-_, _*_, _≤_, _<_}
 use native.Mathlib.Omega.{arith}
 use lib.ListN.{length}
 use borrow.Author.Tests.{lt-ltb}
-use Rattle.reading.specs.Rule.{Guards}
+use Rattle.reading.specs.Rule.{Guards, Bytes}
 use Rattle.reading.specs.File.{Outcome, accepted, andThen, patternAt, isPattern, Patterns, patternsAt}
 use Rattle.reading.specs.File.{NodeRecord, necessityAt, variableAt, nodeAt, Parsed, formulaAt, formulaOf, ended, ruleOf}
 use Rattle.reading.specs.Promises.{SettledByFirstBytes, NotByFewer}
 use Rattle.reading.specs.declared.Pattern.{Pattern}
 use Rattle.reading.proofs.Agreement.{Agree, inside, settled}
 use Rattle.reading.proofs.Outcomes.{accepted-is, never-accepted, accepted-by, both-agree}
+use Rattle.reading.proofs.ByteLaws.{bytes-append}
 use Rattle.reading.proofs.Encoding.{length-formula}
 use Rattle.reading.proofs.NodeBytes.{NodeStands, bare, of-necessity, of-variable, node-accepts}
 use Rattle.reading.proofs.Sound.{FormulaStands}
@@ -130,6 +131,15 @@ times (suc n) bytes rest = bytes ++ times n bytes rest
 longest : List ℕ
 longest = times 32 (1 ∷ 1 ∷ 0 ∷ 0 ∷ []) (times 64 (5 ∷ 0 ∷ []) (2 ∷ []))
 
+times-bytes : (n : ℕ) (bytes rest : List ℕ) → Bytes bytes → Bytes rest → Bytes (times n bytes rest)
+unfolding times
+times-bytes zero bytes rest all more = more
+times-bytes (suc n) bytes rest all more = bytes-append bytes (times n bytes rest) all (times-bytes n bytes rest all more)
+
+longest-bytes : Bytes longest
+unfolding longest
+longest-bytes = times-bytes 32 _ _ (search arith) (times-bytes 64 _ _ (search arith) (search arith))
+
 pub no-fewer : NotByFewer
 unfolding longest times ruleOf patternsAt formulaOf formulaAt
-no-fewer = (longest, refl, refl)
+no-fewer = (longest, longest-bytes, refl, refl)

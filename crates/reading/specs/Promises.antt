@@ -53,7 +53,7 @@ abbrev pub SettledByFirstBytes : Type 0
 SettledByFirstBytes = (s : List ℕ) (n : ℕ) → 257 ≤ n → ruleOf (take n s) ≡ ruleOf s
 
 abbrev pub NotByFewer : Type 0
-NotByFewer = (s : List ℕ) × (ruleOf (take 256 s) ≡ refused 1 256) × (ruleOf s ≡ refused 4 256)
+NotByFewer = (s : List ℕ) × Bytes s × (ruleOf (take 256 s) ≡ refused 1 256) × (ruleOf s ≡ refused 4 256)
 
 -- 4. Of a well-formed pattern: its lowest code is the least that it covers, the trailing zeros of the mask give it, and the ones of
 -- the mask times the slot width give its count. (That the count is how many codes it covers is its definition.)

@@ -10,8 +10,7 @@ use Rattle.reading.specs.Rule.{Rule, Bytes}
 use Rattle.reading.proofs.AllLaws.{all-getD, all-of}
 use Rattle.reading.proofs.ByteLaws.{byte-at}
 use Rattle.synthesis.specs.Violation.{ViolatesRule}
-use Rattle.synthesis.specs.Monitor.{Answer, verdicts, Monitors}
-use Rattle.synthesis.specs.Table.{entry}
+use Rattle.synthesis.specs.Monitor.{Answer, verdicts, Monitors, entry}
 use Rattle.synthesis.proofs.Runs.{verdicts-length}
 use Rattle.synthesis.proofs.Verdicts.{verdicts-range, verdicts-take, dropped-at}
 use Rattle.synthesis.proofs.MonitorLaws.{drops-violations, kept-safe}

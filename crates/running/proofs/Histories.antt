@@ -9,9 +9,9 @@ use Rattle.reading.specs.Rule.{Bytes}
 use Rattle.reading.specs.File.{accepted, refused}
 use Rattle.reading.proofs.ByteLaws.{bytes-append}
 use Rattle.reading.proofs.Outcomes.{never-accepted}
-use Rattle.synthesis.specs.Monitor.{kept, verdicts, ended, Renames}
+use Rattle.synthesis.specs.Monitor.{kept, verdicts, ended}
+use Rattle.synthesis.proofs.Renaming.{Renames, renamed-runs}
 use Rattle.synthesis.proofs.Runs.{kept-append, verdicts-append, ended-append, verdicts-length}
-use Rattle.synthesis.proofs.Renaming.{renamed-runs}
 use Rattle.running.specs.Running.{start, following, WellFormedTable, Run, followed}
 use Rattle.running.specs.Calls.{Call, History, noCalls, outcomeOf, withOutcome, withCall, Calls, none, call, OnTable, OnTableOrRefused}
 use Rattle.running.specs.declared.State.{State}

@@ -10,8 +10,7 @@ use lib.Dec.{eqb, ltb}
 use borrow.Author.Tests.{eqb-true, eqb-false, le-ltb, lt-ltb}
 use lib.ListN.{length, getD, take, set, length-append, length-set}
 use lib.Seq.{take-all, take-suc, length-take-le, set-getD}
-use Rattle.synthesis.specs.Monitor.{dropped, next, kept, verdicts, ended}
-use Rattle.synthesis.specs.Table.{rowOf}
+use Rattle.synthesis.specs.Monitor.{dropped, next, kept, verdicts, ended, rowOf}
 use Rattle.synthesis.proofs.Runs.{kept-last, ended-last, verdicts-last, kept-drop, ended-drop, verdicts-drop, verdicts-length}
 use Rattle.running.specs.Running.{following, followed, overlay}
 use Rattle.running.specs.declared.State.{State}

@@ -12,8 +12,7 @@ use lib.ListN.{length, getD, take, drop, length-take, length-drop, List·getD-eq
 use lib.Seq.{length-take-le, getD-take, getD-drop}
 use borrow.Author.Tests.{eqb-true, eqb-false, ltb-true, lt-ltb, leb-true, leb-false, le-leb}
 use Rattle.reading.proofs.ListLaws.{getD-inside}
-use Rattle.synthesis.specs.Monitor.{dropped, next, cases, ended}
-use Rattle.synthesis.specs.Table.{rowOf, meaning}
+use Rattle.synthesis.specs.Monitor.{dropped, next, cases, ended, rowOf, meaning}
 use Rattle.synthesis.proofs.Rows.{row-is, row-none}
 use Rattle.synthesis.proofs.Runs.{run-induction}
 use Rattle.running.specs.Running.{moved, following, inRange, entriesInRange, isWellFormed, WellFormedTable, fits}

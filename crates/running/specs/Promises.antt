@@ -9,8 +9,7 @@ use lib.ListN.{length, getD, take}
 use Rattle.reading.specs.Rule.{Rule, Bytes}
 use Rattle.reading.specs.File.{Outcome, accepted, ruleOf}
 use Rattle.synthesis.specs.Violation.{ViolatesRule}
-use Rattle.synthesis.specs.Monitor.{dropped, cases, next}
-use Rattle.synthesis.specs.Table.{meaning}
+use Rattle.synthesis.specs.Monitor.{dropped, cases, next, meaning}
 use Rattle.synthesis.specs.Building.{buildingOf, countedOf, tableAfter}
 use Rattle.synthesis.specs.declared.Counted.the-variants.{Equations}
 use Rattle.running.specs.Running.{moved, following, WellFormedTable, roomy, Run, followed, runOf, checkedOf, occurrences, ranOf}
@@ -101,7 +100,7 @@ BuiltWellFormed =
     (limit mark : ℕ) (s table : List ℕ) (n : ℕ) → countedOf (buildingOf limit s (length table)) ≡ Equations n
     → WellFormedTable limit mark n (tableAfter mark (buildingOf limit s (length table)) table)
 
--- and no call on it is refused with 16, whatever calls went before.
+-- and no call on it is refused with 16, after any calls as in 1.
 abbrev pub NeverUnfit : Type 0
 NeverUnfit =
     (limit mark : ℕ) (s table : List ℕ) (n : ℕ) → countedOf (buildingOf limit s (length table)) ≡ Equations n

@@ -8,8 +8,7 @@ use mathlib.Core.List.{List, [], _∷_, _++_}
 use lib.Dec.{eqb, ltb, leb}
 use lib.ListN.{length, getD, take, drop}
 use Rattle.reading.specs.File.{Outcome, accepted, refused, refuse}
-use Rattle.synthesis.specs.Monitor.{Answer, dropped, next, cases, kept, verdicts, ended}
-use Rattle.synthesis.specs.Table.{entry}
+use Rattle.synthesis.specs.Monitor.{Answer, dropped, next, cases, kept, verdicts, ended, entry}
 use Rattle.running.specs.declared.State.{State}
 use Rattle.running.specs.declared.Checked.{Checked}
 use Rattle.running.specs.declared.Checked.the-variants.{Fit, Refused}

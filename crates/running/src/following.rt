@@ -6,7 +6,7 @@ ghost use mathlib.Core.Path.{_≡_};
 ghost use mathlib.Core.Bool.{cond};
 ghost use Prim.Native.Nat.{_≤_, _<_};
 ghost use lib.ListN.{length, getD};
-ghost use Rattle.synthesis.specs.Table.{rowOf};
+ghost use Rattle.synthesis.specs.Monitor.{rowOf};
 ghost use Rattle.running.specs.Running.{followed, overlay};
 
 // Where the loop ends: the state, and how many scans were kept.

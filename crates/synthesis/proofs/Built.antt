@@ -8,11 +8,12 @@ use native.Mathlib.Omega.{arith}
 use lib.ListN.{length, getD}
 use Rattle.reading.specs.Rule.{Rule, Bytes}
 use Rattle.reading.specs.File.{accepted, ruleOf}
-use Rattle.synthesis.specs.Monitor.{kept, verdicts, ended, Monitors, Renames}
+use Rattle.synthesis.specs.Monitor.{kept, verdicts, ended, Monitors, rowOf, entry}
+use Rattle.synthesis.proofs.Renaming.{Renames, renamed-runs, renamed-monitors}
 use Rattle.synthesis.specs.Opening.{Answers}
 use Rattle.synthesis.specs.Answering.{firstOf, answerOf, hopeless}
 use Rattle.synthesis.specs.Search.{indexOf}
-use Rattle.synthesis.specs.Table.{rowOf, entry, filled}
+use Rattle.synthesis.specs.Table.{filled}
 use Rattle.synthesis.specs.Building.{equationsOf, Synthesis, synthesisOf, buildingOf, countedOf, tableAfter}
 use Rattle.synthesis.specs.declared.Counted.the-variants.{Equations}
 use Rattle.synthesis.specs.Promises.{TableMonitors, TableDrops, RefusesHopeless}
@@ -22,7 +23,6 @@ use Rattle.synthesis.proofs.RuleMonitor.{rule-monitors, hopeless-iff}
 use Rattle.synthesis.proofs.Indices.{Member}
 use Rattle.synthesis.proofs.Rows.{entries-length, filled-length, filled-row, filled-rest}
 use Rattle.synthesis.proofs.MonitorLaws.{drops-violations}
-use Rattle.synthesis.proofs.Renaming.{renamed-runs, renamed-monitors}
 use Rattle.synthesis.proofs.Tables.{table-renames, table-range, table-answers}
 use Rattle.synthesis.proofs.Synthesized.{made, synthesis-accepts, building-accepts, refused-eight, refuses-eight}
 use Rattle.synthesis.proofs.Synthesized.{counted-accepts, counted-refuses, accepts-as}

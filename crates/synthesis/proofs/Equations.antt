@@ -167,14 +167,14 @@ reaches-equations limit s bytes r n read e =
     (y .0) (y .1) (accepts-as limit s r read (y .0) (y .1))
 
 pub refuses-too-many : RefusesTooMany
-refuses-too-many limit s r read hopeful = (over, emptySet)
+refuses-too-many limit s r read hopeful = (over, none)
   where
     over : countedOf (synthesisOf limit s) ≡ Refused 9 0 → (es : List ℕ) → length es ≤ limit → Closed r es → ⊥
     over e es few closed =
         omega (arith, refused-nine limit s r read (counted-refuses (synthesisOf limit s) 9 0 e), closed-longer limit r es closed)
 
-    emptySet : ((es : List ℕ) → length es ≤ limit → Closed r es → ⊥) → countedOf (synthesisOf limit s) ≡ Refused 9 0
-    emptySet h = on (hopeless r) refl (decLt limit (length (equationsOf limit r)))
+    none : ((es : List ℕ) → length es ≤ limit → Closed r es → ⊥) → countedOf (synthesisOf limit s) ≡ Refused 9 0
+    none h = on (hopeless r) refl (decLt limit (length (equationsOf limit r)))
       where
         on : (b : Bool) → hopeless r ≡ b → Dec (limit < length (equationsOf limit r)) → countedOf (synthesisOf limit s) ≡ Refused 9 0
         on true q d = absurd (hopeful (rw (refuses-eight limit s r read q)))

@@ -78,11 +78,11 @@ module _ (codes : ℕ) (answer : ℕ → ℕ → Answer ℕ) where
 
   pub turn-cases : (P : List ℕ → Type 0) (k : ℕ) (l : List ℕ) → (k < length l → P (noted codes answer (getD l k 0) codes l))
       → (length l ≤ k → P l) → P (turn codes answer k l)
-  turn-cases P k l some emptySet = on (ltb k (length l)) refl
+  turn-cases P k l some none = on (ltb k (length l)) refl
     where
       on : (b : Bool) → ltb k (length l) ≡ b → P (cond b (noted codes answer (getD l k 0) codes l) l)
       on true q = some (ltb-true k (length l) q)
-      on false q = emptySet (ltb-false k (length l) q)
+      on false q = none (ltb-false k (length l) q)
 
   pub turn-some : (k : ℕ) (l : List ℕ) → k < length l → turn codes answer k l ≡ noted codes answer (getD l k 0) codes l
   turn-some k l h = rw (lt-ltb k (length l) h)

@@ -28,9 +28,9 @@ module _ {E : Type 0} (answer : E → ℕ → Answer E) where
   -- what loses nothing is kept whole
   pub kept-whole : (e : E) (w : List ℕ) → (Loses answer e w → ⊥) → kept answer e w ≡ w
   kept-whole =
-      run-induction answer (λ e w. (Loses answer e w → ⊥) → kept answer e w ≡ w) (λ e emptySet. refl)
-      (λ e c w q h emptySet. absurd (emptySet (now q)))
-      (λ e e′ c w q h emptySet. rw q (ap (λ (l : List ℕ). c ∷ l) (h (λ l. emptySet (later q l)))))
+      run-induction answer (λ e w. (Loses answer e w → ⊥) → kept answer e w ≡ w) (λ e none. refl)
+      (λ e c w q h none. absurd (none (now q)))
+      (λ e e′ c w q h none. rw q (ap (λ (l : List ℕ). c ∷ l) (h (λ l. none (later q l)))))
 
   -- a code after what was kept is lost exactly when it is dropped where the run ended
   pub loses-last : (e : E) (w : List ℕ) (c : ℕ) → (answer (ended answer e w) c ≡ dropped) ↔ Loses answer e (kept answer e w ++ (c ∷ []))

@@ -195,7 +195,7 @@ half-double x y h = omega arith
 even-double : (x y : ℕ) → y ≡ x * 2 → y % 2 ≡ 0
 even-double x y h = omega arith
 
--- a number has all of its members but the lowest in intersection with the number before it
+-- the intersection of a number with the one before it has all its members but the lowest
 pub lowest-out : (k e : ℕ) → 0 < e → e < 2 ^ k → intersection e (e - 1) ≡ toggled e (trailingZeros k e)
 unfolding trailingZeros
 lowest-out zero e p h = absurd (omega arith)

@@ -4,9 +4,16 @@ use mathlib.Core.Path.{_≡_, refl, ap}
 use mathlib.Core.Logic.{_↔_}
 use mathlib.Core.List.{List, [], _∷_}
 use Rattle.reading.specs.Rule.{Rule, All}
-use Rattle.synthesis.specs.Monitor.{Answer, dropped, next, kept, verdicts, ended, Loses, now, later, Monitors, Renames}
+use Rattle.synthesis.specs.Monitor.{Answer, dropped, next, kept, verdicts, ended, Loses, now, later, Monitors}
 use Rattle.synthesis.proofs.Runs.{run-induction}
 use Rattle.synthesis.proofs.MonitorLaws.{loses-nothing, loses-rest}
+
+-- Of one monitor, the equations e with `Ok e` are renamed by f to those of another, and answer each code alike. Several may get one name.
+pub record Renames {E F : Type 0} (codes : ℕ) (Ok : E → Type 0) (answer : E → ℕ → Answer E) (answer′ : F → ℕ → Answer F) (f : E → F)
+    : Type 0 where
+  pub stays : (e e′ : E) (c : ℕ) → Ok e → c < codes → answer e c ≡ next e′ → Ok e′
+  pub drops : (e : E) (c : ℕ) → Ok e → c < codes → answer e c ≡ dropped → answer′ (f e) c ≡ dropped
+  pub follows : (e e′ : E) (c : ℕ) → Ok e → c < codes → answer e c ≡ next e′ → answer′ (f e) c ≡ next (f e′)
 
 module _ {E F : Type 0} (codes : ℕ) (Ok : E → Type 0) (answer : E → ℕ → Answer E) (answer′ : F → ℕ → Answer F) (f : E → F)
     (renames : Renames codes Ok answer answer′ f) where
@@ -15,8 +22,8 @@ module _ {E F : Type 0} (codes : ℕ) (Ok : E → Type 0) (answer : E → ℕ �
       → ((e : E) (c : ℕ) (w : List ℕ) → answer e c ≡ dropped → answer′ (f e) c ≡ dropped → P e w → P e (c ∷ w))
       → ((e e′ : E) (c : ℕ) (w : List ℕ) → answer e c ≡ next e′ → answer′ (f e) c ≡ next (f e′) → P e′ w → P e (c ∷ w))
       → (e : E) (w : List ℕ) → Ok e → All (λ c. c < codes) w → P e w
-  renamed-induction P emptySet dropping keeping =
-      run-induction answer (λ e w. Ok e → All (λ c. c < codes) w → P e w) (λ e ok all. emptySet e)
+  renamed-induction P none dropping keeping =
+      run-induction answer (λ e w. Ok e → All (λ c. c < codes) w → P e w) (λ e ok all. none e)
       (λ e c w q h ok all. dropping e c w q (renames .drops e c ok (all .0) q) (h ok (all .1)))
       (λ e e′ c w q h ok all. keeping e e′ c w q (renames .follows e e′ c ok (all .0) q) (h (renames .stays e e′ c ok (all .0) q) (all .1)))
 

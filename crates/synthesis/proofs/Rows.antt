@@ -8,8 +8,8 @@ use native.Mathlib.Omega.{arith}
 use lib.ListN.{length, getD, take, drop, length-append, length-drop, List·getD-append}
 use lib.Seq.{take-at, drop-at, getD-at}
 use borrow.Author.Tests.{le-leb, lt-leb}
-use Rattle.synthesis.specs.Monitor.{Answer}
-use Rattle.synthesis.specs.Table.{rowOf, entryFor, entries, rows, filled}
+use Rattle.synthesis.specs.Monitor.{Answer, rowOf}
+use Rattle.synthesis.specs.Table.{entryFor, entries, rows, filled}
 
 -- ---- any table
 

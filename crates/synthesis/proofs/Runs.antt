@@ -11,9 +11,9 @@ module _ {E : Type 0} (answer : E → ℕ → Answer E) where
   pub run-induction : (P : E → List ℕ → Type 0) → ((e : E) → P e [])
       → ((e : E) (c : ℕ) (w : List ℕ) → answer e c ≡ dropped → P e w → P e (c ∷ w))
       → ((e e′ : E) (c : ℕ) (w : List ℕ) → answer e c ≡ next e′ → P e′ w → P e (c ∷ w)) → (e : E) (w : List ℕ) → P e w
-  run-induction P emptySet drops keeps e [] = emptySet e
-  run-induction P emptySet drops keeps e (c ∷ w) =
-      on (answer e c) refl (run-induction P emptySet drops keeps e w) (λ e′. run-induction P emptySet drops keeps e′ w)
+  run-induction P none drops keeps e [] = none e
+  run-induction P none drops keeps e (c ∷ w) =
+      on (answer e c) refl (run-induction P none drops keeps e w) (λ e′. run-induction P none drops keeps e′ w)
     where
       on : (a : Answer E) → answer e c ≡ a → P e w → ((e′ : E) → P e′ w) → P e (c ∷ w)
       on dropped q h k = drops e c w q h

@@ -6,9 +6,10 @@ use mathlib.Core.List.{List}
 use native.Mathlib.Omega.{arith}
 use lib.ListN.{length, getD}
 use borrow.Author.Tests.{eq-eqb, ne-eqb}
-use Rattle.synthesis.specs.Monitor.{Answer, dropped, next, cases, Renames}
+use Rattle.synthesis.specs.Monitor.{Answer, dropped, next, cases, rowOf, meaning, entry}
+use Rattle.synthesis.proofs.Renaming.{Renames}
 use Rattle.synthesis.specs.Search.{indexOf}
-use Rattle.synthesis.specs.Table.{rowOf, meaning, entry, entryFor, filled}
+use Rattle.synthesis.specs.Table.{entryFor, filled}
 use Rattle.synthesis.proofs.Indices.{Member, index-is}
 use Rattle.synthesis.proofs.Finding.{ClosedUnder}
 use Rattle.synthesis.proofs.Rows.{filled-entry}

@@ -1,10 +1,16 @@
--- Monitors with equations of any type, their runs over lists of codes, and what it is to monitor a rule.
-use Prim.Native.Nat.{ℕ, _<_}
+-- Monitors with equations of any type, of which the paper's sets and the numbers of a table's rows are two; their runs over lists of codes; tables
+-- as monitors; and what it is to monitor a rule. The number of codes and the mark for dropped are any; the paper's are 256 and 255.
+use Prim.Native.Nat.{ℕ, _+_, _*_}
 use mathlib.Core.Path.{_≡_}
 use mathlib.Core.Logic.{_↔_}
+use mathlib.Core.Bool.{cond}
 use mathlib.Core.List.{List, [], _∷_}
+use lib.Dec.{eqb, leb}
+use lib.ListN.{length, getD, take, drop}
 use Rattle.reading.specs.Rule.{Rule, Bytes}
 use Rattle.synthesis.specs.Violation.{ViolatesRule}
+
+-- ---- runs
 
 -- What an equation answers to a code: the scan is dropped and the equation stays, or the scan is kept and this is the next equation.
 pub data Answer (E : Type 0) : Type 0 where
@@ -36,13 +42,26 @@ module _ {E : Type 0} (answer : E → ℕ → Answer E) where
     now : {e : E} {c : ℕ} {w : List ℕ} → answer e c ≡ dropped → Loses e (c ∷ w)
     later : {e e′ : E} {c : ℕ} {w : List ℕ} → answer e c ≡ next e′ → Loses e′ w → Loses e (c ∷ w)
 
+-- ---- tables
+
+-- the entries of row k, one for each code; none where the row isn't wholly inside the table
+unfoldable pub rowOf : (codes : ℕ) → List ℕ → ℕ → List ℕ
+rowOf codes table k = cond (leb (codes * k + codes) (length table)) (take codes (drop (codes * k) table)) []
+
+-- An entry is the mark for dropped, or else the number of the next equation.
+abbrev pub meaning : (mark : ℕ) → ℕ → Answer ℕ
+meaning mark x = cond (eqb x mark) dropped (next x)
+
+-- What the table answers in equation k to the code c. A code that has no entry is dropped; the paper leaves that free.
+abbrev pub entry : (codes mark : ℕ) → List ℕ → (k c : ℕ) → Answer ℕ
+entry codes mark table k c = meaning mark (getD (rowOf codes table k) c mark)
+
+-- the same with the paper's numbers
+abbrev pub tabled : List ℕ → (k c : ℕ) → Answer ℕ
+tabled = entry 256 255
+
+-- ---- monitors of a rule
+
 -- The run from the first equation drops something of a list of codes exactly when the list violates the rule.
 abbrev pub Monitors : {E : Type 0} → Rule → (answer : E → ℕ → Answer E) → (first : E) → Type 0
 Monitors r answer first = (w : List ℕ) → Bytes w → ViolatesRule r w ↔ Loses answer first w
-
--- Of one monitor, the equations e with `Ok e` are renamed by f to those of another, and answer each code alike. Several may get one name.
-pub record Renames {E F : Type 0} (codes : ℕ) (Ok : E → Type 0) (answer : E → ℕ → Answer E) (answer′ : F → ℕ → Answer F) (f : E → F)
-    : Type 0 where
-  pub stays : (e e′ : E) (c : ℕ) → Ok e → c < codes → answer e c ≡ next e′ → Ok e′
-  pub drops : (e : E) (c : ℕ) → Ok e → c < codes → answer e c ≡ dropped → answer′ (f e) c ≡ dropped
-  pub follows : (e e′ : E) (c : ℕ) → Ok e → c < codes → answer e c ≡ next e′ → answer′ (f e) c ≡ next (f e′)

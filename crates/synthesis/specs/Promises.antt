@@ -9,11 +9,10 @@ use Rattle.reading.specs.Rule.{Formula, necessity, WellFormed, Rule, Bytes}
 use Rattle.reading.specs.File.{accepted, refused, ruleOf}
 use Rattle.reading.specs.Nodes.{EnclosingMax, Node}
 use Rattle.synthesis.specs.Violation.{Violates, ViolatesRule}
-use Rattle.synthesis.specs.Monitor.{Answer, dropped, next, cases, kept, ended, Monitors}
+use Rattle.synthesis.specs.Monitor.{Answer, dropped, next, cases, kept, ended, Monitors, rowOf, entry}
 use Rattle.synthesis.specs.NodeSet.{Has, emptySet}
 use Rattle.synthesis.specs.Opening.{Opens, OpensToFalsity, Answers, IsFirst, ViolatesEquation}
 use Rattle.synthesis.specs.Answering.{opening, opensAround, firstOf, answerOf}
-use Rattle.synthesis.specs.Table.{rowOf, entry}
 use Rattle.synthesis.specs.Building.{equationsOf, synthesisOf, buildingOf, countedOf, tableAfter}
 use Rattle.synthesis.specs.declared.Counted.the-variants.{Equations, Refused}
 

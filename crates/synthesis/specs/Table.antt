@@ -1,32 +1,9 @@
--- Tables: the row of an equation, what an entry means, and the rows that building fills in. The number of codes and the mark for dropped
--- are any; the paper's are 256 and 255.
-use Prim.Native.Nat.{ℕ, zero, suc, _+_, _*_}
-use mathlib.Core.Bool.{cond}
+-- The rows that building fills in. The number of codes and the mark for dropped are any; the paper's are 256 and 255.
+use Prim.Native.Nat.{ℕ, zero, suc, _*_}
 use mathlib.Core.List.{List, [], _∷_, _++_}
-use lib.Dec.{eqb, leb}
-use lib.ListN.{length, getD, take, drop}
-use Rattle.synthesis.specs.Monitor.{Answer, dropped, next, cases}
+use lib.ListN.{length, getD, drop}
+use Rattle.synthesis.specs.Monitor.{Answer, cases}
 use Rattle.synthesis.specs.Search.{indexOf}
-
--- ---- any table
-
--- the entries of row k, one for each code; none where the row isn't wholly inside the table
-unfoldable pub rowOf : (codes : ℕ) → List ℕ → ℕ → List ℕ
-rowOf codes table k = cond (leb (codes * k + codes) (length table)) (take codes (drop (codes * k) table)) []
-
--- An entry is the mark for dropped, or else the number of the next equation.
-abbrev pub meaning : (mark : ℕ) → ℕ → Answer ℕ
-meaning mark x = cond (eqb x mark) dropped (next x)
-
--- What the table answers in equation k to the code c. A code that has no entry is dropped.
-abbrev pub entry : (codes mark : ℕ) → List ℕ → (k c : ℕ) → Answer ℕ
-entry codes mark table k c = meaning mark (getD (rowOf codes table k) c mark)
-
--- the same with the paper's numbers
-abbrev pub tabled : List ℕ → (k c : ℕ) → Answer ℕ
-tabled = entry 256 255
-
--- ---- the table that building leaves
 
 -- the entry for an answer: where its equation stands among those found
 abbrev pub entryFor : (mark : ℕ) → (found : List ℕ) → Answer ℕ → ℕ

@@ -7,7 +7,7 @@ use graph::Graph;
 use reading::Answer;
 ghost use mathlib.Core.Path.{_≡_};
 ghost use lib.ListN.{length};
-ghost use Rattle.synthesis.specs.Table.{rowOf};
+ghost use Rattle.synthesis.specs.Monitor.{rowOf};
 ghost use Rattle.synthesis.specs.Building.{synthesisOf, buildingOf, countedOf, tableAfter};
 ghost use Rattle.synthesis.specs.Plans.{refusalOf, IsPlan};
 
@@ -33,7 +33,7 @@ fn refusal(answer: Answer) -> Counted
 {
     match answer {
         Answer::Accepted => Counted::Refused(0, 0),
-        Answer::Refused(number, indexOf) => Counted::Refused(number, indexOf),
+        Answer::Refused(number, place) => Counted::Refused(number, place),
     }
 }
 

@@ -9,8 +9,8 @@ ghost use Rattle.synthesis.specs.Answering.{judged};
 ghost use Rattle.synthesis.specs.Search.{indexOf, with, noted, turn, found};
 ghost use Rattle.synthesis.specs.Arrays.{gathered, answerBy, Holds};
 
-// The union of those sets whose indices are in `live`. Each turn takes the lowest index out: a number has all its other bits in common with
-// the one before it.
+// The union of those sets whose indices are in `live`. Each turn takes the lowest index out: rest & (rest - 1) is rest
+// without its lowest bit.
 fn gather(sets: &[u64], live: u64) -> u64
     requires { ⌜ length (now sets) ≡ 64 ⌝ }
     ensures { λ r. ⌜ r ≡ gathered (now (sets .entry)) live ⌝ }
@@ -48,7 +48,7 @@ pub(crate) fn find(list: &[u64], n: usize, e: u64) -> usize
     n
 }
 
-// Puts a set after the first n of the list if it is new. One more than the 128 places says that it was one too many.
+// Puts a set after the first n of the list if it is new. 129 says that there was no room for it.
 fn note(list: &mut [u64], n: usize, e: u64) -> usize
     requires { ⌜ length (now list) ≡ 128 ⌝ }
     ensures { λ r. ⌜ ((l : List ℕ) → Holds 128 (now (list .entry)) n l → Holds 128 (now (list .exit)) r (with l e)) ⌝ }

@@ -1,6 +1,8 @@
--- Numbers in base 256, and digests.
+-- Numbers in base 256, digests, and the count in an answer of building.
 use Prim.Native.Nat.{ℕ, _+_, _*_, _%_, _≤_}
 use mathlib.Core.List.{List, [], _∷_}
+use Rattle.synthesis.specs.declared.Counted.{Counted}
+use Rattle.synthesis.specs.declared.Counted.the-variants.{Equations, Refused}
 use Rattle.testing.specs.declared.numbers.Head.{Head}
 use Rattle.testing.specs.declared.numbers.Head.the-variants.{Number, Ended}
 
@@ -17,3 +19,8 @@ digestOf high bytes = numberOf high bytes % 1000000007
 abbrev pub AtMost : (limit : ℕ) → Head → Type 0
 AtMost limit (Number n) = n ≤ limit
 AtMost limit Ended = Unit
+
+-- how many equations an answer of building says; none where it is refused
+abbrev pub countIn : Counted → ℕ
+countIn (Equations n) = n
+countIn (Refused number place) = 0

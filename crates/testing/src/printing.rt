@@ -1,6 +1,8 @@
 // Parts of a printed line.
 use libc::STDOUT_FILENO;
 use synthesis::Counted;
+ghost use mathlib.Core.Path.{_≡_};
+ghost use Rattle.testing.specs.Numbers.{countIn};
 
 // Prints a space and a number.
 pub fn print_field(n: u64) {
@@ -30,7 +32,9 @@ pub fn print_counted(answer: Counted) {
 }
 
 // How many equations were built, and so how many rows were written.
-pub fn built_count(answer: Counted) -> usize {
+pub fn built_count(answer: Counted) -> usize
+    ensures { λ r. ⌜ r ≡ countIn answer ⌝ }
+{
     match answer {
         Counted::Equations(n) => n,
         Counted::Refused(_, _) => 0,

@@ -5,7 +5,7 @@ use Prim.Native.Nat.{ℕ, _+_, _-_, _*_, _/_, _%_, _≤_, _<_}
 use native.Mathlib.Omega.{arith}
 use borrow.Author.Needs.{needs}
 use lib.ListN.{length, getD}
-use Rattle.synthesis.specs.Table.{rowOf}
+use Rattle.synthesis.specs.Monitor.{rowOf}
 use Rattle.listing.specs.Runs.{run, RunTo}
 use Rattle.listing.specs.Lines.{runLine}
 use Rattle.listing.specs.LineParts.{Prints, Gives}

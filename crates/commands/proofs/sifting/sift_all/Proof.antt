@@ -22,7 +22,8 @@ turn : (c : tie.After-sift-some Inv-loop μ-loop) →
     EndsCallsOn (x .table .now) (x .count) (c .sift-some .result .state)
 turn c =
     let start = c .before .before .before .before .before .before .before .before .before .before .before in
-    goes-on (start .args .table .now) (start .args .count) (start .pre) (c .before .before .before .before .before .loop .inv .0) (c .sift-some .ensures)
+    let calls = c .before .before .before .before .before .loop .inv .0 in
+    goes-on (start .args .table .now) (start .args .count) (start .pre) calls (c .sift-some .ensures)
 
 large-buffer-requires : tie.Need-large-buffer-requires Inv-loop μ-loop
 large-buffer-requires c κs = search needs

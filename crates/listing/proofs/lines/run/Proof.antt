@@ -2,7 +2,7 @@
 use native.Mathlib.Omega.{arith}
 use borrow.Author.Needs.{needs}
 use mathlib.Core.List.{[], _∷_}
-use Rattle.synthesis.specs.Table.{meaning}
+use Rattle.synthesis.specs.Monitor.{meaning}
 use Rattle.listing.specs.Text.{decimal}
 use Rattle.listing.specs.Lines.{answerText}
 use Rattle.listing.proofs.Decimals.{digits-of, answer-digits}

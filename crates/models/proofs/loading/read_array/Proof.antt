@@ -1,4 +1,5 @@
--- `loading::read_array` meets its contract: a walk of its MIR. The array lies in a local and is lent for the one call, for a lifetime that the walk makes.
+-- `loading::read_array` meets its contract: a walk of its MIR. The array lies in a local and is lent for the one call, for a lifetime that the
+-- walk makes.
 use mathlib.Core.Path.{_≡_, refl, sym}
 use Prim.Native.Nat.{ℕ, _<_, _^_}
 use mathlib.Core.List.{List, [], _∷_}
