@@ -22,17 +22,24 @@ static void jump(const uint8_t *restrict table, struct run *run, const uint8_t *
     run->kept = kept;
 }
 
-/* The same, going from the beginning of one row to that of the next. The empty statement has gcc add the code to the table first and the row
-   last, so that the next look-up waits for one sum less. */
+/* The entry of a code in the row that begins at `from`. Where `column_first` holds, the empty statement has gcc add the code to the table first and the
+   row last, so that the next look-up waits for one sum less. */
+static inline size_t entry_at(const uint8_t *table, size_t from, uint8_t code, int column_first)
+{
+    const uint8_t *column = table + code;
+    if (column_first)
+        __asm__("" : "+r"(column));
+    return column[from];
+}
+
+/* A jump on the entry, going from the beginning of one row to that of the next. */
 static void tuned_jump(const uint8_t *restrict table, struct run *run, const uint8_t *restrict scans, size_t n, uint8_t *restrict output,
                        uint8_t *restrict verdicts)
 {
     size_t from = CODES * run->equation, kept = 0;
     for (size_t i = 0; i < n; i++) {
         uint8_t code = scans[i];
-        const uint8_t *column = table + code;
-        __asm__("" : "+r"(column));
-        size_t entry = column[from];
+        size_t entry = entry_at(table, from, code, 1);
         if (entry == DROPPED) {
             verdicts[i] = 1;
         } else {
@@ -63,13 +70,13 @@ static void choice(const uint8_t *restrict table, struct run *run, const uint8_t
 }
 
 /* The same, from row to row. */
-static void row_choice(const uint8_t *restrict table, struct run *run, const uint8_t *restrict scans, size_t n, uint8_t *restrict output,
-                       uint8_t *restrict verdicts)
+static inline void choice_by_rows(const uint8_t *restrict table, struct run *run, const uint8_t *restrict scans, size_t n, uint8_t *restrict output,
+                                  uint8_t *restrict verdicts, int column_first)
 {
     size_t from = CODES * run->equation, kept = 0;
     for (size_t i = 0; i < n; i++) {
         uint8_t code = scans[i];
-        size_t entry = table[from + code];
+        size_t entry = entry_at(table, from, code, column_first);
         uint8_t dropped = entry == DROPPED;
         verdicts[i] = dropped;
         output[kept] = code;
@@ -80,24 +87,14 @@ static void row_choice(const uint8_t *restrict table, struct run *run, const uin
     run->kept = kept;
 }
 
-/* The same, with the sum taken as in the tuned jump. */
-static void tuned_choice(const uint8_t *restrict table, struct run *run, const uint8_t *restrict scans, size_t n, uint8_t *restrict output,
-                         uint8_t *restrict verdicts)
+static void row_choice(const uint8_t *table, struct run *run, const uint8_t *scans, size_t n, uint8_t *output, uint8_t *verdicts)
 {
-    size_t from = CODES * run->equation, kept = 0;
-    for (size_t i = 0; i < n; i++) {
-        uint8_t code = scans[i];
-        const uint8_t *column = table + code;
-        __asm__("" : "+r"(column));
-        size_t entry = column[from];
-        uint8_t dropped = entry == DROPPED;
-        verdicts[i] = dropped;
-        output[kept] = code;
-        kept += !dropped;
-        from = dropped ? from : CODES * entry;
-    }
-    run->equation = from / CODES;
-    run->kept = kept;
+    choice_by_rows(table, run, scans, n, output, verdicts, 0);
+}
+
+static void tuned_choice(const uint8_t *table, struct run *run, const uint8_t *scans, size_t n, uint8_t *output, uint8_t *verdicts)
+{
+    choice_by_rows(table, run, scans, n, output, verdicts, 1);
 }
 
 const struct named_loop loops[] = {
