@@ -1,14 +1,10 @@
 -- `jarveun_build` meets its contract: its two numbers are those of what `build` answers.
-use mathlib.Core.Path.{_≡_, ap, sym, _∙_}
+use mathlib.Core.Path.{sym, _∙_}
 use borrow.Author.Needs.{needs}
-use Rattle.synthesis.specs.declared.Counted.{Counted}
 use Rattle.boundary.specs.Results.{countedResult}
+use Rattle.boundary.proofs.SameResults.{alike}
 use Rattle.boundary.proofs.jarveun_build.Statement.{statement}
 use Rattle.boundary.proofs.jarveun_build.Tie as tie
-
--- equal answers have the same number and value
-alike : {x y : Counted} → x ≡ y → (countedResult x .number ≡ countedResult y .number) × (countedResult x .value ≡ countedResult y .value)
-alike same = (ap (λ (x : Counted). countedResult x .number) same, ap (λ (x : Counted). countedResult x .value) same)
 
 build-requires : tie.Need-build-requires
 build-requires c κs = search needs
@@ -25,7 +21,7 @@ same-length c = search needs
 returns : tie.Need-returns
 returns c =
     let built = c .before .before .before .before .before in
-    let same = alike (sym (c .before .count .given .1) ∙ built .build .ensures .0) in
+    let same = alike countedResult (sym (c .before .count .given .1) ∙ built .build .ensures .0) in
     (same .0, (same .1, built .build .ensures .1))
 
 same-length-2 : tie.Need-same-length-2
@@ -34,7 +30,7 @@ same-length-2 c = search needs
 returns-2 : tie.Need-returns-2
 returns-2 c =
     let built = c .before .before .before .before .before in
-    let same = alike (sym (c .before .number .given .1) ∙ built .build .ensures .0) in
+    let same = alike countedResult (sym (c .before .number .given .1) ∙ built .build .ensures .0) in
     (same .0, (same .1, built .build .ensures .1))
 
 pub jarveun-build-spec : {M : Type 1} → statement M

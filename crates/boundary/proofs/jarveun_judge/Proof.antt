@@ -1,14 +1,10 @@
 -- `jarveun_judge` meets its contract: its two numbers are those of what `judge` answers.
-use mathlib.Core.Path.{_≡_, ap, sym}
-use Rattle.models.specs.declared.Judged.{Judged}
+use mathlib.Core.Path.{sym}
 use Rattle.boundary.specs.Results.{judgedResult}
+use Rattle.boundary.proofs.SameResults.{alike}
 use borrow.Author.Needs.{needs}
 use Rattle.boundary.proofs.jarveun_judge.Statement.{statement}
 use Rattle.boundary.proofs.jarveun_judge.Tie as tie
-
--- equal answers have the same number and value
-alike : {x y : Judged} → x ≡ y → (judgedResult x .number ≡ judgedResult y .number) × (judgedResult x .value ≡ judgedResult y .value)
-alike same = (ap (λ (x : Judged). judgedResult x .number) same, ap (λ (x : Judged). judgedResult x .value) same)
 
 judge-requires : tie.Need-judge-requires
 judge-requires c κs = search needs
@@ -28,7 +24,7 @@ same-length c = search needs
 returns : tie.Need-returns
 returns c =
     let judged = c .before .before .before .before .judge in
-    let same = alike (sym (c .enum-told .given .1)) in
+    let same = alike judgedResult (sym (c .enum-told .given .1)) in
     ((judged .result, judged .ensures .0, same .0, same .1), judged .ensures .1)
 
 same-length-2 : tie.Need-same-length-2
@@ -37,7 +33,7 @@ same-length-2 c = search needs
 returns-2 : tie.Need-returns-2
 returns-2 c =
     let judged = c .before .before .before .before .judge in
-    let same = alike (sym (c .enum-told2 .given .1)) in
+    let same = alike judgedResult (sym (c .enum-told2 .given .1)) in
     ((judged .result, judged .ensures .0, same .0, same .1), judged .ensures .1)
 
 same-length-3 : tie.Need-same-length-3
@@ -46,7 +42,7 @@ same-length-3 c = search needs
 returns-3 : tie.Need-returns-3
 returns-3 c =
     let judged = c .before .before .before .before .before .judge in
-    let same = alike (sym (c .before .number .given .1)) in
+    let same = alike judgedResult (sym (c .before .number .given .1)) in
     ((judged .result, judged .ensures .0, same .0, same .1), judged .ensures .1)
 
 pub jarveun-judge-spec : {M : Type 1} → statement M
