@@ -4,7 +4,7 @@ use mathlib.Core.Path.{_≡_}
 use mathlib.Core.List.{List, [], _∷_, _++_, map}
 use lib.ListN.{length, getD}
 use Rattle.reading.specs.Pattern.{extentOf}
-use Rattle.reading.specs.Rule.{Rule, WellFormedRule, All}
+use Rattle.reading.specs.Rule.{Rule, RuleWithinLimits, All}
 use Rattle.reading.specs.Numbered.{numbered}
 use Rattle.reading.specs.declared.NumberedRule.{NumberedRule}
 use Rattle.synthesis.specs.Monitor.{rowOf, meaning, tabled}
@@ -23,7 +23,7 @@ ListsAll =
 -- in particular of a rule that was read.
 abbrev pub ListsRule : Type 0
 ListsRule =
-    (r : Rule) (table : List ℕ) (count most : ℕ) → WellFormedRule r → 34 + 256 * count ≤ most
+    (r : Rule) (table : List ℕ) (count most : ℕ) → RuleWithinLimits r → 34 + 256 * count ≤ most
     → linesFrom (numbered r) table count most 0 ≡ listing (map extentOf (r .patterns)) count table
 
 -- 2. Each run is a longest run of codes with one entry: no code before it or after it can join it.

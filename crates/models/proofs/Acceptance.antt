@@ -18,7 +18,7 @@ use Rattle.synthesis.proofs.Synthesized.{made, synthesis-of}
 use Rattle.synthesis.proofs.Equations.{file-well-formed, answers-count, checks-table, reaches-equations, refuses-too-many}
 use Rattle.synthesis.proofs.Built.{refuses-hopeless}
 use Rattle.models.specs.Model.{Model, Satisfies}
-use Rattle.models.specs.Phone.{Phone, modelOf, WellFormedPhone}
+use Rattle.models.specs.Phone.{Phone, modelOf, PhoneWithinLimits}
 use Rattle.models.specs.Promises.{Acceptable, AcceptsExactly, RefusesUnsatisfiable}
 use Rattle.models.proofs.QuietModels.{empty-safe, quiet-satisfies}
 use Rattle.models.proofs.PhoneStates.{phones-finite}
@@ -32,8 +32,11 @@ stillPhone = record { states = 1; steps = [] }
 abbrev still : Model
 still = modelOf stillPhone
 
-still-well-formed : WellFormedPhone stillPhone
-still-well-formed = record { some-states = omega arith; few-states = omega arith; few-steps = omega arith; steps = tt }
+still-within-limits : PhoneWithinLimits stillPhone
+still-within-limits = record {
+  well-formed = record { some-states = omega arith; few-states = omega arith; steps = tt };
+  few-steps = omega arith;
+}
 
 still-satisfies : (r : Rule) → (ViolatesRule r [] → ⊥) → Satisfies still r
 still-satisfies r = quiet-satisfies still (λ s t a x. absurd (omega (arith, x .inside))) r .1
@@ -55,7 +58,7 @@ module _ (limit : ℕ) (s : List ℕ) (bytes : Bytes s) where
       let stands = reading-accepts s bytes r .0 (counts .is) in
       record {
         rule = r;
-        well-formed = stands .0;
+        within-limits = stands .0;
         encoded = stands .1;
         equations = equationsOf limit r;
         few = omega (arith, counts .count, counts .few);
@@ -81,7 +84,7 @@ module _ (limit : ℕ) (s : List ℕ) (bytes : Bytes s) where
   acceptable-counted : Acceptable limit s → (n : ℕ) × (countedOf (synthesisOf limit s) ≡ Equations n)
   acceptable-counted a =
       let r = a .rule in
-      let read : ruleOf s ≡ accepted r = reading-accepts s bytes r .1 (a .well-formed, a .encoded) in
+      let read : ruleOf s ≡ accepted r = reading-accepts s bytes r .1 (a .within-limits, a .encoded) in
       let eight : countedOf (synthesisOf limit s) ≡ Refused 8 0 → ⊥ = λ e. refused-unsatisfiable r read e (a .model) (a .satisfied) in
       unrefused (made limit r) (hopeless r) (ltb limit (length (equationsOf limit r))) (synthesisOf limit s) (synthesis-of limit s r read)
       eight (λ e. refuses-too-many limit s r read eight .0 e (a .equations) (a .few) (a .closed))
@@ -100,5 +103,5 @@ refuses-unsatisfiable limit s size r bytes room read =
     record {
       no-model = rw same (refused, λ none. refuses (none still));
       no-finite = rw same (λ e m finite. refused e m, λ none. refuses (none still (phones-finite stillPhone)));
-      no-phone = rw same (λ e y well-formed. refused e (modelOf y), λ none. refuses (none stillPhone still-well-formed));
+      no-phone = rw same (λ e y within-limits. refused e (modelOf y), λ none. refuses (none stillPhone still-within-limits));
     }

@@ -17,6 +17,6 @@ pub demand-three : DemandThree
 demand-three limit mark s table f r n y below bytes bytes′ read e read′ =
     let answer : ℕ → ℕ → Answer ℕ = entry 256 mark (tableAfter mark (buildingOf limit s (length table)) table) in (
       monitors-enforce ℕ r answer 0 (table-monitors limit mark s table r n below bytes read e) (suppressing answer) (suppressing-passes answer)
-          (modelOf y) (phone-codes y (accepts-phones f bytes′ y .0 read′ .0)),
+          (modelOf y) (phone-codes y (accepts-phones f bytes′ y .0 read′ .0 .well-formed)),
       runs-behind ℕ answer 0 (modelOf y),
     )

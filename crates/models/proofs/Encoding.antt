@@ -12,7 +12,7 @@ use Rattle.reading.specs.File.{Outcome, accepted, refused}
 use Rattle.reading.specs.declared.Answer.the-variants.{Accepted}
 use Rattle.reading.proofs.ByteLaws.{bytes-append}
 use Rattle.reading.proofs.Outcomes.{accepted-is, accepted-by, then-accepts, passes}
-use Rattle.models.specs.Phone.{Phone, WellFormedStep, WellFormedPhone, recordBytes, encodeStep, encodeSteps, encodePhone}
+use Rattle.models.specs.Phone.{Phone, WellFormedStep, WellFormedPhone, PhoneWithinLimits, recordBytes, encodeStep, encodeSteps, encodePhone}
 use Rattle.models.specs.Phone.{statesOf, stepsAt, phoneOf}
 use Rattle.models.specs.Judging.{stored, modelReadingOf}
 use Rattle.models.specs.Promises.{AcceptsPhones, OnePhone, AnswersAccepted}
@@ -49,7 +49,7 @@ states-read states bytes some few =
       le-ltb 64 states few,
     )
 
-phone-stands : (f : List ℕ) → Bytes f → (y : Phone) → phoneOf f ≡ accepted y → WellFormedPhone y × (f ≡ encodePhone y)
+phone-stands : (f : List ℕ) → Bytes f → (y : Phone) → phoneOf f ≡ accepted y → PhoneWithinLimits y × (f ≡ encodePhone y)
 unfolding phoneOf
 phone-stands f bytes y e =
     let head = accepted-by (statesOf f) _ e in
@@ -57,17 +57,17 @@ phone-stands f bytes y e =
     let body = accepted-by (stepsAt 512 f states 2) _ (head .2) in
     let (some, few, first) = states-stand f states (head .1) in
     let stands = steps-stand f states bytes 512 2 (body .0) (body .1) in
-    subst (λ (y : Phone). WellFormedPhone y × (f ≡ encodePhone y)) (accepted-is (body .2)) (
-      record { some-states = some; few-states = few; few-steps = stands .few; steps = stands .well-formed },
+    subst (λ (y : Phone). PhoneWithinLimits y × (f ≡ encodePhone y)) (accepted-is (body .2)) (
+      record { well-formed = record { some-states = some; few-states = few; steps = stands .well-formed }; few-steps = stands .few },
       first ∙ rw (stands .bytes),
     )
 
-pub phone-reads : (y : Phone) → WellFormedPhone y → phoneOf (encodePhone y) ≡ accepted y
+pub phone-reads : (y : Phone) → PhoneWithinLimits y → phoneOf (encodePhone y) ≡ accepted y
 unfolding phoneOf
 phone-reads y w =
     let stands : StepsStand (encodePhone y) (y .states) 2 512 (y .steps) =
-    record { well-formed = w .steps; few = w .few-steps; bytes = refl } in
-    then-accepts _ (states-read (y .states) (encodeSteps (y .steps)) (w .some-states) (w .few-states)) (
+    record { well-formed = w .well-formed .steps; few = w .few-steps; bytes = refl } in
+    then-accepts _ (states-read (y .states) (encodeSteps (y .steps)) (w .well-formed .some-states) (w .well-formed .few-states)) (
     then-accepts _ (steps-read (encodePhone y) (y .states) (y .steps) 2 512 stands) refl)
 
 -- ---- the promises
@@ -78,8 +78,8 @@ accepts-phones f bytes y = (phone-stands f bytes y, λ h. rw (h .1) (phone-reads
 pub one-phone : OnePhone
 one-phone y y′ w w′ e = accepted-is (sym (phone-reads y w) ∙ ap phoneOf e ∙ phone-reads y′ w′)
 
-pub phone-well-formed : (f : List ℕ) (y : Phone) → Bytes f → phoneOf f ≡ accepted y → WellFormedPhone y
-phone-well-formed f y bytes e = phone-stands f bytes y e .0
+pub phone-within-limits : (f : List ℕ) (y : Phone) → Bytes f → phoneOf f ≡ accepted y → PhoneWithinLimits y
+phone-within-limits f y bytes e = phone-stands f bytes y e .0
 
 -- ---- encodings are bytes
 

@@ -18,7 +18,7 @@ use Rattle.synthesis.proofs.Built.{table-monitors}
 use Rattle.running.specs.Running.{WellFormedTable}
 use Rattle.running.proofs.BuiltTables.{built-well-formed}
 use Rattle.models.specs.Model.{SatisfiesDecided}
-use Rattle.models.specs.Phone.{Phone, modelOf, WellFormedPhone, phoneOf}
+use Rattle.models.specs.Phone.{Phone, modelOf, PhoneWithinLimits, phoneOf}
 use Rattle.models.specs.Judging.{stored, modelReadingOf, judgingOf, JudgedAs, tableJudged}
 use Rattle.models.specs.Readings.{ruleRefusal, refusalBefore}
 use Rattle.models.specs.Exploring.{NeverDrops, HasPhone}
@@ -28,7 +28,7 @@ use Rattle.models.specs.declared.Judged.{Judged}
 use Rattle.models.specs.declared.Judged as Judged′
 use Rattle.models.proofs.SatisfactionLaws.{satisfies-safe}
 use Rattle.models.proofs.NeverDropping.{never-drops-safe}
-use Rattle.models.proofs.Encoding.{phone-accepted, phone-well-formed}
+use Rattle.models.proofs.Encoding.{phone-accepted, phone-within-limits}
 use Rattle.models.proofs.PhoneCodes.{phone-codes}
 use Rattle.models.proofs.DecidedSets.{decided-satisfies}
 use Rattle.models.proofs.JudgingLaws.{judging-case}
@@ -93,7 +93,7 @@ module _ (s table f : List ℕ) where
     pub counted : countedOf (buildingOf 128 s (length table)) ≡ Equations count
     pub left : after ≡ tableAfter 255 (buildingOf 128 s (length table)) table
     pub phone-is : phoneOf f ≡ accepted phone
-    pub well-formed : WellFormedPhone phone
+    pub within-limits : PhoneWithinLimits phone
     pub is-stored : model ≡ stored phone
 
   pub both-accepted : {reading : ModelReading} {built : Counted} {after : List ℕ} (n : ℕ) → Bytes s → Bytes f
@@ -114,13 +114,13 @@ module _ (s table f : List ℕ) where
         counted = e;
         left = left;
         phone-is = p .1;
-        well-formed = phone-well-formed f (p .0) bytes (p .1);
+        within-limits = phone-within-limits f (p .0) bytes (p .1);
         is-stored = ap (λ (x : ModelReading). x .model) read ∙ p .2;
       }
 
   module _ {after : List ℕ} {model : PhoneModel} (a : Accepts after model) where
     pub model-has-phone : HasPhone model
-    model-has-phone = record { phone = a .phone; well-formed = a .well-formed; is-stored = a .is-stored }
+    model-has-phone = record { phone = a .phone; within-limits = a .within-limits; is-stored = a .is-stored }
 
     pub table-well-formed : (count : ℕ) × WellFormedTable 128 255 count after
     table-well-formed =
@@ -132,7 +132,7 @@ module _ (s table f : List ℕ) where
     never-drops-satisfies =
         let m = modelOf (a .phone) in
         let monitors = table-monitors 128 255 s table (a .rule) (a .count) (omega arith) (a .rule-bytes) (a .rule-is) (a .counted) in
-        let safe = never-drops-safe ℕ (a .rule) (entry 256 255 after) 0 (rw (a .left) monitors) m (phone-codes (a .phone) (a .well-formed)) in
+        let safe = never-drops-safe ℕ (a .rule) (entry 256 255 after) 0 (rw (a .left) monitors) m (phone-codes (a .phone) (a .within-limits .well-formed)) in
         let satisfies = satisfies-safe m (a .rule) in
         let decided = decided-satisfies (a .phone) (a .rule) in
         (λ never. decided .1 (satisfies .1 (safe .0 never)), λ sat. safe .1 (satisfies .0 (decided .0 sat)))

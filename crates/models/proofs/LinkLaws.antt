@@ -25,14 +25,14 @@ stored-alike y e i = ap (λ (m : PhoneModel). getD (m .steps) i noStep) e ∙ pa
 
 pub stored-step : {m : PhoneModel} → HasPhone m → (i : ℕ) → WellFormedStep 64 (getD (m .steps) i noStep)
 stored-step h i =
-    subst (WellFormedStep 64) (sym (stored-alike (h .phone) (h .is-stored) i)) (step-among (h .phone) (h .well-formed) i)
+    subst (WellFormedStep 64) (sym (stored-alike (h .phone) (h .is-stored) i)) (step-among (h .phone) (h .within-limits .well-formed) i)
 
 pub stored-few : {m : PhoneModel} → HasPhone m → m .nsteps ≤ 512
-stored-few h = omega (arith, h .well-formed .few-steps, ap (λ (m : PhoneModel). m .nsteps) (h .is-stored))
+stored-few h = omega (arith, h .within-limits .few-steps, ap (λ (m : PhoneModel). m .nsteps) (h .is-stored))
 
 pub stored-length : {m : PhoneModel} → HasPhone m → length (m .steps) ≡ 512
 stored-length h =
-    ap (λ (m : PhoneModel). length (m .steps)) (h .is-stored) ∙ padded-long noStep 512 (h .phone .steps) (h .well-formed .few-steps)
+    ap (λ (m : PhoneModel). length (m .steps)) (h .is-stored) ∙ padded-long noStep 512 (h .phone .steps) (h .within-limits .few-steps)
 
 -- ---- the last step from a state
 

@@ -99,16 +99,11 @@ not-by-fewer = on 512 refl
     on n e =
         let y : Phone = record { states = 1; steps = replicate n turn } in
         let full : length (y .steps) ≡ 512 = length-replicate n turn ∙ e in
-        let w : WellFormedPhone y = record {
-          some-states = omega arith;
-          few-states = omega arith;
-          few-steps = omega arith;
-          steps = turns-well-formed n;
-        } in
+        let w : WellFormedPhone y = record { some-states = omega arith; few-states = omega arith; steps = turns-well-formed n } in
         let long : length (encodePhone y) ≡ 2050 = omega (arith, turns-length n) in (
           encodePhone y ++ (17 ∷ []),
           y,
           bytes-append (encodePhone y) (17 ∷ []) (encode-bytes y w) (omega arith, tt),
-          rw (take-at (encodePhone y) (17 ∷ []) 2050 long) (phone-reads y w),
+          rw (take-at (encodePhone y) (17 ∷ []) 2050 long) (phone-reads y (record { well-formed = w; few-steps = omega arith })),
           rw (← long) (full-refused y w full),
         )

@@ -10,7 +10,7 @@ use lib.ListN.{length, getD}
 use Rattle.synthesis.specs.Monitor.{Answer, dropped, next}
 use Rattle.running.specs.Running.{occurrences}
 use Rattle.models.specs.Model.{silent, code, Model}
-use Rattle.models.specs.Phone.{Phone, noStep, WellFormedPhone}
+use Rattle.models.specs.Phone.{Phone, noStep, PhoneWithinLimits}
 use Rattle.models.specs.Judging.{stored}
 use Rattle.models.specs.declared.Step.{Step}
 use Rattle.models.specs.declared.PhoneModel.{PhoneModel}
@@ -34,7 +34,7 @@ module _ {E : Type 0} (answer : E → ℕ → Answer E) (first : E) (m : Model) 
 -- a struct that has some phone model
 pub record HasPhone (model : PhoneModel) : Type 0 where
   pub phone : Phone
-  pub well-formed : WellFormedPhone phone
+  pub within-limits : PhoneWithinLimits phone
   pub is-stored : model ≡ stored phone
 
 -- one more than the index of the last of the first n steps that goes from s; 0 where there is none

@@ -43,12 +43,16 @@ pub record WellFormedStep (states : ℕ) (x : Step) : Type 0 where
   pub label : x .label ≤ 256
   pub to : x .to < states
 
--- within 64 states and 512 steps
+-- well formed: 1 to 64 states, and any number of steps
 pub record WellFormedPhone (y : Phone) : Type 0 where
   pub some-states : 1 ≤ y .states
   pub few-states : y .states ≤ 64
-  pub few-steps : length (y .steps) ≤ 512
   pub steps : All (WellFormedStep (y .states)) (y .steps)
+
+-- well formed, and within 512 steps
+pub record PhoneWithinLimits (y : Phone) : Type 0 where
+  pub well-formed : WellFormedPhone y
+  pub few-steps : length (y .steps) ≤ 512
 
 -- the record of a step, silent or with a code
 abbrev pub recordBytes : (silent : Bool) → Step → List ℕ

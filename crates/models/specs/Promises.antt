@@ -5,7 +5,7 @@ use mathlib.Core.Path.{_≡_}
 use mathlib.Core.Logic.{_↔_}
 use mathlib.Core.List.{List, [], _∷_}
 use lib.ListN.{length, take}
-use Rattle.reading.specs.Rule.{Rule, WellFormedRule, encode, Bytes}
+use Rattle.reading.specs.Rule.{Rule, RuleWithinLimits, encode, Bytes}
 use Rattle.reading.specs.File.{accepted, refused, ruleOf}
 use Rattle.reading.specs.declared.Answer.the-variants.{Accepted}
 use Rattle.synthesis.specs.Violation.{ViolatesRule}
@@ -15,7 +15,7 @@ use Rattle.synthesis.specs.Promises.{Closed}
 use Rattle.synthesis.specs.declared.Counted.the-variants.{Equations, Refused}
 use Rattle.models.specs.Model.{Model, Walk, Weak, Finite, ByteCodes, Satisfies, SatisfiesDecided, Bisimilar}
 use Rattle.models.specs.Model.{Response, suppressing, PassesKept, monitored}
-use Rattle.models.specs.Phone.{Phone, modelOf, WellFormedPhone, encodePhone, phoneOf}
+use Rattle.models.specs.Phone.{Phone, modelOf, PhoneWithinLimits, encodePhone, phoneOf}
 use Rattle.models.specs.Judging.{stored, modelReadingOf, judgingOf, JudgedAs}
 use Rattle.models.specs.declared.Judged.{Judged}
 use Rattle.models.specs.declared.Judged.the-variants.{Meets, Breaks}
@@ -101,7 +101,7 @@ JudgesExactly =
 -- reached stand in a list of at most so many sets that is closed under the codes.
 pub record Acceptable (limit : ℕ) (s : List ℕ) : Type 1 where
   pub rule : Rule
-  pub well-formed : WellFormedRule rule
+  pub within-limits : RuleWithinLimits rule
   pub encoded : s ≡ encode rule
   pub equations : List ℕ
   pub few : length equations ≤ limit
@@ -119,7 +119,7 @@ AcceptsExactly =
 pub record RefusedAsUnsatisfiable (limit : ℕ) (s : List ℕ) (size : ℕ) (r : Rule) : Type 1 where
   pub no-model : (countedOf (buildingOf limit s size) ≡ Refused 8 0) ↔ ((m : Model) → Satisfies m r → ⊥)
   pub no-finite : (countedOf (buildingOf limit s size) ≡ Refused 8 0) ↔ ((m : Model) → Finite m → Satisfies m r → ⊥)
-  pub no-phone : (countedOf (buildingOf limit s size) ≡ Refused 8 0) ↔ ((y : Phone) → WellFormedPhone y → Satisfies (modelOf y) r → ⊥)
+  pub no-phone : (countedOf (buildingOf limit s size) ≡ Refused 8 0) ↔ ((y : Phone) → PhoneWithinLimits y → Satisfies (modelOf y) r → ⊥)
 
 abbrev pub RefusesUnsatisfiable : Type 1
 RefusesUnsatisfiable =
@@ -128,17 +128,17 @@ RefusesUnsatisfiable =
 
 -- 5. A model file is accepted exactly as the encoding of a phone model within the limits, and then as that model.
 abbrev pub AcceptsPhones : Type 0
-AcceptsPhones = (f : List ℕ) → Bytes f → (y : Phone) → (phoneOf f ≡ accepted y) ↔ (WellFormedPhone y × (f ≡ encodePhone y))
+AcceptsPhones = (f : List ℕ) → Bytes f → (y : Phone) → (phoneOf f ≡ accepted y) ↔ (PhoneWithinLimits y × (f ≡ encodePhone y))
 
 -- So one file has one model.
 abbrev pub OnePhone : Type 0
-OnePhone = (y y′ : Phone) → WellFormedPhone y → WellFormedPhone y′ → encodePhone y ≡ encodePhone y′ → y ≡ y′
+OnePhone = (y y′ : Phone) → PhoneWithinLimits y → PhoneWithinLimits y′ → encodePhone y ≡ encodePhone y′ → y ≡ y′
 
 -- In terms of what `read_model` ensures: it answers "accepted" exactly for such files, and hands up that model.
 abbrev pub AnswersAccepted : Type 0
 AnswersAccepted =
     (f : List ℕ) → Bytes f → (modelReadingOf (phoneOf f) .answer ≡ Accepted)
-    ↔ ((y : Phone) × WellFormedPhone y × (f ≡ encodePhone y) × (modelReadingOf (phoneOf f) .model ≡ stored y))
+    ↔ ((y : Phone) × PhoneWithinLimits y × (f ≡ encodePhone y) × (modelReadingOf (phoneOf f) .model ≡ stored y))
 
 -- What a file says is settled by its first 2,051 bytes, and not by 2,050.
 abbrev pub SettledByFirstBytes : Type 0

@@ -8,7 +8,7 @@ use lib.ListN.{length, drop, length-append, drop-of-length-le}
 use lib.Dec.{ltb}
 use borrow.Author.Tests.{ltb-false, le-ltb}
 use Rattle.reading.specs.Rule.{Formula, truth, falsity, both, necessity, max, variable, size}
-use Rattle.reading.specs.Rule.{Rule, WellFormedRule, encodePatterns, encodeFormula, encode, Bytes}
+use Rattle.reading.specs.Rule.{Rule, RuleWithinLimits, encodePatterns, encodeFormula, encode, Bytes}
 use Rattle.reading.specs.File.{Outcome, accepted, refused, isPattern, patternsAt, Parsed, formulaOf, ended, ruleOf}
 use Rattle.reading.specs.Numbered.{numbered, readingOf}
 use Rattle.reading.specs.Promises.{AcceptsEncodings, OneRule, AnswersAccepted}
@@ -21,7 +21,7 @@ use Rattle.reading.proofs.Sound.{FormulaStands}
 use Rattle.reading.proofs.FormulaBytes.{formula-accepts}
 use Rattle.reading.proofs.Encoding.{encoding-is-bytes}
 
-rule-stands : (s : List ℕ) → Bytes s → (r : Rule) → ruleOf s ≡ accepted r → WellFormedRule r × (s ≡ encode r)
+rule-stands : (s : List ℕ) → Bytes s → (r : Rule) → ruleOf s ≡ accepted r → RuleWithinLimits r × (s ≡ encode r)
 unfolding ruleOf
 rule-stands s bytes r e =
     let head = accepted-by (patternsAt 32 s 0) _ e in
@@ -34,10 +34,9 @@ rule-stands s bytes r e =
     let bp = encodePatterns (ps .list) in
     let bf = encodeFormula (f .formula) in
     let none : drop (f .next) s ≡ [] = drop-of-length-le s (ltb-false _ _ (end .0)) in
-    subst (λ (x : Rule). WellFormedRule x × (s ≡ encode x)) (accepted-is (end .1)) (
+    subst (λ (x : Rule). RuleWithinLimits x × (s ≡ encode x)) (accepted-is (end .1)) (
       record {
-        patterns = patterns .well-formed;
-        formula = formula .well-formed;
+        well-formed = record { patterns = patterns .well-formed; formula = formula .well-formed };
         few-patterns = patterns .few;
         few-nodes = omega (arith, formula .nodes);
       },
@@ -53,7 +52,7 @@ no-pattern (necessity p f) s at from = rw (first-byte s at from .is, and-false)
 no-pattern (max f) s at from = rw (first-byte s at from .is, and-false)
 no-pattern (variable d) s at from = rw (first-byte s at from .is, and-false)
 
-rule-read : (s : List ℕ) → Bytes s → (r : Rule) → WellFormedRule r → s ≡ encode r → ruleOf s ≡ accepted r
+rule-read : (s : List ℕ) → Bytes s → (r : Rule) → RuleWithinLimits r → s ≡ encode r → ruleOf s ≡ accepted r
 unfolding ruleOf
 rule-read s bytes r w e =
     let bp = encodePatterns (r .patterns) in
@@ -62,7 +61,7 @@ rule-read s bytes r w e =
     let from : drop next s ≡ bf ++ [] = rest-after s 0 bp e ∙ sym (append-nil bf) in
     let none : drop (next + length bf) s ≡ [] = rest-after s next bf from in
     let patterns : PatternsStand s 0 32 (record { list = r .patterns; next = next }) = record {
-      well-formed = w .patterns;
+      well-formed = w .well-formed .patterns;
       few = w .few-patterns;
       bytes = e ∙ ap (λ (l : List ℕ). bp ++ l) (sym (rest-after s 0 bp e));
       ends = refl;
@@ -71,7 +70,7 @@ rule-read s bytes r w e =
     let n = length (r .patterns) in
     let f : Parsed = record { formula = r .formula; next = next + length bf; left = 64 - size (r .formula) } in
     let formula : FormulaStands s n next 64 [] f = record {
-      well-formed = w .formula;
+      well-formed = w .well-formed .formula;
       bytes = from ∙ ap (λ (l : List ℕ). bf ++ l) (sym none);
       ends = refl;
       nodes = omega (arith, w .few-nodes);
@@ -93,13 +92,13 @@ one-rule r r′ w w′ e =
     accepted-is (sym read ∙ read′)
 
 -- the encoding of a rule is read as that rule, by number
-pub reading-of-encoding : (r : Rule) → WellFormedRule r → readingOf (ruleOf (encode r)) ≡ record { answer = Accepted; rule = numbered r }
+pub reading-of-encoding : (r : Rule) → RuleWithinLimits r → readingOf (ruleOf (encode r)) ≡ record { answer = Accepted; rule = numbered r }
 reading-of-encoding r w = ap readingOf (reading-accepts (encode r) (encoding-is-bytes r w) r .1 (w, refl))
 
 pub answer-accepted : AnswersAccepted
 answer-accepted s bytes = (λ e. on (ruleOf s) refl e, λ h. rw (h .2) (ap (λ (x : Reading). x .answer) (reading-of-encoding (h .0) (h .1))))
   where
     on : (o : Outcome Rule) → ruleOf s ≡ o → readingOf o .answer ≡ Accepted
-        → (r : Rule) × WellFormedRule r × (s ≡ encode r) × (readingOf (ruleOf s) .rule ≡ numbered r)
+        → (r : Rule) × RuleWithinLimits r × (s ≡ encode r) × (readingOf (ruleOf s) .rule ≡ numbered r)
     on (accepted r) e a = let h = reading-accepts s bytes r .0 e in (r, h .0, h .1, rw e)
     on (refused number place) e a = let z : _≡_ {A = ℕ} 0 1 = cc in absurd (omega arith)

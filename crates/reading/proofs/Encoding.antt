@@ -7,7 +7,7 @@ use native.Mathlib.Omega.{arith}
 use lib.ListN.{length, length-append, length-map}
 use Rattle.reading.specs.Pattern.{WellFormedPattern}
 use Rattle.reading.specs.Rule.{Formula, truth, falsity, both, necessity, max, variable, size, Guards, guarded, WellFormed}
-use Rattle.reading.specs.Rule.{Rule, All, WellFormedRule, encodePatterns, encodeFormula, encode, Bytes}
+use Rattle.reading.specs.Rule.{Rule, All, RuleWithinLimits, encodePatterns, encodeFormula, encode, Bytes}
 use Rattle.reading.specs.declared.Pattern.{Pattern}
 use Rattle.reading.proofs.ByteLaws.{bytes-append}
 
@@ -34,11 +34,11 @@ formula-is-bytes n few (necessity p f) g fits w =
 formula-is-bytes n few (max f) g fits w = (omega arith, formula-is-bytes n few f (false ∷ g) (omega arith) w)
 formula-is-bytes n few (variable d) g fits w = (omega arith, (omega (arith, w .0), tt))
 
-pub encoding-is-bytes : (r : Rule) → WellFormedRule r → Bytes (encode r)
+pub encoding-is-bytes : (r : Rule) → RuleWithinLimits r → Bytes (encode r)
 encoding-is-bytes r w =
     bytes-append (encodePatterns (r .patterns)) (encodeFormula (r .formula))
-    (patterns-are-bytes (r .patterns) (w .patterns))
-    (formula-is-bytes (length (r .patterns)) (omega (arith, w .few-patterns)) (r .formula) [] (omega (arith, w .few-nodes)) (w .formula))
+    (patterns-are-bytes (r .patterns) (w .well-formed .patterns))
+    (formula-is-bytes (length (r .patterns)) (omega (arith, w .few-patterns)) (r .formula) [] (omega (arith, w .few-nodes)) (w .well-formed .formula))
 
 -- ---- length
 
@@ -63,9 +63,9 @@ length-closed (necessity p f) n w = omega (arith, length-closed f n (w .1))
 length-closed (max f) n w = omega (arith, length-formula f)
 length-closed (variable d) n w = omega (arith, w .0)
 
-pub length-encoding : (r : Rule) → WellFormedRule r → length (encode r) ≤ 255
+pub length-encoding : (r : Rule) → RuleWithinLimits r → length (encode r) ≤ 255
 length-encoding r w =
-    let closed = length-closed (r .formula) (length (r .patterns)) (w .formula) in
+    let closed = length-closed (r .formula) (length (r .patterns)) (w .well-formed .formula) in
     omega (
       arith,
       length-append (encodePatterns (r .patterns)) (encodeFormula (r .formula)),

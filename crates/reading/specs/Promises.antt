@@ -7,7 +7,7 @@ use mathlib.Core.List.{List, [], map}
 use lib.ListN.{length, getD, take}
 use lib.Count.{ones, trailingZeros}
 use Rattle.reading.specs.Pattern.{covers, extentOf}
-use Rattle.reading.specs.Rule.{Formula, size, WellFormed, Rule, WellFormedRule, encode, Bytes}
+use Rattle.reading.specs.Rule.{Formula, size, WellFormed, Rule, RuleWithinLimits, encode, Bytes}
 use Rattle.reading.specs.File.{accepted, refused, ruleOf}
 use Rattle.reading.specs.Numbered.{kind, argument, numberOf, numbered, noPattern, noExtent, readingOf}
 use Rattle.reading.specs.Nodes.{EnclosingMax, Node, guardsAt, Resolves}
@@ -16,17 +16,17 @@ use Rattle.reading.specs.declared.Answer.the-variants.{Accepted}
 
 -- 1. A file is accepted exactly as the encoding of a well-formed rule within the limits, and then as that rule.
 abbrev pub AcceptsEncodings : Type 0
-AcceptsEncodings = (s : List ℕ) → Bytes s → (r : Rule) → (ruleOf s ≡ accepted r) ↔ (WellFormedRule r × (s ≡ encode r))
+AcceptsEncodings = (s : List ℕ) → Bytes s → (r : Rule) → (ruleOf s ≡ accepted r) ↔ (RuleWithinLimits r × (s ≡ encode r))
 
 -- So one file has one rule.
 abbrev pub OneRule : Type 0
-OneRule = (r r′ : Rule) → WellFormedRule r → WellFormedRule r′ → encode r ≡ encode r′ → r ≡ r′
+OneRule = (r r′ : Rule) → RuleWithinLimits r → RuleWithinLimits r′ → encode r ≡ encode r′ → r ≡ r′
 
 -- In terms of what `read_rule` ensures: it answers "accepted" exactly for encodings of well-formed rules, with that rule by number.
 abbrev pub AnswersAccepted : Type 0
 AnswersAccepted =
     (s : List ℕ) → Bytes s → (readingOf (ruleOf s) .answer ≡ Accepted)
-    ↔ ((r : Rule) × WellFormedRule r × (s ≡ encode r) × (readingOf (ruleOf s) .rule ≡ numbered r))
+    ↔ ((r : Rule) × RuleWithinLimits r × (s ≡ encode r) × (readingOf (ruleOf s) .rule ≡ numbered r))
 
 -- 2. The numbered nodes are those of the tree: each number below the size names one node, and the kind and the argument that stand at
 -- that number say its formula, its parts by their numbers, and the max of a variable. Each node is well formed where it stands.

@@ -56,10 +56,14 @@ abbrev pub All : {A : Type 0} → (A → Type 0) → List A → Type 0
 All P [] = Unit
 All P (x ∷ xs) = P x × All P xs
 
--- a well-formed rule within 32 patterns and 64 nodes
+-- well formed, with any number of patterns and nodes
 pub record WellFormedRule (r : Rule) : Type 0 where
   pub patterns : All WellFormedPattern (r .patterns)
   pub formula : WellFormed (length (r .patterns)) [] (r .formula)
+
+-- well formed, and within 32 patterns and 64 nodes
+pub record RuleWithinLimits (r : Rule) : Type 0 where
+  pub well-formed : WellFormedRule r
   pub few-patterns : length (r .patterns) ≤ 32
   pub few-nodes : size (r .formula) ≤ 64
 

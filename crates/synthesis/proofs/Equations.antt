@@ -32,7 +32,7 @@ use Rattle.synthesis.proofs.Synthesized.{counted-accepts, counted-refus
 
 -- a file that is read is a rule with a well-formed formula
 pub file-well-formed : (s : List ℕ) → Bytes s → (r : Rule) → ruleOf s ≡ accepted r → WellFormedFormula r
-file-well-formed s bytes r e = reading-accepts s bytes r .0 e .0 .formula
+file-well-formed s bytes r e = reading-accepts s bytes r .0 e .0 .well-formed .formula
 
 -- ---- what opening gives
 

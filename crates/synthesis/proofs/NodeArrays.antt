@@ -19,7 +19,7 @@ node-below {f = f} n = omega (arith, node-fits n, size-positive f)
 
 module _ {r : Rule} {ks xs : List ℕ} (ir : IsRule r ks xs) where
   few : size (r .formula) ≤ 64
-  few = ir .well-formed .few-nodes
+  few = ir .within-limits .few-nodes
 
   pub kinds-long : length ks ≡ 64
   kinds-long = rw (ir .kinds-are) (padded-long 0 64 (kinds 0 [] (r .formula)) (rw (kinds-size 0 [] (r .formula)) few))
@@ -40,4 +40,4 @@ module _ {r : Rule} {ks xs : List ℕ} (ir : IsRule r ks xs) where
     -- what the node is where its kind is known
     pub resolved : {kd : ℕ} → getD ks k 0 ≡ kd → Resolves (r .formula) k ms kd (getD xs k 0) f
     resolved q =
-        rw (← q, ir .kinds-are, ir .args-are) (numbers-nodes r .resolves (length (r .patterns)) (ir .well-formed .formula) n)
+        rw (← q, ir .kinds-are, ir .args-are) (numbers-nodes r .resolves (length (r .patterns)) (ir .within-limits .well-formed .formula) n)

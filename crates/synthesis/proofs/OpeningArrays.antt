@@ -100,7 +100,7 @@ module _ {kinds args opened : List ℕ} {k : ℕ} where
     where
       on : Row kinds args opened k 7 (getD opened (getD args k 0) 0)
       on r ir z ms (variable d) n x is (is-variable m n₁ before) =
-          let bound = variable-bound (length (r .patterns)) (ir .well-formed .formula) n in
+          let bound = variable-bound (length (r .patterns)) (ir .within-limits .well-formed .formula) n in
           rw (mapped-at (λ (m : EnclosingMax). getD opened (m .number) 0) ms d noMax 0 bound, ap numberOf m, is)
 
   pub opening-falsity : k < 64 → getD kinds k 0 ≡ 3 → IsOpening kinds args opened k (shiftedOne k)

@@ -66,7 +66,7 @@ read-as s b (accepted r) q n e a = record {
   is = q;
   numbers = record {
     is-rule = record {
-      well-formed = reading-accepts s b r .0 q .0;
+      within-limits = reading-accepts s b r .0 q .0;
       kinds-are = ap (λ (x : NumberedRule). x .kinds) e;
       args-are = ap (λ (x : NumberedRule). x .args) e;
     };

@@ -34,8 +34,8 @@ module _ {n : NumberedRule} {k : ℕ} (some : SomeNumbered n k) where
       on : {ms : List EnclosingMax} {f : Formula} → Node (some .rule .formula) k ms f
           → Resolves (some .rule .formula) k ms 5 (getD (n .args) k 0) f → getD (n .args) k 0 < 32
       on node (is-necessity rest) =
-          let w = some .is-numbered .is-rule .well-formed in
-          omega (arith, well-formed-at (length (some .rule .patterns)) (w .formula) node .0, w .few-patterns)
+          let w = some .is-numbered .is-rule .within-limits in
+          omega (arith, well-formed-at (length (some .rule .patterns)) (w .well-formed .formula) node .0, w .few-patterns)
 
 module _ {n : NumberedRule} {k : ℕ} {waiting : List ℕ} (r : Rule) (num : IsNumbered r n) (w : Waiting r k waiting) where
   -- the pattern of node k, where it is a necessity

@@ -5,7 +5,7 @@ use mathlib.Core.Logic.{_↔_, _⊎_}
 use mathlib.Core.Bool.{Bool, true, false, cond}
 use mathlib.Core.List.{List, [], _∷_, map}
 use lib.ListN.{length, getD, take}
-use Rattle.reading.specs.Rule.{Formula, necessity, max, size, Rule, WellFormedRule}
+use Rattle.reading.specs.Rule.{Formula, necessity, max, size, Rule, RuleWithinLimits}
 use Rattle.reading.specs.Nodes.{EnclosingMax, Node}
 use Rattle.reading.specs.Numbered.{numbered}
 use Rattle.reading.specs.Pattern.{covers}
@@ -21,7 +21,7 @@ use Rattle.synthesis.specs.declared.graph.Graph.{Graph}
 
 -- The kinds and the arguments are those of the nodes of a well-formed rule.
 pub record IsRule (r : Rule) (kinds args : List ℕ) : Type 0 where
-  pub well-formed : WellFormedRule r
+  pub within-limits : RuleWithinLimits r
   pub kinds-are : kinds ≡ numbered r .kinds
   pub args-are : args ≡ numbered r .args
 
