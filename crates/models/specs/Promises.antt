@@ -7,7 +7,7 @@ use mathlib.Core.List.{List, [], _∷_}
 use lib.ListN.{length, take}
 use Rattle.reading.specs.Rule.{Rule, RuleWithinLimits, encode, Bytes}
 use Rattle.reading.specs.File.{accepted, refused, ruleOf}
-use Rattle.reading.specs.declared.Answer.the-variants.{Accepted}
+use Rattle.reading.specs.declared.Answer.the-variants.{Accepted, Refused as NotAccepted}
 use Rattle.synthesis.specs.Violation.{ViolatesRule}
 use Rattle.synthesis.specs.Monitor.{Answer, kept, ended, Loses, Monitors, entry}
 use Rattle.synthesis.specs.Building.{buildingOf, countedOf, tableAfter}
@@ -16,6 +16,7 @@ use Rattle.synthesis.specs.declared.Counted.the-variants.{Equations, Refused}
 use Rattle.models.specs.Model.{Model, Walk, Weak, Finite, ByteCodes, Satisfies, SatisfiesDecided, Bisimilar}
 use Rattle.models.specs.Model.{Response, suppressing, PassesKept, monitored}
 use Rattle.models.specs.Phone.{Phone, modelOf, PhoneWithinLimits, encodePhone, phoneOf}
+use Rattle.models.specs.Faults.{Fault}
 use Rattle.models.specs.Judging.{stored, modelReadingOf, judgingOf, JudgedAs}
 use Rattle.models.specs.declared.Judged.{Judged}
 use Rattle.models.specs.declared.Judged.the-variants.{Meets, Breaks}
@@ -139,6 +140,12 @@ abbrev pub AnswersAccepted : Type 0
 AnswersAccepted =
     (f : List ℕ) → Bytes f → (modelReadingOf (phoneOf f) .answer ≡ Accepted)
     ↔ ((y : Phone) × PhoneWithinLimits y × (f ≡ encodePhone y) × (modelReadingOf (phoneOf f) .model ≡ stored y))
+
+-- A file is refused with a number at a place exactly where a clause of `Fault` has it so. So one number and one place hold of each refused file, and none
+-- of an accepted one.
+abbrev pub RefusesAtTheFault : Type 0
+RefusesAtTheFault =
+    (f : List ℕ) → Bytes f → (number place : ℕ) → (modelReadingOf (phoneOf f) .answer ≡ NotAccepted number place) ↔ Fault f number place
 
 -- What a file says is settled by its first 2,051 bytes, and not by 2,050.
 abbrev pub SettledByFirstBytes : Type 0

@@ -2,6 +2,7 @@
 pub mod Pattern
 pub mod Rule
 pub mod File
+pub mod Faults
 pub mod Nodes
 pub mod Numbered
 pub mod Promises

@@ -9,10 +9,11 @@ use lib.Count.{ones, trailingZeros}
 use Rattle.reading.specs.Pattern.{covers, extentOf}
 use Rattle.reading.specs.Rule.{Formula, size, WellFormed, Rule, RuleWithinLimits, encode, Bytes}
 use Rattle.reading.specs.File.{accepted, refused, ruleOf}
+use Rattle.reading.specs.Faults.{Fault}
 use Rattle.reading.specs.Numbered.{kind, argument, numberOf, numbered, noPattern, noExtent, readingOf}
 use Rattle.reading.specs.Nodes.{EnclosingMax, Node, guardsAt, Resolves}
 use Rattle.reading.specs.declared.Pattern.{Pattern}
-use Rattle.reading.specs.declared.Answer.the-variants.{Accepted}
+use Rattle.reading.specs.declared.Answer.the-variants.{Accepted, Refused}
 
 -- 1. A file is accepted exactly as the encoding of a well-formed rule within the limits, and then as that rule.
 abbrev pub AcceptsEncodings : Type 0
@@ -27,6 +28,12 @@ abbrev pub AnswersAccepted : Type 0
 AnswersAccepted =
     (s : List ℕ) → Bytes s → (readingOf (ruleOf s) .answer ≡ Accepted)
     ↔ ((r : Rule) × RuleWithinLimits r × (s ≡ encode r) × (readingOf (ruleOf s) .rule ≡ numbered r))
+
+-- A file is refused with a number at a place exactly where a clause of `Fault` has it so. So one number and one place hold of each refused file, and none
+-- of an accepted one.
+abbrev pub RefusesAtTheFault : Type 0
+RefusesAtTheFault =
+    (s : List ℕ) → Bytes s → (number place : ℕ) → (readingOf (ruleOf s) .answer ≡ Refused number place) ↔ Fault s number place
 
 -- 2. The numbered nodes are those of the tree: each number below the size names one node, and the kind and the argument that stand at
 -- that number say its formula, its parts by their numbers, and the max of a variable. Each node is well formed where it stands.
