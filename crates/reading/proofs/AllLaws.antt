@@ -22,6 +22,10 @@ module _ {A : Type 0} (P : A → Type 0) where
   all-append [] l′ all all′ = all′
   all-append (x ∷ l) l′ all all′ = (all .0, all-append l l′ (all .1) all′)
 
+  pub all-front : (l l′ : List A) → All P (l ++ l′) → All P l
+  all-front [] l′ all = tt
+  all-front (x ∷ l) l′ all = (all .0, all-front l l′ (all .1))
+
   -- from every element
   pub all-of : (l : List A) (d : A) → ((i : ℕ) → i < length l → P (getD l i d)) → All P l
   all-of [] d each = tt

@@ -26,3 +26,6 @@ pub mod Stores
 pub mod Parts
 pub mod Heads
 pub mod Ways
+pub mod Contexts
+pub mod Records
+pub mod Beginnings
