@@ -29,3 +29,4 @@ pub mod Ways
 pub mod Contexts
 pub mod Records
 pub mod Beginnings
+pub mod LeftToRight
