@@ -26,6 +26,10 @@ module _ {A : Type 0} (P : A → Type 0) where
   all-front [] l′ all = tt
   all-front (x ∷ l) l′ all = (all .0, all-front l l′ (all .1))
 
+  pub all-last : (l : List A) (x : A) → All P (l ++ x ∷ []) → P x
+  all-last [] x all = all .0
+  all-last (y ∷ l) x all = all-last l x (all .1)
+
   -- from every element
   pub all-of : (l : List A) (d : A) → ((i : ℕ) → i < length l → P (getD l i d)) → All P l
   all-of [] d each = tt

@@ -30,3 +30,4 @@ pub mod Contexts
 pub mod Records
 pub mod Beginnings
 pub mod LeftToRight
+pub mod Reached

@@ -120,6 +120,10 @@ pub more-nodes : (ps : List Pattern) (xs ys : List Symbol) → records ps (xs ++
 more-nodes ps xs ys =
     ap (λ (l : List Record). map pattern ps ++ l) (map-append node xs ys) ∙ sym (append-assoc (map pattern ps) (map node xs) (map node ys))
 
+pub one-more-pattern : (ps : List Pattern) (p : Pattern) → records (ps ++ p ∷ []) [] ≡ records ps [] ++ pattern p ∷ []
+one-more-pattern [] p = refl
+one-more-pattern (q ∷ ps) p = ap (λ (l : List Record). pattern q ∷ l) (one-more-pattern ps p)
+
 -- patterns and symbols follow from the records
 pub one-shape : (ps qs : List Pattern) (xs ys : List Symbol) → records ps xs ≡ records qs ys → (ps ≡ qs) × (xs ≡ ys)
 one-shape [] [] [] [] e = (refl, refl)
