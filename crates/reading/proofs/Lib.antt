@@ -31,3 +31,5 @@ pub mod Records
 pub mod Beginnings
 pub mod LeftToRight
 pub mod Reached
+pub mod RecordsHere
+pub mod FaultsFound

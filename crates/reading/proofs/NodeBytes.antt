@@ -33,7 +33,7 @@ pub data NodeStands (s : List ℕ) (n at : ℕ) (g : Guards) : NodeRecord → Ty
 
 module _ (s : List ℕ) (n at left : ℕ) (g : Guards) where
   -- what is left to check of a record of kind k once it is known to begin
-  abbrev ofKind : ℕ → Outcome NodeRecord
+  abbrev pub ofKind : ℕ → Outcome NodeRecord
   ofKind k =
       cond (eqb k 2) (bareAt Truth at)
       (cond (eqb k 3) (bareAt Falsity at)

@@ -21,7 +21,25 @@ pub neither : (a b : Bool) → (a || b) ≡ false → (a ≡ false) × (b ≡ fa
 neither true b e = let z : _≡_ {A = ℕ} 0 1 = cc in absurd (omega arith)
 neither false b e = (refl, e)
 
+-- what is refused was refused by this check or by a later one
+pub found : {A : Type 0} (P : (number place : ℕ) → Type 0) (b : Bool) (k q : ℕ) (o : Outcome A) {number place : ℕ}
+    → refuse b k q o ≡ refused number place → (b ≡ true → P k q) → (b ≡ false → o ≡ refused number place → P number place) → P number place
+found P true k q o {number} {place} e here later =
+    let same : k ≡ number = cc in
+    let same′ : q ≡ place = cc in
+    rw (← same, ← same′) (here refl)
+found P false k q o e here later = later refl e
+
+pub never-refused : {A : Type 0} {number place : ℕ} {a : A} → accepted a ≡ refused number place → ⊥
+never-refused e = let z : _≡_ {A = ℕ} 0 1 = cc in omega arith
+
 module _ {A B : Type 0} where
+  -- what two steps refuse, the first or the second refuses
+  pub refused-by : {P : Type 0} (o : Outcome A) (f : A → Outcome B) {number place : ℕ} → andThen o f ≡ refused number place
+      → (o ≡ refused number place → P) → ((a : A) → o ≡ accepted a → f a ≡ refused number place → P) → P
+  refused-by (accepted a) f e first second = second a refl e
+  refused-by (refused m at) f e first second = first cc
+
   -- a value that two steps accept is the second's of one that the first accepts
   pub accepted-by : (o : Outcome A) (f : A → Outcome B) {b : B} → andThen o f ≡ accepted b → (a : A) × (o ≡ accepted a) × (f a ≡ accepted b)
   accepted-by (accepted a) f e = (a, refl, e)
