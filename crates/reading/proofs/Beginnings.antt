@@ -1,13 +1,12 @@
 -- Whole records begin a rule exactly when they are well-formed patterns, and then symbols that may follow each other; they are one when nothing is
 -- due any more. So too where guards aren't asked for.
-use mathlib.Core.Path.{_≡_, refl, sym, ap, _∙_}
+use mathlib.Core.Path.{_≡_, sym, ap, _∙_}
 use mathlib.Core.Logic.{inl, inr}
 use mathlib.Core.List.{List, [], _∷_, _++_, map, append-nil}
-use Prim.Native.Nat.{ℕ, _+_}
-use native.Mathlib.Omega.{arith}
-use lib.ListN.{length, length-append}
+use Prim.Native.Nat.{ℕ}
+use lib.ListN.{length}
 use Rattle.reading.specs.Pattern.{WellFormedPattern}
-use Rattle.reading.specs.Rule.{Formula, Guards, WellFormed, Rule, All, encode}
+use Rattle.reading.specs.Rule.{Formula, Guards, WellFormed, Rule, All}
 use Rattle.reading.specs.File.{Symbol}
 use Rattle.reading.specs.Faults.{Record, node, recordsBytes, Bound, Begins, BeginsRule, BeginsBound, IsRule}
 use Rattle.reading.specs.declared.Pattern.{Pattern}

@@ -3,10 +3,8 @@
 -- if guards aren't asked for, how many there are. Whatever has gone well so far can be completed, by tt for each formula that is due.
 use mathlib.Core.Path.{_≡_, refl, ap, _∙_}
 use mathlib.Core.Bool.{true, false}
-use mathlib.Core.Logic.{_↔_}
 use mathlib.Core.List.{List, [], _∷_, _++_, map, append-assoc, append-nil}
 use Prim.Native.Nat.{ℕ, suc, _<_}
-use native.Mathlib.Omega.{arith}
 use lib.ListN.{length, getD, length-map}
 use Rattle.reading.specs.Rule.{Formula, truth, falsity, both, necessity, max, variable, Guards, guarded, WellFormed}
 use Rattle.reading.specs.File.{Symbol, Truth, Falsity, Both, Max, Necessity, Variable}

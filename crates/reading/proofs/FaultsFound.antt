@@ -1,7 +1,7 @@
 -- Where reading refuses a file, a clause of `Fault` says so: from record to record it is known what stands before, and at the refused one each check of
 -- the reader is the condition of a clause.
-use mathlib.Core.Path.{_≡_, refl, subst, sym, ap, _∙_}
-use mathlib.Core.Logic.{_⊎_, inl, inr}
+use mathlib.Core.Path.{_≡_, refl, subst, sym, _∙_}
+use mathlib.Core.Logic.{inl, inr}
 use mathlib.Core.Bool.{Bool, true, false, cond, not, _||_}
 use mathlib.Core.List.{List, [], _∷_, _++_}
 use Prim.Native.Nat.{ℕ, zero, suc, _+_, _≤_, _<_}
@@ -12,17 +12,16 @@ use borrow.Author.Tests.{ltb-true, ltb-false, leb-true, leb-false, eqb-true, eqb
 use Rattle.reading.specs.Pattern.{WellFormedPattern}
 use Rattle.reading.specs.Rule.{Guards, Bytes}
 use Rattle.reading.specs.File.{refused, andThen, patternAt, isPattern, necessityAt, variableAt, nodeAt}
-use Rattle.reading.specs.Faults.{Record, pattern, node, Unfinished, KindAt, IsPattern, HasBody, NoKind, Fault, ended, pattern-cut, node-cut, no-kind, after-rule, late-pattern}
+use Rattle.reading.specs.Faults.{Unfinished, KindAt, IsPattern, HasBody, NoKind, Fault, ended, pattern-cut, node-cut, no-kind, after-rule, late-pattern}
 use Rattle.reading.specs.Faults.{pattern-33, node-65, bad-pattern, names-nothing, unguarded}
-use Rattle.reading.specs.declared.Pattern.{Pattern}
 use Rattle.reading.proofs.ByteLaws.{byte-at}
 use Rattle.reading.proofs.Outcomes.{never-accepted, neither, found, never-refused, refused-by}
 use Rattle.reading.proofs.Places.{Byte}
 use Rattle.reading.proofs.NodeBytes.{ofKind, node-accepts}
-use Rattle.reading.proofs.PatternBytes.{PatternStands, pattern-stands, one-stands}
-use Rattle.reading.proofs.Contexts.{guards, May, parts, done}
-use Rattle.reading.proofs.LeftToRight.{endedAt, dueAt, due-over, headAt}
-use Rattle.reading.proofs.Reached.{Reached, reached-front, reached-rule, still-due, Stands, next-node, next-pattern, pattern-needed}
+use Rattle.reading.proofs.PatternBytes.{pattern-stands, one-stands}
+use Rattle.reading.proofs.Contexts.{guards, parts, done}
+use Rattle.reading.proofs.LeftToRight.{dueAt, due-over, headAt}
+use Rattle.reading.proofs.Reached.{Reached, reached-front, reached-rule, still-due, next-node, next-pattern, pattern-needed}
 use Rattle.reading.proofs.Reached.{node-needed, node-bound, bound-begins}
 use Rattle.reading.proofs.RecordsHere.{necessity-here, variable-here, pattern-here, pattern-stood, node-here}
 
@@ -134,7 +133,7 @@ due-fault (suc left) (g ∷ due) {s} {at} {n} h count none e =
 
 -- ---- the patterns
 
-module _ {s : List ℕ} (bytes : Bytes s) {at n : ℕ} (h : Reached s at n 0 ([] ∷ [])) (b : Byte s at 1) where
+module _ {s : List ℕ} {at n : ℕ} (h : Reached s at n 0 ([] ∷ [])) (b : Byte s at 1) where
   abbrev kind : KindAt s at IsPattern
   kind = (b .inside, b .is)
 
@@ -178,7 +177,7 @@ head-fault zero {s} bytes {at} {n} {number} {place} h count e = on (isPattern s 
         → cond c (andThen (patternAt s at zero) (λ p. refused 4 at)) (dueAt s 64 n at ([] ∷ [])) ≡ refused number place → Fault s number place
     on true is e′ =
         refused-by {B = Unit {0}} (patternAt s at zero) (λ p. refused 4 at) e′
-        (pattern-fault bytes h (one-stands s at is) zero count)
+        (pattern-fault h (one-stands s at is) zero count)
         (λ p e₁ e₂. absurd (never-accepted e₁))
     on false is e′ = due-fault 64 ([] ∷ []) h (omega arith) (λ z. is) e′
 head-fault (suc left) {s} bytes {at} {n} {number} {place} h count e =
@@ -191,7 +190,7 @@ head-fault (suc left) {s} bytes {at} {n} {number} {place} h count e =
     on true is e′ later =
         let b = one-stands s at is in
         refused-by (patternAt s at (suc left)) _ e′
-        (pattern-fault bytes h b (suc left) count)
+        (pattern-fault h b (suc left) count)
         (λ p e₁ e₂.
         let stands = pattern-stands s at (suc left) p (byte-at s bytes (at + 1)) e₁ in
         later (next-pattern h (omega arith) (pattern-stood s at b stands) (stands .well-formed)) (omega arith) e₂)

@@ -33,3 +33,5 @@ pub mod LeftToRight
 pub mod Reached
 pub mod RecordsHere
 pub mod FaultsFound
+pub mod GoingOn
+pub mod FaultsRefused

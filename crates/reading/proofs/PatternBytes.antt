@@ -28,7 +28,7 @@ pub record PatternStands (s : List ℕ) (at left : ℕ) (p : Pattern) : Type 0 w
   pub last : Byte s (at + 3) (p .last)
 
 module _ (s : List ℕ) (at left : ℕ) (p : Pattern) where
-  pattern-reads : PatternStands s at left p → patternAt s at left ≡ accepted p
+  pub pattern-reads : PatternStands s at left p → patternAt s at left ≡ accepted p
   pattern-reads h =
       let w = h .well-formed in
       let mask = h .mask .is in

@@ -1,20 +1,17 @@
 -- How far a file has been read: whole records up to a place, within the limits, and what is due there. What the next record must be like for the file to
 -- go on as a rule.
 use mathlib.Core.Path.{_≡_, refl, sym, ap, subst, _∙_}
-use mathlib.Core.List.{List, [], _∷_, _++_, map, append-assoc, append-nil}
+use mathlib.Core.List.{List, [], _∷_, _++_, map, append-nil}
 use Prim.Native.Nat.{ℕ, suc, _+_, _≤_, _<_}
 use native.Mathlib.Omega.{arith}
-use lib.ListN.{length, take, drop, length-append, length-map}
+use lib.ListN.{length, take, drop, length-append}
 use lib.Seq.{take-add, take-append-seam}
 use Rattle.reading.specs.Pattern.{WellFormedPattern}
 use Rattle.reading.specs.Rule.{Guards, All}
-use Rattle.reading.specs.File.{Symbol, NodeRecord}
+use Rattle.reading.specs.File.{Symbol}
 use Rattle.reading.specs.Faults.{Record, pattern, node, recordBytes, recordsBytes, BeginsRule, BeginsBound, IsRule, Front, Unfinished}
 use Rattle.reading.specs.declared.Pattern.{Pattern}
 use Rattle.reading.proofs.AllLaws.{all-append, all-last}
-use Rattle.reading.proofs.Places.{Byte, from-byte}
-use Rattle.reading.proofs.NodeBytes.{NodeStands, bare, of-necessity, of-variable, bare-truth, bare-falsity, bare-both, bare-max}
-use Rattle.reading.proofs.PatternBytes.{PatternStands}
 use Rattle.reading.proofs.Contexts.{Contexts, guards, depths, May, parts, Leads, done, more, leads-same, leads-split, leads-join, leads-unguarded}
 use Rattle.reading.proofs.Records.{records, bytes-of-both, patterns-in, nodes-in, more-nodes, one-more-pattern, one-shape}
 use Rattle.reading.proofs.Beginnings.{Shape, rule-shape, shape-begins, bound-shape, shape-bound, whole-rule, rule-over}
