@@ -11,7 +11,7 @@ use Rattle.reading.specs.File.{Symbol}
 use Rattle.reading.specs.Faults.{Record, node, recordsBytes, Bound, Begins, BeginsRule, BeginsBound, IsRule}
 use Rattle.reading.specs.declared.Pattern.{Pattern}
 use Rattle.reading.proofs.AllLaws.{all-front}
-use Rattle.reading.proofs.Contexts.{Contexts, guards, depths, Fits, Leads, done, leads-same, leads-split, formula-leads, truths, completes}
+use Rattle.reading.proofs.Contexts.{Contexts, guards, depths, Fits, Consumes, done, consumes-same, consumes-split, formula-consumes, truths, completes}
 use Rattle.reading.proofs.Contexts.{symbols, well-formed-fits, fits-well-formed, bound-fits, fits-bound}
 use Rattle.reading.proofs.Records.{records, bytes-of-both, front-of-records, same-records, rule-bytes, more-nodes, one-shape, FrontOf, front-shape}
 
@@ -22,7 +22,7 @@ pub record Shape (K : Contexts) (first : K .Context) (xs : List Record) : Type 0
   pub are : xs ≡ records patterns nodes
   pub well-formed : All WellFormedPattern patterns
   pub due : List (K .Context)
-  pub leads : Leads K (length patterns) (first ∷ []) nodes due
+  pub consumes : Consumes K (length patterns) (first ∷ []) nodes due
 
 module _ (K : Contexts) (first : K .Context) (Fit : ℕ → Formula → Type 0) where
   shape-of : (xs : List Record) (r : Rule) → All WellFormedPattern (r .patterns) → Fits K (length (r .patterns)) first (r .formula)
@@ -33,13 +33,13 @@ module _ (K : Contexts) (first : K .Context) (Fit : ℕ → Formula → Type 0) 
     are = are;
     well-formed = all-front WellFormedPattern qs others (rw is at all);
     due = first ∷ [];
-    leads = done;
+    consumes = done;
   }
   shape-of xs r all fits (inr (ys, others, is, are)) =
-      let whole : Leads K (length (r .patterns)) (first ∷ []) (ys ++ others) [] =
-      rw (← is, ← append-nil (symbols (r .formula))) (formula-leads (r .formula) fits done) in
-      let (due, leads, rest) = leads-split ys whole in
-      record { patterns = r .patterns; nodes = ys; are = are; well-formed = all; due = due; leads = leads }
+      let whole : Consumes K (length (r .patterns)) (first ∷ []) (ys ++ others) [] =
+      rw (← is, ← append-nil (symbols (r .formula))) (formula-consumes (r .formula) fits done) in
+      let (due, consumes, rest) = consumes-split ys whole in
+      record { patterns = r .patterns; nodes = ys; are = are; well-formed = all; due = due; consumes = consumes }
 
   shaped : ((n : ℕ) (f : Formula) → Fit n f → Fits K n first f) → (xs : List Record) → Begins Fit (recordsBytes xs) → Shape K first xs
   shaped to-fits xs b =
@@ -50,7 +50,7 @@ module _ (K : Contexts) (first : K .Context) (Fit : ℕ → Formula → Type 0) 
 
   begun : ((n : ℕ) (f : Formula) → Fits K n first f → Fit n f) → {xs : List Record} → Shape K first xs → Begins Fit (recordsBytes xs)
   begun of-fits {xs} h =
-      let (f, fits, are) = completes (h .leads) in
+      let (f, fits, are) = completes (h .consumes) in
       let r : Rule = record { patterns = h .patterns; formula = f } in
       let rest = map node (truths (h .due)) in
       record {
@@ -86,7 +86,7 @@ shape-bound = begun depths 0 (λ n. Bound n 0) (λ n f. fits-bound n f 0)
 module _ {xs : List Record} (h : Shape guards [] xs) where
   pub whole-rule : h .due ≡ [] → IsRule (recordsBytes xs)
   whole-rule over =
-      let (f, fits, are) = completes (h .leads) in
+      let (f, fits, are) = completes (h .consumes) in
       let same : symbols f ≡ h .nodes = are ∙ ap (λ (l : List Guards). h .nodes ++ truths l) over ∙ append-nil (h .nodes) in
       let r : Rule = record { patterns = h .patterns; formula = f } in (
         r,
@@ -100,6 +100,6 @@ module _ {xs : List Record} (h : Shape guards [] xs) where
       let (same, nodes) = one-shape (h .patterns) (r .patterns) (h .nodes) (symbols f)
       (sym (h .are) ∙ same-records xs (records (r .patterns) (symbols f)) (is ∙ sym (rule-bytes r))) in
       let fits = well-formed-fits (length (r .patterns)) f [] (w .formula) in
-      let whole : Leads guards (length (h .patterns)) ([] ∷ []) (h .nodes) [] =
-      rw (same, nodes, ← append-nil (symbols f)) (formula-leads f fits done) in
-      leads-same (h .leads) whole
+      let whole : Consumes guards (length (h .patterns)) ([] ∷ []) (h .nodes) [] =
+      rw (same, nodes, ← append-nil (symbols f)) (formula-consumes f fits done) in
+      consumes-same (h .consumes) whole

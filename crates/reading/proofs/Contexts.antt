@@ -52,13 +52,13 @@ module _ (K : Contexts) (n : ℕ) where
   Fits c (variable d) = K .Binds c d
 
   -- a symbol that may come in a context, and the contexts of its parts
-  abbrev pub May : K .Context → Symbol → Type 0
-  May c Truth = Unit
-  May c Falsity = Unit
-  May c Both = Unit
-  May c (Necessity p) = p < n
-  May c Max = Unit
-  May c (Variable d) = K .Binds c d
+  abbrev pub Allows : K .Context → Symbol → Type 0
+  Allows c Truth = Unit
+  Allows c Falsity = Unit
+  Allows c Both = Unit
+  Allows c (Necessity p) = p < n
+  Allows c Max = Unit
+  Allows c (Variable d) = K .Binds c d
 
   abbrev pub parts : K .Context → Symbol → List (K .Context)
   parts c Truth = []
@@ -69,39 +69,39 @@ module _ (K : Contexts) (n : ℕ) where
   parts c (Variable d) = []
 
 -- the symbols lead from what was due to what is still due
-pub data Leads (K : Contexts) (n : ℕ) : List (K .Context) → List Symbol → List (K .Context) → Type 0 where
-  done : {due : List (K .Context)} → Leads K n due [] due
-  more : {c : K .Context} {due due′ : List (K .Context)} {x : Symbol} {xs : List Symbol} → May K n c x → Leads K n (parts K n c x ++ due) xs due′
-      → Leads K n (c ∷ due) (x ∷ xs) due′
+pub data Consumes (K : Contexts) (n : ℕ) : List (K .Context) → List Symbol → List (K .Context) → Type 0 where
+  done : {due : List (K .Context)} → Consumes K n due [] due
+  more : {c : K .Context} {due due′ : List (K .Context)} {x : Symbol} {xs : List Symbol} → Allows K n c x → Consumes K n (parts K n c x ++ due) xs due′
+      → Consumes K n (c ∷ due) (x ∷ xs) due′
 
 module _ {K : Contexts} {n : ℕ} where
   -- what is due follows from the symbols
-  pub leads-same : {due a b : List (K .Context)} {xs : List Symbol} → Leads K n due xs a → Leads K n due xs b → a ≡ b
-  leads-same done done = refl
-  leads-same (more may rest) (more may′ rest′) = leads-same rest rest′
+  pub consumes-same : {due a b : List (K .Context)} {xs : List Symbol} → Consumes K n due xs a → Consumes K n due xs b → a ≡ b
+  consumes-same done done = refl
+  consumes-same (more allows rest) (more allows′ rest′) = consumes-same rest rest′
 
-  pub leads-split : {due due′ : List (K .Context)} (xs : List Symbol) {ys : List Symbol} → Leads K n due (xs ++ ys) due′
-      → (mid : List (K .Context)) × Leads K n due xs mid × Leads K n mid ys due′
-  leads-split {due = due} [] leads = (due, done, leads)
-  leads-split (x ∷ xs) (more may rest) = let (mid, first, second) = leads-split xs rest in (mid, more may first, second)
+  pub consumes-split : {due due′ : List (K .Context)} (xs : List Symbol) {ys : List Symbol} → Consumes K n due (xs ++ ys) due′
+      → (mid : List (K .Context)) × Consumes K n due xs mid × Consumes K n mid ys due′
+  consumes-split {due = due} [] consumes = (due, done, consumes)
+  consumes-split (x ∷ xs) (more allows rest) = let (mid, first, second) = consumes-split xs rest in (mid, more allows first, second)
 
-  pub leads-join : {due mid due′ : List (K .Context)} {xs ys : List Symbol} → Leads K n due xs mid → Leads K n mid ys due′
-      → Leads K n due (xs ++ ys) due′
-  leads-join done second = second
-  leads-join (more may rest) second = more may (leads-join rest second)
+  pub consumes-join : {due mid due′ : List (K .Context)} {xs ys : List Symbol} → Consumes K n due xs mid → Consumes K n mid ys due′
+      → Consumes K n due (xs ++ ys) due′
+  consumes-join done second = second
+  consumes-join (more allows rest) second = more allows (consumes-join rest second)
 
   -- the symbols of a formula that fits take its context away
-  pub formula-leads : (f : Formula) {c : K .Context} {due due′ : List (K .Context)} {ys : List Symbol} → Fits K n c f → Leads K n due ys due′
-      → Leads K n (c ∷ due) (symbols f ++ ys) due′
-  formula-leads truth fits rest = more tt rest
-  formula-leads falsity fits rest = more tt rest
-  formula-leads (both f g) {c = c} {due = due} {due′ = due′} {ys = ys} fits rest =
-      let parts-lead : Leads K n (c ∷ c ∷ due) ((symbols f ++ symbols g) ++ ys) due′ =
-      rw (append-assoc (symbols f) (symbols g) ys) (formula-leads f (fits .0) (formula-leads g (fits .1) rest)) in
-      more tt parts-lead
-  formula-leads (necessity p f) fits rest = more (fits .0) (formula-leads f (fits .1) rest)
-  formula-leads (max f) fits rest = more tt (formula-leads f fits rest)
-  formula-leads (variable d) fits rest = more fits rest
+  pub formula-consumes : (f : Formula) {c : K .Context} {due due′ : List (K .Context)} {ys : List Symbol} → Fits K n c f → Consumes K n due ys due′
+      → Consumes K n (c ∷ due) (symbols f ++ ys) due′
+  formula-consumes truth fits rest = more tt rest
+  formula-consumes falsity fits rest = more tt rest
+  formula-consumes (both f g) {c = c} {due = due} {due′ = due′} {ys = ys} fits rest =
+      let parts-consumed : Consumes K n (c ∷ c ∷ due) ((symbols f ++ symbols g) ++ ys) due′ =
+      rw (append-assoc (symbols f) (symbols g) ys) (formula-consumes f (fits .0) (formula-consumes g (fits .1) rest)) in
+      more tt parts-consumed
+  formula-consumes (necessity p f) fits rest = more (fits .0) (formula-consumes f (fits .1) rest)
+  formula-consumes (max f) fits rest = more tt (formula-consumes f fits rest)
+  formula-consumes (variable d) fits rest = more fits rest
 
 -- ---- completing
 
@@ -134,34 +134,34 @@ module _ {K : Contexts} {n : ℕ} where
 
   module _ (c : K .Context) (due due′ : List (K .Context)) (xs : List Symbol) where
     -- formulas for the parts of a symbol, and one for the symbol
-    with-parts : (x : Symbol) → May K n c x → (fs : List Formula) → FitAll K n (parts K n c x ++ due) fs → allSymbols fs ≡ xs ++ truths due′
+    with-parts : (x : Symbol) → Allows K n c x → (fs : List Formula) → FitAll K n (parts K n c x ++ due) fs → allSymbols fs ≡ xs ++ truths due′
         → Completed K n (c ∷ due) (x ∷ xs) due′
-    with-parts Truth may fs fit e =
+    with-parts Truth allows fs fit e =
         record { formulas = truth ∷ fs; fit = one-more tt fit; are = ap (λ (l : List Symbol). Truth ∷ l) e }
-    with-parts Falsity may fs fit e =
+    with-parts Falsity allows fs fit e =
         record { formulas = falsity ∷ fs; fit = one-more tt fit; are = ap (λ (l : List Symbol). Falsity ∷ l) e }
-    with-parts Both may (f ∷ (g ∷ fs)) (one-more a (one-more b fit)) e = record {
+    with-parts Both allows (f ∷ (g ∷ fs)) (one-more a (one-more b fit)) e = record {
       formulas = both f g ∷ fs;
       fit = one-more {f = both f g} (a, b) fit;
       are = ap (λ (l : List Symbol). Both ∷ l) (append-assoc (symbols f) (symbols g) (allSymbols fs) ∙ e);
     }
-    with-parts Both may (f ∷ []) (one-more a b) e = elim b [ ]
-    with-parts (Necessity p) may (f ∷ fs) (one-more a fit) e =
-        record { formulas = necessity p f ∷ fs; fit = one-more {f = necessity p f} (may, a) fit; are = ap (λ (l : List Symbol). Necessity p ∷ l) e }
-    with-parts Max may (f ∷ fs) (one-more a fit) e =
+    with-parts Both allows (f ∷ []) (one-more a b) e = elim b [ ]
+    with-parts (Necessity p) allows (f ∷ fs) (one-more a fit) e =
+        record { formulas = necessity p f ∷ fs; fit = one-more {f = necessity p f} (allows, a) fit; are = ap (λ (l : List Symbol). Necessity p ∷ l) e }
+    with-parts Max allows (f ∷ fs) (one-more a fit) e =
         record { formulas = max f ∷ fs; fit = one-more a fit; are = ap (λ (l : List Symbol). Max ∷ l) e }
-    with-parts (Variable d) may fs fit e =
-        record { formulas = variable d ∷ fs; fit = one-more may fit; are = ap (λ (l : List Symbol). Variable d ∷ l) e }
+    with-parts (Variable d) allows fs fit e =
+        record { formulas = variable d ∷ fs; fit = one-more allows fit; are = ap (λ (l : List Symbol). Variable d ∷ l) e }
 
-  completed : {due due′ : List (K .Context)} {xs : List Symbol} → Leads K n due xs due′ → Completed K n due xs due′
+  completed : {due due′ : List (K .Context)} {xs : List Symbol} → Consumes K n due xs due′ → Completed K n due xs due′
   completed {due} done = all-true due
-  completed {due′ = due′} (more {c = c} {due = due} {x = x} {xs = xs} may rest) =
-      let h = completed rest in with-parts c due due′ xs x may (h .formulas) (h .fit) (h .are)
+  completed {due′ = due′} (more {c = c} {due = due} {x = x} {xs = xs} allows rest) =
+      let h = completed rest in with-parts c due due′ xs x allows (h .formulas) (h .fit) (h .are)
 
   -- one formula was due
-  pub completes : {c : K .Context} {due : List (K .Context)} {xs : List Symbol} → Leads K n (c ∷ []) xs due
+  pub completes : {c : K .Context} {due : List (K .Context)} {xs : List Symbol} → Consumes K n (c ∷ []) xs due
       → (f : Formula) × Fits K n c f × (symbols f ≡ xs ++ truths due)
-  completes {c} {due} {xs} leads = let h = completed leads in on (h .formulas) (h .fit) (h .are)
+  completes {c} {due} {xs} consumes = let h = completed consumes in on (h .formulas) (h .fit) (h .are)
     where
       on : (fs : List Formula) → FitAll K n (c ∷ []) fs → allSymbols fs ≡ xs ++ truths due
           → (f : Formula) × Fits K n c f × (symbols f ≡ xs ++ truths due)
@@ -203,12 +203,12 @@ fits-bound n (max f) k w = fits-bound n f (suc k) w
 fits-bound n (variable d) k w = w
 
 -- what goes well with guards goes well without
-pub leads-unguarded : {n : ℕ} {due due′ : List Guards} {xs : List Symbol} → Leads guards n due xs due′
-    → Leads depths n (map length due) xs (map length due′)
-leads-unguarded done = done
-leads-unguarded (more {x = Truth} may rest) = more tt (leads-unguarded rest)
-leads-unguarded (more {x = Falsity} may rest) = more tt (leads-unguarded rest)
-leads-unguarded (more {x = Both} may rest) = more tt (leads-unguarded rest)
-leads-unguarded (more {c = g} {x = Necessity p} may rest) = more may (rw (length-map g (λ b. true)) at (leads-unguarded rest))
-leads-unguarded (more {x = Max} may rest) = more tt (leads-unguarded rest)
-leads-unguarded (more {x = Variable d} may rest) = more (may .0) (leads-unguarded rest)
+pub consumes-unguarded : {n : ℕ} {due due′ : List Guards} {xs : List Symbol} → Consumes guards n due xs due′
+    → Consumes depths n (map length due) xs (map length due′)
+consumes-unguarded done = done
+consumes-unguarded (more {x = Truth} allows rest) = more tt (consumes-unguarded rest)
+consumes-unguarded (more {x = Falsity} allows rest) = more tt (consumes-unguarded rest)
+consumes-unguarded (more {x = Both} allows rest) = more tt (consumes-unguarded rest)
+consumes-unguarded (more {c = g} {x = Necessity p} allows rest) = more allows (rw (length-map g (λ b. true)) at (consumes-unguarded rest))
+consumes-unguarded (more {x = Max} allows rest) = more tt (consumes-unguarded rest)
+consumes-unguarded (more {x = Variable d} allows rest) = more (allows .0) (consumes-unguarded rest)

@@ -12,7 +12,7 @@ use borrow.Author.Tests.{ltb-true, ltb-false, leb-true, leb-false, eqb-true, eqb
 use Rattle.reading.specs.Pattern.{WellFormedPattern}
 use Rattle.reading.specs.Rule.{Guards, Bytes}
 use Rattle.reading.specs.File.{refused, andThen, patternAt, isPattern, necessityAt, variableAt, nodeAt}
-use Rattle.reading.specs.Faults.{Unfinished, KindAt, IsPattern, HasBody, NoKind, Fault, ended, pattern-cut, node-cut, no-kind, after-rule, late-pattern}
+use Rattle.reading.specs.Faults.{Unfinished, KindAt, IsPattern, HasBody, NoKind, Fault, file-ended, pattern-cut, node-cut, no-kind, after-rule, late-pattern}
 use Rattle.reading.specs.Faults.{pattern-33, node-65, bad-pattern, names-nothing, unguarded}
 use Rattle.reading.proofs.ByteLaws.{byte-at}
 use Rattle.reading.proofs.Outcomes.{never-accepted, neither, found, never-refused, refused-by}
@@ -21,8 +21,8 @@ use Rattle.reading.proofs.NodeBytes.{ofKind, node-accepts}
 use Rattle.reading.proofs.PatternBytes.{pattern-stands, one-stands}
 use Rattle.reading.proofs.Contexts.{guards, parts, done}
 use Rattle.reading.proofs.LeftToRight.{dueAt, due-over, headAt}
-use Rattle.reading.proofs.Reached.{Reached, reached-front, reached-rule, still-due, next-node, next-pattern, pattern-needed}
-use Rattle.reading.proofs.Reached.{node-needed, node-bound, bound-begins}
+use Rattle.reading.proofs.ReadTo.{ReadTo, front-read, rule-read-to, still-due, next-node, next-pattern, pattern-needed}
+use Rattle.reading.proofs.ReadTo.{node-needed, node-bound, bound-begins}
 use Rattle.reading.proofs.RecordsHere.{necessity-here, variable-here, pattern-here, pattern-stood, node-here}
 
 -- ---- a node
@@ -40,7 +40,7 @@ pattern-late s at zero none inside t =
     let z : true ≡ false = rw (lt-ltb at (length s) inside, t) at (none refl) in let z′ : _≡_ {A = ℕ} 0 1 = cc in absurd (omega arith)
 pattern-late s at (suc m) none inside t = omega arith
 
-module _ {s : List ℕ} {at n m : ℕ} {g : Guards} {due : List Guards} (h : Reached s at n m (g ∷ due)) {number place : ℕ} where
+module _ {s : List ℕ} {at n m : ℕ} {g : Guards} {due : List Guards} (h : ReadTo s at n m (g ∷ due)) {number place : ℕ} where
   necessity-fault : Byte s at 5 → m < 64 → necessityAt s n at ≡ refused number place → Fault s number place
   necessity-fault b few e =
       let kind : KindAt s at HasBody = (b .inside, inl (b .is)) in
@@ -88,7 +88,7 @@ module _ {s : List ℕ} {at n m : ℕ} {g : Guards} {due : List Guards} (h : Rea
   node-fault left count none e =
       let kind = getD s at 0 in
       found (Fault s) (leb (length s) at) 1 (length s) _ e
-      (λ t. ended (subst (λ (k : ℕ). Unfinished s k n m) (omega (arith, leb-true (length s) at t, h .inside)) (still-due h)))
+      (λ t. file-ended (subst (λ (k : ℕ). Unfinished s k n m) (omega (arith, leb-true (length s) at t, h .inside)) (still-due h)))
       (λ f e′.
       let inside : at < length s = leb-false _ _ f in
       found (Fault s) (eqb kind 0 || ltb 7 kind) 2 at _ e′
@@ -108,14 +108,14 @@ module _ {s : List ℕ} {at n m : ℕ} {g : Guards} {due : List Guards} (h : Rea
 
 -- ---- what is due
 
-ends-fault : (left : ℕ) {s : List ℕ} {at n m : ℕ} {number place : ℕ} → Reached s at n m [] → dueAt s left n at [] ≡ refused number place
+ends-fault : (left : ℕ) {s : List ℕ} {at n m : ℕ} {number place : ℕ} → ReadTo s at n m [] → dueAt s left n at [] ≡ refused number place
     → Fault s number place
 ends-fault left {s} {at} {n} h e =
     found (Fault s) (ltb at (length s)) 3 at _ (sym (due-over s left n at) ∙ e)
-    (λ t. after-rule (reached-front h) (reached-rule h refl) (ltb-true _ _ t))
+    (λ t. after-rule (front-read h) (rule-read-to h refl) (ltb-true _ _ t))
     (λ f e′. absurd (never-refused e′))
 
-due-fault : (left : ℕ) (due : List Guards) {s : List ℕ} {at n m : ℕ} {number place : ℕ} → Reached s at n m due → left + m ≡ 64
+due-fault : (left : ℕ) (due : List Guards) {s : List ℕ} {at n m : ℕ} {number place : ℕ} → ReadTo s at n m due → left + m ≡ 64
     → (m ≡ 0 → isPattern s at ≡ false) → dueAt s left n at due ≡ refused number place → Fault s number place
 unfolding dueAt
 due-fault zero [] h count none e = ends-fault zero h e
@@ -128,12 +128,12 @@ due-fault (suc left) (g ∷ due) {s} {at} {n} h count none e =
     refused-by (nodeAt s n at (suc left) g) _ e
     (node-fault h (suc left) count none)
     (λ r e′ e″.
-    let (stands, may) = node-here s at (node-accepts s n at (suc left) g r .0 e′ .1) in
-    due-fault left (parts guards n g (r .symbol) ++ due) (next-node h refl (omega arith) stands may) (omega arith) (λ z. absurd (omega arith)) e″)
+    let (stands, allows) = node-here s at (node-accepts s n at (suc left) g r .0 e′ .1) in
+    due-fault left (parts guards n g (r .symbol) ++ due) (next-node h refl (omega arith) stands allows) (omega arith) (λ z. absurd (omega arith)) e″)
 
 -- ---- the patterns
 
-module _ {s : List ℕ} {at n : ℕ} (h : Reached s at n 0 ([] ∷ [])) (b : Byte s at 1) where
+module _ {s : List ℕ} {at n : ℕ} (h : ReadTo s at n 0 ([] ∷ [])) (b : Byte s at 1) where
   abbrev kind : KindAt s at IsPattern
   kind = (b .inside, b .is)
 
@@ -168,7 +168,7 @@ module _ {s : List ℕ} {at n : ℕ} (h : Reached s at n 0 ([] ∷ [])) (b : Byt
       (λ t. bad few whole (λ w. omega (arith, w .in-order, ltb-true last first t)))
       (λ f₅ e₆. absurd (never-refused e₆)))))))
 
-head-fault : (left : ℕ) {s : List ℕ} → Bytes s → {at n : ℕ} {number place : ℕ} → Reached s at n 0 ([] ∷ []) → left + n ≡ 32
+head-fault : (left : ℕ) {s : List ℕ} → Bytes s → {at n : ℕ} {number place : ℕ} → ReadTo s at n 0 ([] ∷ []) → left + n ≡ 32
     → headAt s left n at ≡ refused number place → Fault s number place
 unfolding headAt
 head-fault zero {s} bytes {at} {n} {number} {place} h count e = on (isPattern s at) refl e
@@ -185,7 +185,7 @@ head-fault (suc left) {s} bytes {at} {n} {number} {place} h count e =
   where
     on : (c : Bool) → isPattern s at ≡ c
         → cond c (andThen (patternAt s at (suc left)) (λ p. headAt s left (suc n) (at + 4))) (dueAt s 64 n at ([] ∷ [])) ≡ refused number place
-        → (Reached s (at + 4) (suc n) 0 ([] ∷ []) → left + suc n ≡ 32 → headAt s left (suc n) (at + 4) ≡ refused number place → Fault s number place)
+        → (ReadTo s (at + 4) (suc n) 0 ([] ∷ []) → left + suc n ≡ 32 → headAt s left (suc n) (at + 4) ≡ refused number place → Fault s number place)
         → Fault s number place
     on true is e′ later =
         let b = one-stands s at is in
@@ -207,5 +207,5 @@ fault-found s bytes = head-fault 32 bytes (record {
   few-patterns = omega arith;
   few-nodes = omega arith;
   well-formed = tt;
-  leads = done;
+  consumes = done;
 }) refl

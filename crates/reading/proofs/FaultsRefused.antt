@@ -12,7 +12,7 @@ use borrow.Author.Tests.{leb-true, leb-false, lt-ltb, le-ltb, eqb-true}
 use Rattle.reading.specs.Rule.{Guards, Rule, Bytes}
 use Rattle.reading.specs.File.{Outcome, accepted, refused, patternAt, isPattern, NodeRecord, Symbol, necessityAt, variableAt, nodeAt, ruleOf}
 use Rattle.reading.specs.Faults.{IsPattern, NoKind, IsNode, HasBody, IsVariable, KindAt, BeginsRule, BeginsBound, IsRule, Fault}
-use Rattle.reading.specs.Faults.{ended, pattern-cut, node-cut, no-kind, after-rule, late-pattern, pattern-33, node-65, bad-pattern, names-nothing}
+use Rattle.reading.specs.Faults.{file-ended, pattern-cut, node-cut, no-kind, after-rule, late-pattern, pattern-33, node-65, bad-pattern, names-nothing}
 use Rattle.reading.specs.Faults.{unguarded}
 use Rattle.reading.specs.Numbered.{readingOf}
 use Rattle.reading.specs.Promises.{RefusesAtTheFault}
@@ -25,13 +25,13 @@ use Rattle.reading.proofs.ByteLaws.{byte-at}
 use Rattle.reading.proofs.Outcomes.{found, never-refused}
 use Rattle.reading.proofs.Checks as checks
 use Rattle.reading.proofs.Places.{Byte}
-use Rattle.reading.proofs.Contexts.{guards, Leads, done, leads-same}
+use Rattle.reading.proofs.Contexts.{guards, Consumes, done, consumes-same}
 use Rattle.reading.proofs.PatternBytes.{pattern-stands}
 use Rattle.reading.proofs.LeftToRight.{dueAt, due-over, headAt, refused-left-to-right}
-use Rattle.reading.proofs.Reached.{Reached, reached-front, reached-over, next-node, next-pattern, node-bound, bound-begins}
+use Rattle.reading.proofs.ReadTo.{ReadTo, front-read, over-read, next-node, next-pattern, node-bound, bound-begins}
 use Rattle.reading.proofs.RecordsHere.{necessity-here, variable-here, pattern-stood}
 use Rattle.reading.proofs.FaultsFound.{fault-found}
-use Rattle.reading.proofs.GoingOn.{no-pattern, reach-due, reach-head, front-reached, unfinished-reached}
+use Rattle.reading.proofs.GoingOn.{no-pattern, go-to-node, go-to-pattern, read-to-front, read-to-unfinished}
 
 -- ---- from what a reader's function finds to its outcome
 
@@ -62,10 +62,10 @@ answer-refused (refused m at) number place = (λ e. cc, λ e. cc)
 
 -- ---- at a node
 
-module _ {s : List ℕ} {at n m : ℕ} {g : Guards} {due : List Guards} (h : Reached s at n m (g ∷ due)) where
+module _ {s : List ℕ} {at n m : ℕ} {g : Guards} {due : List Guards} (h : ReadTo s at n m (g ∷ due)) where
   node-refused : {number place : ℕ} → (m ≡ 0 → isPattern s at ≡ false) → NodeRead.Refused number place ≡ nodeRead (nodeAt s n at (64 - m) g)
       → headAt s 32 0 0 ≡ refused number place
-  node-refused none e = reach-due h none ∙ due-refused s (64 - m) n at g due (node-told (nodeAt s n at (64 - m) g) e)
+  node-refused none e = go-to-node h none ∙ due-refused s (64 - m) n at g due (node-told (nodeAt s n at (64 - m) g) e)
 
   ended-refused : at ≡ length s → headAt s 32 0 0 ≡ refused 1 (length s)
   ended-refused e =
@@ -126,7 +126,7 @@ module _ {s : List ℕ} {at n m : ℕ} {g : Guards} {due : List Guards} (h : Rea
       let here = variable-here s at (record { inside = inside; is = is }) (omega arith) in
       let bound = node-bound h here begins in
       on (getD g (getD s (at + 1) 0) false) refl
-      (variable-refused few (inside, is)) (λ guard. none (reached-front (next-node h refl few here (bound, guard)) .begins)) bound
+      (variable-refused few (inside, is)) (λ guard. none (front-read (next-node h refl few here (bound, guard)) .begins)) bound
     where
       on : (c : Bool) → getD g (getD s (at + 1) 0) false ≡ c
           → (NodeRead.Refused 7 at ≡ nodeRead (variableAt s g at) → headAt s 32 0 0 ≡ refused 7 at)
@@ -137,21 +137,21 @@ module _ {s : List ℕ} {at n m : ℕ} {g : Guards} {due : List Guards} (h : Rea
 -- ---- after a whole formula
 
 -- before any node a formula is due
-first-due : {s : List ℕ} {at n : ℕ} {due : List Guards} → Reached s at n 0 due → due ≡ [] ∷ []
-first-due {n = n} {due = due} h = on (h .nodes) (h .nnodes) (h .leads)
+first-due : {s : List ℕ} {at n : ℕ} {due : List Guards} → ReadTo s at n 0 due → due ≡ [] ∷ []
+first-due {n = n} {due = due} h = on (h .nodes) (h .nnodes) (h .consumes)
   where
-    on : (xs : List Symbol) → length xs ≡ 0 → Leads guards n ([] ∷ []) xs due → due ≡ [] ∷ []
-    on [] e leads = leads-same leads done
-    on (x ∷ xs) e leads = absurd (omega arith)
+    on : (xs : List Symbol) → length xs ≡ 0 → Consumes guards n ([] ∷ []) xs due → due ≡ [] ∷ []
+    on [] e consumes = consumes-same consumes done
+    on (x ∷ xs) e consumes = absurd (omega arith)
 
-after-refused : {s : List ℕ} {at n m : ℕ} {due : List Guards} → Reached s at n m due → IsRule (take at s) → at < length s
+after-refused : {s : List ℕ} {at n m : ℕ} {due : List Guards} → ReadTo s at n m due → IsRule (take at s) → at < length s
     → headAt s 32 0 0 ≡ refused 3 at
 after-refused {s} {at} {n} {m} {due} h whole inside =
-    let over : due ≡ [] = reached-over h whole in
-    reach-due h (λ z. absurd (some m z h over))
+    let over : due ≡ [] = over-read h whole in
+    go-to-node h (λ z. absurd (some m z h over))
     ∙ (ap (dueAt s (64 - m) n at) over ∙ (due-over s (64 - m) n at ∙ rw (lt-ltb at (length s) inside)))
   where
-    some : (m : ℕ) → m ≡ 0 → Reached s at n m due → due ≡ [] → ⊥
+    some : (m : ℕ) → m ≡ 0 → ReadTo s at n m due → due ≡ [] → ⊥
     some zero z h over = let e = first-due h in let z′ : _≡_ {A = ℕ} 0 1 = cc in omega arith
     some (suc m) z h over = omega arith
 
@@ -160,9 +160,9 @@ after-refused {s} {at} {n} {m} {due} h whole inside =
 abbrev FiveAt : (at number place : ℕ) → Type 0
 FiveAt at number place = (number ≡ 5) × (place ≡ at)
 
-module _ {s : List ℕ} {at n : ℕ} {due : List Guards} (h : Reached s at n 0 due) (kind : KindAt s at IsPattern) where
+module _ {s : List ℕ} {at n : ℕ} {due : List Guards} (h : ReadTo s at n 0 due) (kind : KindAt s at IsPattern) where
   pattern-refused : {number place : ℕ} → patternAt s at (32 - n) ≡ refused number place → headAt s 32 0 0 ≡ refused number place
-  pattern-refused e = reach-head h ∙ head-refused s (32 - n) n at (rw (lt-ltb at (length s) (kind .0), kind .1)) e
+  pattern-refused e = go-to-pattern h ∙ head-refused s (32 - n) n at (rw (lt-ltb at (length s) (kind .0), kind .1)) e
 
   told : {number place : ℕ} → PatternRead.Refused number place ≡ patternRead (patternAt s at (32 - n)) → headAt s 32 0 0 ≡ refused number place
   told e = pattern-refused (pattern-told (patternAt s at (32 - n)) e)
@@ -192,24 +192,24 @@ module _ {s : List ℕ} {at n : ℕ} {due : List Guards} (h : Reached s at n 0 d
       on (accepted p) e say =
           let stands = pattern-stands s at (32 - n) p (byte-at s bytes (at + 1)) e in
           let b : Byte s at 1 = record { inside = kind .0; is = kind .1 } in
-          absurd (none (reached-front (next-pattern h few (pattern-stood s at b stands) (stands .well-formed)) .begins))
+          absurd (none (front-read (next-pattern h few (pattern-stood s at b stands) (stands .well-formed)) .begins))
       on (refused number place) e say = let (is, here) = five few whole e in say 5 at (e ∙ rw (is, here))
 
 -- ---- every clause
 
 fault-refused : (s : List ℕ) → Bytes s → {number place : ℕ} → Fault s number place → headAt s 32 0 0 ≡ refused number place
-fault-refused s bytes (ended u) = let (g, due, h) = unfinished-reached u in ended-refused h refl
-fault-refused s bytes (pattern-cut u kind few cut) = let (g, due, h) = unfinished-reached u in pattern-cut-refused h kind few cut
-fault-refused s bytes (node-cut u kind few cut) = let (g, due, h) = unfinished-reached u in cut-refused h kind few cut
-fault-refused s bytes (no-kind u kind) = let (g, due, h) = unfinished-reached u in kind-refused h kind
-fault-refused s bytes (after-rule front whole inside) = let (due, h) = front-reached front in after-refused h whole inside
-fault-refused s bytes (late-pattern u kind begun) = let (g, due, h) = unfinished-reached u in late-refused h kind begun
-fault-refused s bytes (pattern-33 u kind) = let (g, due, h) = unfinished-reached u in pattern-33-refused h kind refl
-fault-refused s bytes (node-65 u kind) = let (g, due, h) = unfinished-reached u in full-refused h kind refl
-fault-refused s bytes (bad-pattern u kind few whole none) = let (g, due, h) = unfinished-reached u in bad-refused h kind bytes few whole none
-fault-refused s bytes (names-nothing u kind few whole none) = let (g, due, h) = unfinished-reached u in nothing-refused h kind few whole none
+fault-refused s bytes (file-ended u) = let (g, due, h) = read-to-unfinished u in ended-refused h refl
+fault-refused s bytes (pattern-cut u kind few cut) = let (g, due, h) = read-to-unfinished u in pattern-cut-refused h kind few cut
+fault-refused s bytes (node-cut u kind few cut) = let (g, due, h) = read-to-unfinished u in cut-refused h kind few cut
+fault-refused s bytes (no-kind u kind) = let (g, due, h) = read-to-unfinished u in kind-refused h kind
+fault-refused s bytes (after-rule front whole inside) = let (due, h) = read-to-front front in after-refused h whole inside
+fault-refused s bytes (late-pattern u kind begun) = let (g, due, h) = read-to-unfinished u in late-refused h kind begun
+fault-refused s bytes (pattern-33 u kind) = let (g, due, h) = read-to-unfinished u in pattern-33-refused h kind refl
+fault-refused s bytes (node-65 u kind) = let (g, due, h) = read-to-unfinished u in full-refused h kind refl
+fault-refused s bytes (bad-pattern u kind few whole none) = let (g, due, h) = read-to-unfinished u in bad-refused h kind bytes few whole none
+fault-refused s bytes (names-nothing u kind few whole none) = let (g, due, h) = read-to-unfinished u in nothing-refused h kind few whole none
 fault-refused s bytes (unguarded u kind few whole none begins) =
-    let (g, due, h) = unfinished-reached u in unguarded-refused h kind few whole none begins
+    let (g, due, h) = read-to-unfinished u in unguarded-refused h kind few whole none begins
 
 pub refuses-at-the-fault : RefusesAtTheFault
 refuses-at-the-fault s bytes number place =

@@ -16,26 +16,26 @@ use Rattle.reading.specs.declared.Pattern.{Pattern}
 use Rattle.reading.proofs.Places.{byte-of, first-byte, rest-of, rest-after}
 use Rattle.reading.proofs.NodeBytes.{NodeStands, bare, of-necessity, of-variable, bare-truth, bare-falsity, bare-both, bare-max, node-accepts}
 use Rattle.reading.proofs.PatternBytes.{PatternStands, pattern-reads}
-use Rattle.reading.proofs.Contexts.{guards, May, Leads, done, more}
+use Rattle.reading.proofs.Contexts.{guards, Allows, Consumes, done, more}
 use Rattle.reading.proofs.Records.{records, bytes-of-both, patterns-in, nodes-in}
 use Rattle.reading.proofs.Beginnings.{rule-shape}
 use Rattle.reading.proofs.LeftToRight.{dueAt, headAt}
-use Rattle.reading.proofs.Reached.{Reached, reached-rule}
+use Rattle.reading.proofs.ReadTo.{ReadTo, rule-read-to}
 
 module _ (s : List ℕ) where
   -- ---- a record that may come next is read
 
-  node-stands : {n at : ℕ} {g : Guards} (x : Symbol) (rest : List ℕ) → May guards n g x → drop at s ≡ recordBytes (node x) ++ rest
+  node-stands : {n at : ℕ} {g : Guards} (x : Symbol) (rest : List ℕ) → Allows guards n g x → drop at s ≡ recordBytes (node x) ++ rest
       → NodeStands s n at g (record { symbol = x; next = at + length (recordBytes (node x)) })
-  node-stands {at = at} Truth rest may from = bare bare-truth (first-byte s at from)
-  node-stands {at = at} Falsity rest may from = bare bare-falsity (first-byte s at from)
-  node-stands {at = at} Both rest may from = bare bare-both (first-byte s at from)
-  node-stands {at = at} Max rest may from = bare bare-max (first-byte s at from)
-  node-stands {at = at} (Necessity p) rest may from = of-necessity may (first-byte s at from) (byte-of s at 1 (at + 1) from refl (omega arith))
-  node-stands {at = at} (Variable d) rest may from =
-      of-variable (may .0) (may .1) (first-byte s at from) (byte-of s at 1 (at + 1) from refl (omega arith))
+  node-stands {at = at} Truth rest allows from = bare bare-truth (first-byte s at from)
+  node-stands {at = at} Falsity rest allows from = bare bare-falsity (first-byte s at from)
+  node-stands {at = at} Both rest allows from = bare bare-both (first-byte s at from)
+  node-stands {at = at} Max rest allows from = bare bare-max (first-byte s at from)
+  node-stands {at = at} (Necessity p) rest allows from = of-necessity allows (first-byte s at from) (byte-of s at 1 (at + 1) from refl (omega arith))
+  node-stands {at = at} (Variable d) rest allows from =
+      of-variable (allows .0) (allows .1) (first-byte s at from) (byte-of s at 1 (at + 1) from refl (omega arith))
 
-  nodes-go : {n : ℕ} {due due′ : List Guards} {xs : List Symbol} → Leads guards n due xs due′ → (left left′ at at′ : ℕ) (rest : List ℕ)
+  nodes-go : {n : ℕ} {due due′ : List Guards} {xs : List Symbol} → Consumes guards n due xs due′ → (left left′ at at′ : ℕ) (rest : List ℕ)
       → left ≡ length xs + left′ → at′ ≡ at + length (recordsBytes (map node xs)) → drop at s ≡ recordsBytes (map node xs) ++ rest
       → dueAt s left n at due ≡ dueAt s left′ n at′ due′
   unfolding dueAt
@@ -43,13 +43,13 @@ module _ (s : List ℕ) where
       let same : left ≡ left′ = omega arith in
       let same′ : at ≡ at′ = omega arith in
       rw (same, same′)
-  nodes-go {xs = x ∷ xs} (more may leads) zero left′ at at′ rest count ends from = absurd (omega arith)
-  nodes-go {n} (more {c = g} {due = due} {x = x} {xs = xs} may leads) (suc left) left′ at at′ rest count ends from =
+  nodes-go {xs = x ∷ xs} (more allows consumes) zero left′ at at′ rest count ends from = absurd (omega arith)
+  nodes-go {n} (more {c = g} {due = due} {x = x} {xs = xs} allows consumes) (suc left) left′ at at′ rest count ends from =
       let bs = recordBytes (node x) in
       let from′ : drop at s ≡ bs ++ (recordsBytes (map node xs) ++ rest) = from ∙ append-assoc bs (recordsBytes (map node xs)) rest in
-      let stands = node-stands {at = at} {g = g} x (recordsBytes (map node xs) ++ rest) may from′ in
+      let stands = node-stands {at = at} {g = g} x (recordsBytes (map node xs) ++ rest) allows from′ in
       rw (node-accepts s n at (suc left) g _ .1 (omega arith, stands))
-      (nodes-go leads left left′ (at + length bs) at′ rest (omega arith) (omega (arith, length-append bs (recordsBytes (map node xs))))
+      (nodes-go consumes left left′ (at + length bs) at′ rest (omega arith) (omega (arith, length-append bs (recordsBytes (map node xs))))
       (rest-after s at bs from′))
 
   patterns-go : (ps : List Pattern) (left left′ n n′ at at′ : ℕ) (rest : List ℕ) → All WellFormedPattern ps → left ≡ length ps + left′
@@ -94,7 +94,7 @@ module _ (s : List ℕ) where
 
 -- ---- to a place
 
-module _ {s : List ℕ} {at n m : ℕ} {due : List Guards} (h : Reached s at n m due) where
+module _ {s : List ℕ} {at n m : ℕ} {due : List Guards} (h : ReadTo s at n m due) where
   abbrev patternBytes : List ℕ
   patternBytes = recordsBytes (map pattern (h .patterns))
 
@@ -131,15 +131,15 @@ module _ {s : List ℕ} {at n m : ℕ} {due : List Guards} (h : Reached s at n m
           node-first s (length patternBytes) x (rest ++ drop at s)
           (formula-from ∙ (ap (λ (l : List ℕ). l ++ drop at s) bytes ∙ append-assoc (recordBytes (node x)) rest (drop at s)))
 
-  pub reach-due : (m ≡ 0 → isPattern s at ≡ false) → headAt s 32 0 0 ≡ dueAt s (64 - m) n at due
-  reach-due none =
+  pub go-to-node : (m ≡ 0 → isPattern s at ≡ false) → headAt s 32 0 0 ≡ dueAt s (64 - m) n at due
+  go-to-node none =
       to-formula
       ∙ (head-over s (32 - n) n (length patternBytes) (formula-first none)
-      ∙ nodes-go s (h .leads) 64 (64 - m) (length patternBytes) at (drop at s) (omega (arith, h .nnodes, h .few-nodes)) place-is formula-from)
+      ∙ nodes-go s (h .consumes) 64 (64 - m) (length patternBytes) at (drop at s) (omega (arith, h .nnodes, h .few-nodes)) place-is formula-from)
 
 -- before the formula
-pub reach-head : {s : List ℕ} {at n : ℕ} {due : List Guards} → Reached s at n 0 due → headAt s 32 0 0 ≡ headAt s (32 - n) n at
-reach-head {s} {at} {n} h =
+pub go-to-pattern : {s : List ℕ} {at n : ℕ} {due : List Guards} → ReadTo s at n 0 due → headAt s 32 0 0 ≡ headAt s (32 - n) n at
+go-to-pattern {s} {at} {n} h =
     let none : length (nodeBytes h) ≡ 0 = on (h .nodes) (h .nnodes) in
     let same : length (patternBytes h) ≡ at = omega (arith, place-is h) in
     rw same at (to-formula h)
@@ -150,8 +150,8 @@ reach-head {s} {at} {n} h =
 
 -- ---- the places of faults
 
-pub front-reached : {s : List ℕ} {at n m : ℕ} → Front s at n m → (due : List Guards) × Reached s at n m due
-front-reached {s} {at} {n} {m} f =
+pub read-to-front : {s : List ℕ} {at n m : ℕ} → Front s at n m → (due : List Guards) × ReadTo s at n m due
+read-to-front {s} {at} {n} {m} f =
     let h = rule-shape (f .records) (subst BeginsRule (f .are) (f .begins)) in
     let patterns-are : length (h .patterns) ≡ n =
     sym (patterns-in (h .patterns) (h .nodes)) ∙ (sym (ap patternsIn (h .are)) ∙ f .patterns-are) in
@@ -168,13 +168,13 @@ front-reached {s} {at} {n} {m} f =
         few-patterns = f .few-patterns;
         few-nodes = f .few-nodes;
         well-formed = h .well-formed;
-        leads = rw patterns-are at (h .leads);
+        consumes = rw patterns-are at (h .consumes);
       },
     )
 
-pub unfinished-reached : {s : List ℕ} {at n m : ℕ} → Unfinished s at n m → (g : Guards) × (due : List Guards) × Reached s at n m (g ∷ due)
-unfinished-reached {s} {at} {n} {m} u = let (due, h) = front-reached (u .front) in on due h
+pub read-to-unfinished : {s : List ℕ} {at n m : ℕ} → Unfinished s at n m → (g : Guards) × (due : List Guards) × ReadTo s at n m (g ∷ due)
+read-to-unfinished {s} {at} {n} {m} u = let (due, h) = read-to-front (u .front) in on due h
   where
-    on : (due : List Guards) → Reached s at n m due → (g : Guards) × (due : List Guards) × Reached s at n m (g ∷ due)
-    on [] h = absurd (u .unfinished (reached-rule h refl))
+    on : (due : List Guards) → ReadTo s at n m due → (g : Guards) × (due : List Guards) × ReadTo s at n m (g ∷ due)
+    on [] h = absurd (u .unfinished (rule-read-to h refl))
     on (g ∷ due) h = (g, due, h)

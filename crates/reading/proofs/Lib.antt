@@ -30,7 +30,7 @@ pub mod Contexts
 pub mod Records
 pub mod Beginnings
 pub mod LeftToRight
-pub mod Reached
+pub mod ReadTo
 pub mod RecordsHere
 pub mod FaultsFound
 pub mod GoingOn

@@ -11,8 +11,8 @@ use Rattle.reading.specs.declared.Pattern.{Pattern}
 use Rattle.reading.proofs.Places.{Byte, from-byte}
 use Rattle.reading.proofs.NodeBytes.{NodeStands, bare, of-necessity, of-variable, bare-truth, bare-falsity, bare-both, bare-max}
 use Rattle.reading.proofs.PatternBytes.{PatternStands}
-use Rattle.reading.proofs.Contexts.{guards, May}
-use Rattle.reading.proofs.Reached.{Stands}
+use Rattle.reading.proofs.Contexts.{guards, Allows}
+use Rattle.reading.proofs.ReadTo.{Stands}
 
 module _ (s : List ℕ) (at : ℕ) where
   -- the byte i places on
@@ -47,7 +47,7 @@ module _ (s : List ℕ) (at : ℕ) where
   pub pattern-stood : {left : ℕ} {p : Pattern} → Byte s at 1 → PatternStands s at left p → Stands s at (at + 4) (pattern p)
   pattern-stood {p = p} b h = rw (h .mask .is, h .first .is, h .last .is) at (pattern-here b (h .last .inside))
 
-  pub node-here : {n : ℕ} {g : Guards} {r : NodeRecord} → NodeStands s n at g r → Stands s at (r .next) (node (r .symbol)) × May guards n g (r .symbol)
+  pub node-here : {n : ℕ} {g : Guards} {r : NodeRecord} → NodeStands s n at g r → Stands s at (r .next) (node (r .symbol)) × Allows guards n g (r .symbol)
   node-here (bare bare-truth b) = (record { bytes = from-byte (at + 1) b refl; ends = refl; inside = omega (arith, b .inside) }, tt)
   node-here (bare bare-falsity b) = (record { bytes = from-byte (at + 1) b refl; ends = refl; inside = omega (arith, b .inside) }, tt)
   node-here (bare bare-both b) = (record { bytes = from-byte (at + 1) b refl; ends = refl; inside = omega (arith, b .inside) }, tt)

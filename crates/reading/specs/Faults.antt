@@ -110,7 +110,7 @@ IsVariable k = k ≡ 7
 -- Refused with this number at this place. n and m count the patterns and the nodes before it.
 pub data Fault (s : List ℕ) : (number place : ℕ) → Type 0 where
   -- 1: the file ends where a record is due, or inside one that may come next
-  ended : {n m : ℕ} → Unfinished s (length s) n m → Fault s 1 (length s)
+  file-ended : {n m : ℕ} → Unfinished s (length s) n m → Fault s 1 (length s)
   pattern-cut : {at n : ℕ} → Unfinished s at n 0 → KindAt s at IsPattern → n < 32 → length s < at + 4 → Fault s 1 (length s)
   node-cut : {at n m : ℕ} → Unfinished s at n m → KindAt s at HasBody → m < 64 → length s < at + 2 → Fault s 1 (length s)
   -- 2: a kind that isn't 1 to 7

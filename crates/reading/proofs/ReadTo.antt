@@ -12,11 +12,11 @@ use Rattle.reading.specs.File.{Symbol}
 use Rattle.reading.specs.Faults.{Record, pattern, node, recordBytes, recordsBytes, BeginsRule, BeginsBound, IsRule, Front, Unfinished}
 use Rattle.reading.specs.declared.Pattern.{Pattern}
 use Rattle.reading.proofs.AllLaws.{all-append, all-last}
-use Rattle.reading.proofs.Contexts.{Contexts, guards, depths, May, parts, Leads, done, more, leads-same, leads-split, leads-join, leads-unguarded}
+use Rattle.reading.proofs.Contexts.{Contexts, guards, depths, Allows, parts, Consumes, done, more, consumes-same, consumes-split, consumes-join, consumes-unguarded}
 use Rattle.reading.proofs.Records.{records, bytes-of-both, patterns-in, nodes-in, more-nodes, one-more-pattern, one-shape}
 use Rattle.reading.proofs.Beginnings.{Shape, rule-shape, shape-begins, bound-shape, shape-bound, whole-rule, rule-over}
 
-pub record Reached (s : List ℕ) (at n m : ℕ) (due : List Guards) : Type 0 where
+pub record ReadTo (s : List ℕ) (at n m : ℕ) (due : List Guards) : Type 0 where
   pub inside : at ≤ length s
   pub patterns : List Pattern
   pub nodes : List Symbol
@@ -26,9 +26,9 @@ pub record Reached (s : List ℕ) (at n m : ℕ) (due : List Guards) : Type 0 wh
   pub few-patterns : n ≤ 32
   pub few-nodes : m ≤ 64
   pub well-formed : All WellFormedPattern patterns
-  pub leads : Leads guards n ([] ∷ []) nodes due
+  pub consumes : Consumes guards n ([] ∷ []) nodes due
 
-module _ {s : List ℕ} {at n m : ℕ} {due : List Guards} (h : Reached s at n m due) where
+module _ {s : List ℕ} {at n m : ℕ} {due : List Guards} (h : ReadTo s at n m due) where
   shape : Shape guards [] (records (h .patterns) (h .nodes))
   shape = record {
     patterns = h .patterns;
@@ -36,11 +36,11 @@ module _ {s : List ℕ} {at n m : ℕ} {due : List Guards} (h : Reached s at n m
     are = refl;
     well-formed = h .well-formed;
     due = due;
-    leads = rw (h .npatterns) (h .leads);
+    consumes = rw (h .npatterns) (h .consumes);
   }
 
-  pub reached-front : Front s at n m
-  reached-front = record {
+  pub front-read : Front s at n m
+  front-read = record {
     inside = h .inside;
     records = records (h .patterns) (h .nodes);
     are = h .are;
@@ -51,18 +51,18 @@ module _ {s : List ℕ} {at n m : ℕ} {due : List Guards} (h : Reached s at n m
     begins = subst BeginsRule (sym (h .are)) (shape-begins shape);
   }
 
-  pub reached-rule : due ≡ [] → IsRule (take at s)
+  pub rule-read-to : due ≡ [] → IsRule (take at s)
   unfolding shape
-  reached-rule over = subst IsRule (sym (h .are)) (whole-rule shape over)
+  rule-read-to over = subst IsRule (sym (h .are)) (whole-rule shape over)
 
-  pub reached-over : IsRule (take at s) → due ≡ []
+  pub over-read : IsRule (take at s) → due ≡ []
   unfolding shape
-  reached-over whole = rule-over shape (subst IsRule (h .are) whole)
+  over-read whole = rule-over shape (subst IsRule (h .are) whole)
 
-pub still-due : {s : List ℕ} {at n m : ℕ} {g : Guards} {due : List Guards} → Reached s at n m (g ∷ due) → Unfinished s at n m
+pub still-due : {s : List ℕ} {at n m : ℕ} {g : Guards} {due : List Guards} → ReadTo s at n m (g ∷ due) → Unfinished s at n m
 still-due h = record {
-  front = reached-front h;
-  unfinished = λ whole. let e = reached-over h whole in let z : _≡_ {A = ℕ} 0 1 = cc in omega arith;
+  front = front-read h;
+  unfinished = λ whole. let e = over-read h whole in let z : _≡_ {A = ℕ} 0 1 = cc in omega arith;
 }
 
 -- ---- one more record
@@ -82,14 +82,14 @@ module _ {s : List ℕ} {at next : ℕ} {x : Record} (b : Stands s at next x) wh
       ∙ (take-add at (length (recordBytes x)) s
       ∙ (rw (here, are, ← append-nil (recordBytes x)) (sym (bytes-of-both xs (x ∷ [])))))
 
-module _ {s : List ℕ} {at n m : ℕ} {due : List Guards} (h : Reached s at n m due) {next : ℕ} where
+module _ {s : List ℕ} {at n m : ℕ} {due : List Guards} (h : ReadTo s at n m due) {next : ℕ} where
   pub node-on : {x : Symbol} → Stands s at next (node x) → take next s ≡ recordsBytes (records (h .patterns) (h .nodes ++ x ∷ []))
   node-on {x} b =
       with-record b (records (h .patterns) (h .nodes)) (h .are) ∙ ap recordsBytes (sym (more-nodes (h .patterns) (h .nodes) (x ∷ [])))
 
-  pub next-node : {g : Guards} {others : List Guards} → due ≡ g ∷ others → m < 64 → {x : Symbol} → Stands s at next (node x) → May guards n g x
-      → Reached s next n (suc m) (parts guards n g x ++ others)
-  next-node is few {x} b may = record {
+  pub next-node : {g : Guards} {others : List Guards} → due ≡ g ∷ others → m < 64 → {x : Symbol} → Stands s at next (node x) → Allows guards n g x
+      → ReadTo s next n (suc m) (parts guards n g x ++ others)
+  next-node is few {x} b allows = record {
     inside = b .inside;
     patterns = h .patterns;
     nodes = h .nodes ++ x ∷ [];
@@ -99,11 +99,11 @@ module _ {s : List ℕ} {at n m : ℕ} {due : List Guards} (h : Reached s at n m
     few-patterns = h .few-patterns;
     few-nodes = omega arith;
     well-formed = h .well-formed;
-    leads = leads-join (rw is at (h .leads)) (more may done);
+    consumes = consumes-join (rw is at (h .consumes)) (more allows done);
   }
 
 -- no node yet
-module _ {s : List ℕ} {at n : ℕ} {due : List Guards} (h : Reached s at n 0 due) where
+module _ {s : List ℕ} {at n : ℕ} {due : List Guards} (h : ReadTo s at n 0 due) where
   no-nodes : h .nodes ≡ []
   no-nodes = on (h .nodes) (h .nnodes)
     where
@@ -115,7 +115,7 @@ module _ {s : List ℕ} {at n : ℕ} {due : List Guards} (h : Reached s at n 0 d
   pattern-on {p = p} b =
       with-record b (records (h .patterns) []) (rw no-nodes at (h .are)) ∙ ap recordsBytes (sym (one-more-pattern (h .patterns) p))
 
-  pub next-pattern : {next : ℕ} {p : Pattern} → n < 32 → Stands s at next (pattern p) → WellFormedPattern p → Reached s next (suc n) 0 ([] ∷ [])
+  pub next-pattern : {next : ℕ} {p : Pattern} → n < 32 → Stands s at next (pattern p) → WellFormedPattern p → ReadTo s next (suc n) 0 ([] ∷ [])
   next-pattern {p = p} few b w = record {
     inside = b .inside;
     patterns = h .patterns ++ p ∷ [];
@@ -126,7 +126,7 @@ module _ {s : List ℕ} {at n : ℕ} {due : List Guards} (h : Reached s at n 0 d
     few-patterns = omega arith;
     few-nodes = omega arith;
     well-formed = all-append WellFormedPattern (h .patterns) (p ∷ []) (h .well-formed) (w, tt);
-    leads = done;
+    consumes = done;
   }
 
   -- ---- what the next record must be like
@@ -137,37 +137,37 @@ module _ {s : List ℕ} {at n : ℕ} {due : List Guards} (h : Reached s at n 0 d
       let (same, none) = one-shape (h .patterns ++ p ∷ []) (after .patterns) [] (after .nodes) (after .are) in
       all-last WellFormedPattern (h .patterns) p (rw (← same) at (after .well-formed))
 
-last-may : {K : Contexts} {n : ℕ} {start due due′ : List (K .Context)} {c : K .Context} (xs : List Symbol) (x : Symbol)
-    → Leads K n start xs (c ∷ due) → Leads K n start (xs ++ x ∷ []) due′ → May K n c x
-last-may {K} {n} {due = due} {c = c} xs x known leads =
-    let (mid, first, second) = leads-split xs leads in on mid (leads-same first known) second
+last-allowed : {K : Contexts} {n : ℕ} {start due due′ : List (K .Context)} {c : K .Context} (xs : List Symbol) (x : Symbol)
+    → Consumes K n start xs (c ∷ due) → Consumes K n start (xs ++ x ∷ []) due′ → Allows K n c x
+last-allowed {K} {n} {due = due} {c = c} xs x known consumes =
+    let (mid, first, second) = consumes-split xs consumes in on mid (consumes-same first known) second
   where
-    on : {due′ : List (K .Context)} (mid : List (K .Context)) → mid ≡ c ∷ due → Leads K n mid (x ∷ []) due′ → May K n c x
-    on (c′ ∷ due″) e (more may rest) = subst (λ (y : K .Context). May K n y x) (cc) may
+    on : {due′ : List (K .Context)} (mid : List (K .Context)) → mid ≡ c ∷ due → Consumes K n mid (x ∷ []) due′ → Allows K n c x
+    on (c′ ∷ due″) e (more allows rest) = subst (λ (y : K .Context). Allows K n y x) (cc) allows
 
-module _ {s : List ℕ} {at n m next : ℕ} {g : Guards} {due : List Guards} {x : Symbol} (h : Reached s at n m (g ∷ due))
+module _ {s : List ℕ} {at n m next : ℕ} {g : Guards} {due : List Guards} {x : Symbol} (h : ReadTo s at n m (g ∷ due))
     (b : Stands s at next (node x)) where
   -- with guards, and without
-  pub node-needed : BeginsRule (take next s) → May guards n g x
+  pub node-needed : BeginsRule (take next s) → Allows guards n g x
   node-needed begins =
       let after = rule-shape (records (h .patterns) (h .nodes ++ x ∷ [])) (subst BeginsRule (node-on h b) begins) in
       let (same, nodes) = one-shape (h .patterns) (after .patterns) (h .nodes ++ x ∷ []) (after .nodes) (after .are) in
-      last-may (h .nodes) x (h .leads) (rw (← same, ← nodes, h .npatterns) at (after .leads))
+      last-allowed (h .nodes) x (h .consumes) (rw (← same, ← nodes, h .npatterns) at (after .consumes))
 
-  pub node-bound : BeginsBound (take next s) → May depths n (length g) x
+  pub node-bound : BeginsBound (take next s) → Allows depths n (length g) x
   node-bound begins =
       let after = bound-shape (records (h .patterns) (h .nodes ++ x ∷ [])) (subst BeginsBound (node-on h b) begins) in
       let (same, nodes) = one-shape (h .patterns) (after .patterns) (h .nodes ++ x ∷ []) (after .nodes) (after .are) in
-      last-may (h .nodes) x (leads-unguarded (h .leads)) (rw (← same, ← nodes, h .npatterns) at (after .leads))
+      last-allowed (h .nodes) x (consumes-unguarded (h .consumes)) (rw (← same, ← nodes, h .npatterns) at (after .consumes))
 
-  pub bound-begins : May depths n (length g) x → BeginsBound (take next s)
-  bound-begins may =
+  pub bound-begins : Allows depths n (length g) x → BeginsBound (take next s)
+  bound-begins allows =
       let after : Shape depths 0 (records (h .patterns) (h .nodes ++ x ∷ [])) = record {
         patterns = h .patterns;
         nodes = h .nodes ++ x ∷ [];
         are = refl;
         well-formed = h .well-formed;
         due = parts depths n (length g) x ++ map length due;
-        leads = rw (h .npatterns) (leads-join (leads-unguarded (h .leads)) (more may done));
+        consumes = rw (h .npatterns) (consumes-join (consumes-unguarded (h .consumes)) (more allows done));
       } in
       subst BeginsBound (sym (node-on h b)) (shape-bound after)
