@@ -5,7 +5,7 @@ from random import Random
 
 import known_equations
 import violation
-from equations import DROPPED_ENTRY, Equations, build, listing, rows_of, said
+from equations import DROPPED_ENTRY, MOST_EQUATIONS, Equations, build, listing, rows_of, said
 from rules import Refusal, read_rule
 
 # Violation goes down a formula once for each code of a list.
@@ -84,6 +84,9 @@ def check_typed():
     """What was typed is what the equations or violation say, and the verdicts are those of both."""
     for data, typed in known_equations.listings():
         expect(listing(data) == typed, "listing", listing(data))
+    for data, typed in known_equations.sets():
+        found = list(Equations(read_rule(data)).numbers(MOST_EQUATIONS))
+        expect(found == typed, "equations", list(data), found)
     for data, size, answer in known_equations.buildings():
         expect(said(build(data, bytearray(size))) == answer, "building", list(data), size)
     for data, scans, dropped in known_equations.verdicts():

@@ -6,6 +6,9 @@ from pathlib import Path
 CRATES = Path(__file__).resolve().parent.parent / "crates"
 PRIME = 1000000007
 
+# The folders of a crate that no script writes.
+SOURCES = {"src", "specs", "proofs", "must-fail"}
+
 
 def three_bytes(number):
     """A number as the test programs read it: three bytes, highest first."""
@@ -30,8 +33,14 @@ def settle(crate, stdin, lines, checks):
 
 
 def settle_files(crate, contents, checks):
+    """The files of a crate beside its sources: these, and no others."""
+    folder = CRATES / crate
+    for path in sorted(folder.rglob("*")):
+        name = path.relative_to(folder)
+        if not path.is_dir() and name.parts[0] not in SOURCES and name.as_posix() not in contents:
+            sys.exit(f"crates/{crate}/{name} must not be there")
     for name, content in contents.items():
-        path = CRATES / crate / name
+        path = folder / name
         if not checks:
             path.parent.mkdir(parents=True, exist_ok=True)
             path.write_bytes(content)

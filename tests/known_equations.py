@@ -5,8 +5,12 @@ SIX = "1 1 6 6 "
 SEVEN = "1 1 7 7 "
 OVERLAPPING = "1 3 0 9 1 6 5 31 "
 
-# Example 10 of the article on suppressions: "after 5, after 6, ff" and "after 5, after 7, ff", with one branch for 5.
+# Two branches for 5: "after 5, after 6, ff" and "after 5, after 7, ff".
 BRANCHES = ONE + SIX + SEVEN + "4 5 0 5 1 3 5 0 5 2 3"
+
+# Example 10 of the article on suppressions, with code 5 for a request and code 101, deliver 5, for its answer: max of
+# both "after a request, after an answer, the variable" and "after a request, after a request, ff".
+REQUESTS = ONE + "1 8 5 5 6 4 5 0 5 1 7 0 5 0 5 0 3"
 
 
 def counted_lines(m):
@@ -42,6 +46,13 @@ LISTINGS += [
         + ["0 0 4 1", "0 5 5 2", "0 6 255 1"]
         + ["1 0 255 1"]
         + ["2 0 5 1", "2 6 7 drop", "2 8 255 1"],
+    ),
+    (
+        REQUESTS,
+        ["patterns 2", "p 0 5 1", "p 1 101 1", "equations 3"]
+        + ["0 0 4 1", "0 5 5 2", "0 6 255 1"]
+        + ["1 0 255 1"]
+        + ["2 0 4 1", "2 5 5 drop", "2 6 100 1", "2 101 101 0", "2 102 255 1"],
     ),
     # patterns that overlap: where one of two branches gives ff, the code is dropped
     (
@@ -122,6 +133,9 @@ LISTINGS += [
 ]
 
 
+# A rule and its equations in order, each as the numbers of its nodes.
+SETS = [(POOL, [{1}, set(), {3, 5}]), (BRANCHES, [{1, 4}, set(), {2, 5}]), (REQUESTS, [{2, 5}, set(), {3, 6}])]
+
 # The program `equations` and the others of the same call, with what each reads.
 PROGRAMS = [("equations", POOL), ("equations_long", counted(7)), ("equations_refused", LONG), ("equations_empty", "")]
 
@@ -161,6 +175,9 @@ VERDICTS = [
     (POOL, "37 5 5 128 37 5 6 5", "0 1 1 0 0 1 0 0"),
     (POOL, "5 37 5", "0 0 0"),
     (BRANCHES, "5 7 6 8 6", "0 1 1 0 0"),
+    # by the first branch alone the second request would be kept, and by the second alone the one after an answer
+    (REQUESTS, "5 5 101 5 5 101 101 5 5", "0 1 0 0 1 0 0 0 0"),
+    (REQUESTS, "101 5 5", "0 0 0"),
     (ONE + "5 0 3", "5 5 6 5", "1 1 0 0"),
     # max of "after 5, max of all: after 6, the outer variable; after 7, the inner one; after 5, ff"
     (ONE + SIX + SEVEN + "6 5 0 6 4 5 1 7 1 4 5 2 7 0 5 0 3", "5 5 7 5 6 5 5", "0 1 0 1 0 0 1"),
@@ -174,12 +191,18 @@ VIOLATIONS = [
     (ONE + SIX + "4 5 0 3 5 1 3", ["5", "6"], ["", "7 5"]),
     (POOL, ["37 5", "37 128 37 5 9"], ["", "37", "5", "37 6 5", "37 128 5"]),
     (BRANCHES, ["5 6", "5 7"], ["5", "5 5 6", "6", "7"]),
+    (REQUESTS, ["5 5", "5 5 101", "5 101 5 5"], ["", "5", "5 101 5", "5 101 101 5 5", "5 6 5 5", "101 5 5"]),
 ]
 
 
 def listings():
     """Each file with the whole text of its listing."""
     return [(bytes_of(text), "".join(line + "\n" for line in lines)) for text, lines in LISTINGS]
+
+
+def sets():
+    """Each file with the equations of its rule."""
+    return [(bytes_of(text), equations) for text, equations in SETS]
 
 
 def programs():

@@ -1,6 +1,6 @@
 """Answers of judging, and refusals of model files, typed by hand from the paper."""
 from known import ANY, ONE, POOL, bytes_of, counted
-from known_equations import BRANCHES, SIX
+from known_equations import BRANCHES, REQUESTS, SIX
 from known_runs import SECOND
 
 # The paper's model, which breaks the number-pool rule, and one that meets it.
@@ -42,6 +42,8 @@ JUDGED = [
     (UNTIL, [], ["16 3 17 0 5 1 17 1 5 2 17 2 5 0 17 2 6 0", "16 3 17 0 5 0 18 0 1 18 1 2 17 2 6 2"]),
     # two branches of one code
     (BRANCHES, ["16 3 17 0 5 1 17 1 8 2 17 2 6 2"], ["16 3 17 0 5 1 17 1 6 2", "16 3 17 0 5 1 17 1 7 2"]),
+    # the article's system that sends two requests; one that waits for each answer, and one that answers unasked
+    (REQUESTS, ["16 2 17 0 5 1 17 1 101 0", "16 1 17 0 101 0"], ["16 3 17 0 5 1 17 1 5 2", "16 1 17 0 5 0 17 0 101 0"]),
     # "6 is never the second code after 5": each 5 counts
     (SECOND, ["16 1 17 0 5 0", "16 1 17 0 6 0", "16 2 17 0 5 1 17 1 6 0"], ["16 1 17 0 5 0 17 0 6 0"]),
     (SECOND, [], ["16 3 17 0 5 1 17 1 5 2 17 2 6 0"]),

@@ -1,8 +1,11 @@
 pub mod FileAnswers
+pub mod RunAnswers
+pub mod Listed
 pub mod SmallFiles
 pub mod NumberPool
 pub mod PaperExamples
 pub mod NumberingExamples
+pub mod OverlapExample
 pub mod PhoneSteps
 pub mod DrawnModel
 pub mod Shortening

@@ -1,6 +1,6 @@
 -- The number-pool rule: its equations, the table that building leaves of it, the listing, and the run of the paper's scans.
 use Prim.Native.Nat.{ℕ, _≤_, _<_}
-use mathlib.Core.Path.{_≡_, refl, _∙_, ap}
+use mathlib.Core.Path.{_≡_, refl}
 use mathlib.Core.Bool.{false}
 use mathlib.Core.List.{List, [], _∷_, map}
 use native.Mathlib.Omega.{arith}
@@ -12,15 +12,14 @@ use Rattle.synthesis.specs.Search.{noted, found}
 use Rattle.synthesis.specs.Monitor.{rowOf}
 use Rattle.synthesis.specs.Table.{entries}
 use Rattle.synthesis.specs.Building.{equationsOf}
-use Rattle.running.specs.Running.{start, WellFormedTable, Run, followed, runOf, occurrences}
-use Rattle.running.specs.Promises.{RunsOn}
+use Rattle.running.specs.Running.{start, Run, followed, runOf, occurrences}
 use Rattle.running.proofs.Refusals.{runs-on-tables}
-use Rattle.running.proofs.BuiltTables.{built-well-formed}
 use Rattle.listing.specs.Text.{decimalIn, decimal}
 use Rattle.listing.specs.Lines.{rowLines, listing}
 use Rattle.examples.specs.Examples.{tableLeft, poolFile, poolRule, NumberPool, poolListing, PoolRows, PoolTable}
 use Rattle.examples.specs.Examples.{poolScans, poolRun, RunsPool, PoolScans}
 use Rattle.examples.proofs.FileAnswers.{reads, row-left}
+use Rattle.examples.proofs.RunAnswers.{run-left}
 
 -- ---- its equations
 
@@ -76,16 +75,10 @@ runs-pool outcome e = record { accepts = e; ran = rw e; output = λ bytes. rw e;
 
 pub pool-scans : (table : List ℕ) → 32768 ≤ length table → PoolScans (tableLeft poolFile table)
 pool-scans table room = record {
-  enough = λ output verdicts h k. runs-pool (runOf 128 255 left 3 start poolScans output verdicts)
-      (runs output verdicts .follows h k well-formed (omega arith) ∙ ap accepted (pool-followed left (pool-rows table room)));
-  short = λ output verdicts. runs output verdicts .short .1;
+  enough = λ output verdicts h k. runs-pool (runOf 128 255 (tableLeft poolFile table) 3 start poolScans output verdicts)
+      (run-left poolFile poolRule 3 (number-pool .file) table room poolScans poolRun followed-so output verdicts h k);
+  short = λ output verdicts. runs-on-tables 128 255 (tableLeft poolFile table) 3 start poolScans output verdicts .short .1;
 }
   where
-    left : List ℕ
-    left = tableLeft poolFile table
-
-    well-formed : WellFormedTable 128 255 3 (tableLeft poolFile table)
-    well-formed = built-well-formed 128 255 poolFile table 3 (number-pool .file .answers .building table room)
-
-    runs : (output verdicts : ℕ) → RunsOn 128 255 (tableLeft poolFile table) 3 start poolScans output verdicts
-    runs = runs-on-tables 128 255 (tableLeft poolFile table) 3 start poolScans
+    followed-so : followed 255 (tableLeft poolFile table) start poolScans ≡ poolRun
+    followed-so = pool-followed (tableLeft poolFile table) (pool-rows table room)

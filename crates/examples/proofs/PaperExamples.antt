@@ -10,7 +10,16 @@ use Rattle.examples.proofs.NumberPool.{number-pool, pool-table, pool-sc
 pub paper-examples : PaperExamples
 unfolding decimal decimalIn
 paper-examples = record {
-  codes = record { issue-5 = refl; cancel-5 = refl; sync-0 = refl };
+  codes = record {
+    issues = (refl, refl, refl, refl);
+    cancels = (refl, refl, refl, refl);
+    collects = (refl, refl, refl, refl);
+    delivers = (refl, refl, refl, refl);
+    syncs = (refl, refl, refl, refl);
+    returns = (refl, refl, refl, refl);
+    notes = (refl, refl, refl, refl);
+    handovers = (refl, refl, refl, refl);
+  };
   short-table = λ s table h. rw (building-short 128 s (length table) h);
   number-pool = number-pool;
   pool-table = pool-table;

@@ -34,6 +34,7 @@ rule-refusals = record {
   mask-0 = refuses _ 5 0 refl;
   first-32 = refuses _ 5 0 refl;
   last-32 = refuses _ 5 0 refl;
+  second-pattern = refuses _ 5 4 refl;
   pattern-1 = refuses _ 6 4 refl;
   depth-1 = refuses _ 6 1 refl;
   guard-above = refuses _ 7 7 refl;

@@ -6,7 +6,7 @@ use mathlib.Core.Logic.{_⊎_}
 use mathlib.Core.Bool.{true, false}
 use mathlib.Core.List.{List, [], _∷_, _++_, map}
 use lib.ListN.{length, drop, replicate}
-use Rattle.reading.specs.Pattern.{codeOf, issue, cancel, sync, extentOf}
+use Rattle.reading.specs.Pattern.{codeOf, kindOf, slotOf, issue, cancel, collect, deliver, sync, return, note, handover, extentOf}
 use Rattle.reading.specs.Rule.{Formula, truth, falsity, both, necessity, max, variable, Rule}
 use Rattle.reading.specs.File.{Outcome, accepted, refused, ruleOf}
 use Rattle.reading.specs.declared.Pattern.{Pattern}
@@ -33,11 +33,20 @@ rule patterns formula = record { patterns = patterns; formula = formula }
 
 -- ---- scans
 
--- the scans that the number-pool rule speaks of, as codes
+-- a kind has this number; with a slot it makes this code, which gives both back
+abbrev pub IsKind : (kind number slot code : ℕ) → Type 0
+IsKind kind number slot code = (kind ≡ number) × (codeOf kind slot ≡ code) × (kindOf code ≡ kind) × (slotOf code ≡ slot)
+
+-- the eight kinds by the paper's numbers; issue, cancel and sync by scans of the number-pool rule
 pub record Codes : Type 0 where
-  pub issue-5 : codeOf issue 5 ≡ 5
-  pub cancel-5 : codeOf cancel 5 ≡ 37
-  pub sync-0 : codeOf sync 0 ≡ 128
+  pub issues : IsKind issue 0 5 5
+  pub cancels : IsKind cancel 1 5 37
+  pub collects : IsKind collect 2 31 95
+  pub delivers : IsKind deliver 3 5 101
+  pub syncs : IsKind sync 4 0 128
+  pub returns : IsKind return 5 31 191
+  pub notes : IsKind note 6 0 192
+  pub handovers : IsKind handover 7 31 255
 
 -- ---- what is said of a file
 

@@ -1,5 +1,6 @@
 -- In the order in which to read them.
 pub mod Examples
 pub mod NumberingExamples
+pub mod OverlapExample
 pub mod ModelExamples
 pub mod RefusalExamples

@@ -1,0 +1,54 @@
+-- The rule whose branches overlap: its equations, its lines and the verdicts are computed.
+use Prim.Native.Nat.{ℕ, _≤_}
+use mathlib.Core.Path.{_≡_, refl}
+use mathlib.Core.Bool.{false}
+use mathlib.Core.List.{List}
+use native.Mathlib.Omega.{arith}
+use lib.ListN.{length}
+use Rattle.reading.specs.Pattern.{bit, covers, least, howMany}
+use Rattle.reading.specs.File.{accepted, patternsAt, formulaAt, formulaOf, ruleOf}
+use Rattle.synthesis.specs.Answering.{firstOf, answerOf, hopeless}
+use Rattle.synthesis.specs.Search.{noted, found}
+use Rattle.synthesis.specs.Table.{entries}
+use Rattle.synthesis.specs.Building.{equationsOf}
+use Rattle.running.specs.Running.{start, followed}
+use Rattle.listing.specs.Text.{decimalIn, decimal}
+use Rattle.examples.specs.Examples.{tableLeft}
+use Rattle.examples.specs.NumberingExamples.{Numbers}
+use Rattle.examples.specs.OverlapExample.{overlapFile, overlapRule, overlapSets, overlapListing, overlapScans, overlapRun, OverlapExample}
+use Rattle.examples.proofs.FileAnswers.{row-left}
+use Rattle.examples.proofs.Listed.{numbers}
+use Rattle.examples.proofs.RunAnswers.{run-left}
+
+overlap-read : ruleOf overlapFile ≡ accepted overlapRule
+unfolding ruleOf patternsAt formulaOf formulaAt
+overlap-read = refl
+
+overlap-hopeful : hopeless overlapRule ≡ false
+unfolding hopeless firstOf
+overlap-hopeful = refl
+
+overlap-equations : equationsOf 128 overlapRule ≡ overlapSets
+unfolding equationsOf found noted firstOf answerOf bit covers
+overlap-equations = refl
+
+overlap-numbers : Numbers overlapFile overlapRule overlapSets overlapListing
+unfolding entries answerOf bit covers least howMany decimal decimalIn
+overlap-numbers = numbers overlapFile overlapRule overlapSets overlapListing overlap-read overlap-hopeful overlap-equations (omega arith) refl
+
+-- a row for each equation that the run comes to, in order
+overlap-followed : (table : List ℕ) → 32768 ≤ length table → followed 255 (tableLeft overlapFile table) start overlapScans ≡ overlapRun
+unfolding entries answerOf bit covers
+overlap-followed table room =
+    let row = row-left overlapFile overlapRule overlap-read overlap-hopeful overlapSets overlap-equations (omega arith) table room in
+    let fresh = row 0 (omega arith) in
+    let ended = row 1 (omega arith) in
+    let asked = row 2 (omega arith) in
+    rw (fresh, asked, fresh, asked, fresh, ended, ended)
+
+pub overlap-example : OverlapExample
+overlap-example = record {
+  numbers = overlap-numbers;
+  run = λ table room.
+      run-left overlapFile overlapRule 3 (overlap-numbers .file) table room overlapScans overlapRun (overlap-followed table room);
+}
