@@ -22,7 +22,7 @@ use Rattle.models.proofs.StepBytes.{from-here, StepsStand, steps-read, 
 -- ---- the whole file
 
 -- the first record
-states-stand : (f : List ℕ) (states : ℕ) → statesOf f ≡ accepted states → (1 ≤ states) × (states ≤ 64) × (f ≡ 16 ∷ states ∷ drop 2 f)
+pub states-stand : (f : List ℕ) (states : ℕ) → statesOf f ≡ accepted states → (1 ≤ states) × (states ≤ 64) × (f ≡ 16 ∷ states ∷ drop 2 f)
 unfolding statesOf
 states-stand f states e =
     let some = passes (eqb (length f) 0) 11 (length f) _ e in

@@ -32,7 +32,7 @@ pub states-found : (o : Outcome ℕ) {n : ℕ} → StatesRead′.Read n ≡ stat
 states-found (accepted n) e = cc
 states-found (refused number place) e = let z : _≡_ {A = ℕ} 0 1 = cc in absurd (omega arith)
 
-no-states-found : (o : Outcome ℕ) {number place : ℕ} → StatesRead′.Refused number place ≡ statesRead o → o ≡ refused number place
+pub no-states-found : (o : Outcome ℕ) {number place : ℕ} → StatesRead′.Refused number place ≡ statesRead o → o ≡ refused number place
 no-states-found (accepted n) e = let z : _≡_ {A = ℕ} 0 1 = cc in absurd (omega arith)
 no-states-found (refused number place) e = cc
 
@@ -40,7 +40,7 @@ pub step-found : (o : Outcome Step) {x : Step} → StepRead′.Read x ≡ stepRe
 step-found (accepted x) e = cc
 step-found (refused number place) e = let z : _≡_ {A = ℕ} 0 1 = cc in absurd (omega arith)
 
-no-step-found : (o : Outcome Step) {number place : ℕ} → StepRead′.Refused number place ≡ stepRead o → o ≡ refused number place
+pub no-step-found : (o : Outcome Step) {number place : ℕ} → StepRead′.Refused number place ≡ stepRead o → o ≡ refused number place
 no-step-found (accepted x) e = let z : _≡_ {A = ℕ} 0 1 = cc in absurd (omega arith)
 no-step-found (refused number place) e = cc
 

@@ -1,19 +1,21 @@
--- Judging an accepted rule and model answers exactly whether the model satisfies the rule.
+-- Judging an accepted rule and model answers exactly whether the model satisfies the rule, and what judging leaves in the table hangs on its answer.
 use Prim.Native.Nat.{ℕ}
 use mathlib.Core.Path.{_≡_, refl, ap, _∙_}
-use mathlib.Core.Logic.{inl, inr}
+use mathlib.Core.Logic.{_⊎_, inl, inr}
 use mathlib.Core.List.{List}
 use native.Mathlib.Omega.{arith}
+use lib.ListN.{length}
 use Rattle.reading.specs.Rule.{Rule}
-use Rattle.reading.specs.File.{accepted, ruleOf}
+use Rattle.reading.specs.File.{Outcome, accepted, refused, ruleOf}
 use Rattle.reading.proofs.Outcomes.{then-accepts}
-use Rattle.synthesis.specs.Building.{buildingOf, countedOf}
+use Rattle.synthesis.specs.Building.{buildingOf, countedOf, tableAfter}
 use Rattle.synthesis.specs.declared.Counted.the-variants.{Equations}
 use Rattle.synthesis.proofs.Synthesized.{building-accepts, counted-accepts, accepts-as}
 use Rattle.models.specs.Phone.{Phone, phoneOf}
-use Rattle.models.specs.Judging.{judgingOf, JudgedAs}
-use Rattle.models.specs.Promises.{JudgedExactly, JudgesExactly}
+use Rattle.models.specs.Judging.{RuleAndModel, judgingOf, JudgedAs, tableJudged}
+use Rattle.models.specs.Promises.{JudgedExactly, JudgesExactly, TableLeft, RefusedUnchanged}
 use Rattle.models.specs.declared.Judged.{Judged}
+use Rattle.models.specs.declared.Judged.the-variants.{Meets, Breaks}
 use Rattle.models.proofs.DecidedSets.{decided-satisfies}
 
 -- what is judged is the file's rule and the file's model
@@ -42,3 +44,21 @@ judged-case r y answer (inr (q, none)) =
 pub judges-exactly : JudgesExactly
 judges-exactly limit s f size r n y answer read e read′ judged =
     judged-case r y answer (rw (judging-case limit s f size r n y read e read′) at judged)
+
+-- ---- the table
+
+table-left : (o : Outcome RuleAndModel) (answer : Judged) (before built : List ℕ) → JudgedAs o answer
+    → TableLeft answer before built (tableJudged o built before)
+table-left (accepted x) answer before built (inl (q, sat)) =
+    record { refused = λ e. absurd (let z : _≡_ {A = ℕ} 0 1 = cc in omega arith); judged = λ e. refl }
+table-left (accepted x) answer before built (inr (q, none)) =
+    record { refused = λ e. absurd (let z : _≡_ {A = ℕ} 0 1 = cc in omega arith); judged = λ e. refl }
+table-left (refused number place) answer before built q = record { refused = λ e. refl; judged = λ e. absurd (neither e) }
+  where
+    neither : (answer ≡ Meets) ⊎ (answer ≡ Breaks) → ⊥
+    neither (inl e) = let z : _≡_ {A = ℕ} 0 1 = cc in omega arith
+    neither (inr e) = let z : _≡_ {A = ℕ} 0 1 = cc in omega arith
+
+pub refused-unchanged : RefusedUnchanged
+refused-unchanged limit mark s f table answer judged =
+    table-left (judgingOf limit s (length table) f) answer table (tableAfter mark (buildingOf limit s (length table)) table) judged

@@ -15,6 +15,8 @@ pub mod StepBytes
 pub mod FileWays
 pub mod Encoding
 pub mod Settled
+pub mod ModelFronts
+pub mod FileFaults
 pub mod PhoneCodes
 pub mod DemandThree
 pub mod BoundedTests

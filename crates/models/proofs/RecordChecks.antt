@@ -60,12 +60,6 @@ module _ (states at : ℕ) (x : Step) where
 
 -- ---- the record of a step
 
-pub a-code-step : (kind : ℕ) → kind ≡ 17 → (eqb kind 17 || eqb kind 18) ≡ true
-a-code-step kind e = rw e
-
-pub a-silent-step : (kind : ℕ) → kind ≡ 18 → (eqb kind 17 || eqb kind 18) ≡ true
-a-silent-step kind e = rw e
-
 module _ (f : List ℕ) (states at : ℕ) where
   module _ (last : ℕ) (x : Step) where
     pub step-cut : length f ≤ last → StepRead′.Refused 11 (length f) ≡ stepRead (endingAt f states at last x)

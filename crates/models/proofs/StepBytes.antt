@@ -1,21 +1,24 @@
 -- Steps are accepted exactly where they are well formed, no more than are left, and their bytes stand at their place.
-use mathlib.Core.Path.{_≡_, refl, ap, _∙_, subst}
+use mathlib.Core.Path.{_≡_, refl, sym, ap, _∙_, subst}
+use mathlib.Core.Logic.{inl, inr}
 use mathlib.Core.Bool.{Bool, true, false, cond, not, _||_}
 use mathlib.Core.List.{List, [], _∷_, _++_, append-assoc}
 use Prim.Native.Nat.{ℕ, zero, suc, _+_, _≤_, _<_}
 use native.Mathlib.Omega.{arith}
 use lib.ListN.{length, getD, drop, length-drop, length-append, drop-of-length-le}
 use lib.Dec.{eqb, ltb, leb}
-use borrow.Author.Tests.{ltb-true, ltb-false, leb-false, eqb-true, eqb-false, lt-ltb, lt-leb, ne-eqb, not-false}
+use borrow.Author.Tests.{ltb-true, ltb-false, leb-false, eqb-true, eqb-false, lt-leb, ne-eqb, not-false}
 use Rattle.reading.specs.Rule.{All, Bytes}
+use Rattle.reading.specs.Faults.{KindAt}
 use Rattle.reading.specs.File.{Outcome, accepted, refused, andThen}
 use Rattle.reading.proofs.ByteLaws.{byte-at}
 use Rattle.reading.proofs.Outcomes.{accepted-is, accepted-by, then-accepts, passes}
 use Rattle.reading.proofs.Places.{Byte, from-byte, byte-of, first-byte, rest-after}
 use Rattle.models.specs.Phone.{WellFormedStep, recordBytes, encodeStep, encodeSteps}
-use Rattle.models.specs.Phone.{codeStepAt, silentStepAt, stepAt, recordLength, withStep, stepsAt}
+use Rattle.models.specs.Phone.{endingAt, codeStepAt, silentStepAt, stepAt, recordLength, withStep, stepsAt}
+use Rattle.models.specs.Faults.{IsStep, afterStep}
 use Rattle.models.specs.declared.Step.{Step}
-use Rattle.models.proofs.StepLaws.{among-is, record-bounds, steps-end, one-more}
+use Rattle.models.proofs.StepLaws.{is-step, among-is, record-bounds, steps-end, one-more, one-refused}
 
 -- ---- one step
 
@@ -23,7 +26,7 @@ use Rattle.models.proofs.StepLaws.{among-is, record-bounds, steps-end, 
 pub from-here : (f : List ℕ) (at next : ℕ) → at < length f → at + 1 ≡ next → drop at f ≡ getD f at 0 ∷ drop next f
 from-here f at next inside e = from-byte next (record { inside = inside; is = refl }) e
 
-length-step : (x : Step) → length (encodeStep x) ≡ recordLength x
+pub length-step : (x : Step) → length (encodeStep x) ≡ recordLength x
 length-step x = on (eqb (x .label) 256)
   where
     on : (b : Bool) → length (recordBytes b x) ≡ cond b 3 4
@@ -35,54 +38,71 @@ pub record Fits (f : List ℕ) (at left : ℕ) (x : Step) : Type 0 where
   pub some-left : 0 < left
   pub whole : at + recordLength x ≤ length f
 
--- The record of x stands at `at`, with `left` steps left.
-record StepStands (f : List ℕ) (states at left : ℕ) (x : Step) : Type 0 where
-  well-formed : WellFormedStep states x
-  some-left : 0 < left
-  bytes : drop at f ≡ encodeStep x ++ drop (at + recordLength x) f
+-- The record of a step that begins at `at`: its checks, its end, and its bytes where it is whole.
+pub record StepDue (f : List ℕ) (states at : ℕ) : Type 0 where
+  pub step : Step
+  pub last : ℕ
+  pub checks : cond (eqb (getD f at 0) 17) (codeStepAt f states at) (silentStepAt f states at) ≡ endingAt f states at last step
+  pub label : step .label ≤ 256
+  pub ends : at + recordLength step ≡ last + 1
+  pub after : afterStep f at ≡ last + 1
+  pub bytes : last < length f → drop at f ≡ encodeStep step ++ drop (at + recordLength step) f
 
-module _ (f : List ℕ) (states at left : ℕ) (x : Step) where
-  code-stands : Byte f at 17 → getD f (at + 2) 0 < 256 → 0 < left → codeStepAt f states at ≡ accepted x → StepStands f states at left x
-  code-stands b code some e =
-      let whole = passes (leb (length f) (at + 3)) 11 (length f) _ e in
-      let inside : at + 3 < length f = leb-false _ _ (whole .0) in
-      let (from, to, is) = among-is states at _ x (whole .1) in
+module _ (f : List ℕ) (states at : ℕ) where
+  code-due : Byte f at 17 → getD f (at + 2) 0 < 256 → StepDue f states at
+  code-due b code =
       let coded : eqb (getD f (at + 2) 0) 256 ≡ false = ne-eqb (getD f (at + 2) 0) 256 (λ z. omega arith) in
-      subst (StepStands f states at left) is (record {
-        well-formed = record { from = from; label = omega arith; to = to };
-        some-left = some;
-        bytes = rw coded (from-byte (at + 1) b refl ∙ rw (
+      record {
+        step = record { from = getD f (at + 1) 0; label = getD f (at + 2) 0; to = getD f (at + 3) 0 };
+        last = at + 3;
+        checks = rw (b .is);
+        label = omega arith;
+        ends = rw coded (omega arith);
+        after = rw (b .is) (omega arith);
+        bytes = λ inside. rw coded (from-byte (at + 1) b refl ∙ rw (
           from-here f (at + 1) (at + 2) (omega arith) (omega arith),
           from-here f (at + 2) (at + 3) (omega arith) (omega arith),
           from-here f (at + 3) (at + 4) inside (omega arith),
         ));
-      })
+      }
 
-  silent-stands : Byte f at 18 → 0 < left → silentStepAt f states at ≡ accepted x → StepStands f states at left x
-  silent-stands b some e =
-      let whole = passes (leb (length f) (at + 2)) 11 (length f) _ e in
-      let inside : at + 2 < length f = leb-false _ _ (whole .0) in
-      let (from, to, is) = among-is states at _ x (whole .1) in
-      subst (StepStands f states at left) is (record {
-        well-formed = record { from = from; label = omega arith; to = to };
-        some-left = some;
-        bytes = from-byte (at + 1) b refl ∙ rw (
-          from-here f (at + 1) (at + 2) (omega arith) (omega arith),
-          from-here f (at + 2) (at + 3) inside (omega arith),
-        );
-      })
+  silent-due : Byte f at 18 → StepDue f states at
+  silent-due b = record {
+    step = record { from = getD f (at + 1) 0; label = 256; to = getD f (at + 2) 0 };
+    last = at + 2;
+    checks = rw (b .is);
+    label = omega arith;
+    ends = omega arith;
+    after = rw (b .is) (omega arith);
+    bytes = λ inside. from-byte (at + 1) b refl ∙ rw (
+      from-here f (at + 1) (at + 2) (omega arith) (omega arith),
+      from-here f (at + 2) (at + 3) inside (omega arith),
+    );
+  }
 
-  step-stands : Bytes f → at < length f → stepAt f states at left ≡ accepted x → StepStands f states at left x
+  pub step-due : Bytes f → KindAt f at IsStep → StepDue f states at
+  step-due bytes (inside, inl code) = code-due (record { inside = inside; is = code }) (byte-at f bytes (at + 2))
+  step-due bytes (inside, inr silent) = silent-due (record { inside = inside; is = silent })
+
+-- The record of x stands at `at`, with `left` steps left.
+pub record StepStands (f : List ℕ) (states at left : ℕ) (x : Step) : Type 0 where
+  pub well-formed : WellFormedStep states x
+  pub some-left : 0 < left
+  pub bytes : drop at f ≡ encodeStep x ++ drop (at + recordLength x) f
+
+module _ (f : List ℕ) (states at left : ℕ) (x : Step) where
+  pub step-stands : Bytes f → at < length f → stepAt f states at left ≡ accepted x → StepStands f states at left x
   step-stands bytes inside e =
       let kind = passes (not (eqb (getD f at 0) 17 || eqb (getD f at 0) 18)) 12 at _ e in
-      let some = passes (eqb left 0) 14 at _ (kind .1) in
-      on (eqb (getD f at 0) 17) refl (kind .0) (omega (arith, eqb-false left 0 (some .0))) (some .1)
-    where
-      on : (b : Bool) → eqb (getD f at 0) 17 ≡ b → not (b || eqb (getD f at 0) 18) ≡ false → 0 < left
-          → cond b (codeStepAt f states at) (silentStepAt f states at) ≡ accepted x → StepStands f states at left x
-      on true is k some e′ =
-          code-stands (record { inside = inside; is = eqb-true _ _ is }) (byte-at f bytes (at + 2)) some e′
-      on false is k some e′ = silent-stands (record { inside = inside; is = eqb-true _ _ (not-false _ k) }) some e′
+      let left-over = passes (eqb left 0) 14 at _ (kind .1) in
+      let due = step-due f states at bytes (inside, is-step (getD f at 0) (not-false _ (kind .0))) in
+      let whole = passes (leb (length f) (due .last)) 11 (length f) _ (sym (due .checks) ∙ left-over .1) in
+      let (from, to, is) = among-is states at (due .step) x (whole .1) in
+      subst (StepStands f states at left) is (record {
+        well-formed = record { from = from; label = due .label; to = to };
+        some-left = omega (arith, eqb-false left 0 (left-over .0));
+        bytes = due .bytes (leb-false _ _ (whole .0));
+      })
 
   pub step-fits : Bytes f → at < length f → stepAt f states at left ≡ accepted x → Fits f at left x
   step-fits bytes inside e =
@@ -159,21 +179,28 @@ module _ (f : List ℕ) (states : ℕ) where
       record { well-formed = h .well-formed .1; few = omega (arith, h .few); bytes = rest } in
       on ∙ then-accepts (withStep x) (steps-read xs (at + recordLength x) left stands) refl
 
+  -- what is refused after steps is refused with them
+  pub refused-after : (xs : List Step) (at next left total : ℕ) (rest : List ℕ) {number place : ℕ} → All (WellFormedStep states) xs
+      → drop at f ≡ encodeSteps xs ++ rest → at + length (encodeSteps xs) ≡ next → left + length xs ≡ total
+      → stepsAt left f states next ≡ refused number place → stepsAt total f states at ≡ refused number place
+  refused-after [] at next left total rest w from place all e =
+      let here : at ≡ next = omega arith in
+      let none : total ≡ left = omega arith in
+      rw (here, none) e
+  refused-after (x ∷ xs) at next left zero rest w from place all e = absurd (omega arith)
+  refused-after (x ∷ xs) at next left (suc total) rest w from place all e =
+      let (after, on) = next-step x at total (w .0) (from ∙ append-assoc (encodeStep x) (encodeSteps xs) rest) in
+      let later : (at + recordLength x) + length (encodeSteps xs) ≡ next =
+      omega (arith, length-append (encodeStep x) (encodeSteps xs), length-step x) in
+      on ∙ rw (refused-after xs (at + recordLength x) next left total rest (w .1) after later (omega arith) e)
+
   -- after as many steps as are left one more is refused
   pub steps-full : (xs : List Step) (at left : ℕ) (rest : List ℕ) → All (WellFormedStep states) xs → length xs ≡ left
       → drop at f ≡ encodeSteps xs ++ (17 ∷ rest) → stepsAt left f states at ≡ refused 14 (at + length (encodeSteps xs))
-  unfolding stepsAt
-  steps-full [] at zero rest w full from =
-      let b = first-byte f at from in
-      let place : at + length (encodeSteps []) ≡ at = omega arith in
-      rw (lt-ltb at (length f) (b .inside), b .is, place)
-  steps-full [] at (suc left) rest w full from = absurd (omega arith)
-  steps-full (x ∷ xs) at zero rest w full from = absurd (omega arith)
-  steps-full (x ∷ xs) at (suc left) rest w full from =
-      let (after, on) = next-step x at left (w .0) (from ∙ append-assoc (encodeStep x) (encodeSteps xs) (17 ∷ rest)) in
-      let place : (at + recordLength x) + length (encodeSteps xs) ≡ at + length (encodeStep x ++ encodeSteps xs) =
-      omega (arith, length-append (encodeStep x) (encodeSteps xs), length-step x) in
-      on ∙ rw (steps-full xs (at + recordLength x) left rest (w .1) (omega arith) after, place)
+  steps-full xs at left rest w full from =
+      let next = at + length (encodeSteps xs) in
+      let b = first-byte f next (rest-after f at (encodeSteps xs) from) in
+      refused-after xs at next 0 left (17 ∷ rest) w from refl (omega arith) (one-refused f states next 0 (b .inside) (rw (b .is)))
 
   -- the file ends at `at`, or `more` was accepted
   more-or-none : (at left : ℕ) (xs : List Step) (more : Outcome (List Step))

@@ -1,16 +1,34 @@
--- Laws of the definition of a model file: a step that is accepted, its length, and the ways of `stepsAt`.
-use mathlib.Core.Path.{_≡_}
-use mathlib.Core.Bool.{Bool, true, false, cond}
+-- Laws of the definition of a model file: the kinds of steps, a step that is accepted, its length, and the ways of `stepsAt`.
+use mathlib.Core.Path.{_≡_, refl}
+use mathlib.Core.Logic.{inl, inr}
+use mathlib.Core.Bool.{Bool, true, false, cond, _||_}
 use mathlib.Core.List.{List, []}
 use Prim.Native.Nat.{ℕ, zero, suc, _+_, _≤_, _<_}
 use native.Mathlib.Omega.{arith}
 use lib.Dec.{eqb, leb}
 use lib.ListN.{length}
-use borrow.Author.Tests.{lt-ltb, le-ltb, leb-false}
+use borrow.Author.Tests.{lt-ltb, le-ltb, leb-false, eqb-true, eqb-false}
 use Rattle.reading.specs.File.{accepted, refused, andThen}
-use Rattle.reading.proofs.Outcomes.{accepted-is, passes}
+use Rattle.reading.proofs.Outcomes.{accepted-is, passes, neither}
 use Rattle.models.specs.Phone.{among, stepAt, recordLength, withStep, stepsAt}
+use Rattle.models.specs.Faults.{IsStep, NoStep}
 use Rattle.models.specs.declared.Step.{Step}
+
+-- the kinds of steps, as they are tested
+pub is-step : (k : ℕ) → (eqb k 17 || eqb k 18) ≡ true → IsStep k
+is-step k = on (eqb k 17) refl
+  where
+    on : (b : Bool) → eqb k 17 ≡ b → (b || eqb k 18) ≡ true → IsStep k
+    on true is e = inl (eqb-true k 17 is)
+    on false is e = inr (eqb-true k 18 e)
+
+pub is-no-step : (k : ℕ) → (eqb k 17 || eqb k 18) ≡ false → NoStep k
+is-no-step k e (inl code) = eqb-false k 17 (neither (eqb k 17) (eqb k 18) e .0) code
+is-no-step k e (inr silent) = eqb-false k 18 (neither (eqb k 17) (eqb k 18) e .1) silent
+
+pub a-step : (k : ℕ) → IsStep k → (eqb k 17 || eqb k 18) ≡ true
+a-step k (inl code) = rw code
+a-step k (inr silent) = rw silent
 
 pub among-is : (states at : ℕ) (x y : Step) → among states at x ≡ accepted y → (x .from < states) × (x .to < states) × (x ≡ y)
 among-is states at x y e =

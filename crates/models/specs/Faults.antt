@@ -1,51 +1,30 @@
--- Why a model file is refused, and where, without the steps of a reader: a clause for each way in which a file can go wrong. A front of the file
--- begins a model when some well-formed phone model, with any number of steps, is encoded with it. It may be a model itself.
-use Prim.Native.Nat.{ℕ, suc, _+_, _≤_, _<_}
+-- Why a model file is refused, and where, without the steps of a reader: a clause for each way in which a file can go wrong. What stands before
+-- the record at fault is a whole model: a model may end after its count of states, and after each step.
+use Prim.Native.Nat.{ℕ, _+_, _≤_, _<_}
 use mathlib.Core.Path.{_≡_}
 use mathlib.Core.Logic.{_⊎_}
 use mathlib.Core.Bool.{cond}
-use mathlib.Core.List.{List, [], _∷_, _++_}
+use mathlib.Core.List.{List, _++_}
 use lib.Dec.{eqb}
 use lib.ListN.{length, getD, take}
 use Rattle.reading.specs.Faults.{KindAt}
-use Rattle.models.specs.Phone.{Phone, WellFormedPhone, encodeStep, encodePhone}
-use Rattle.models.specs.declared.Step.{Step}
+use Rattle.models.specs.Phone.{Phone, WellFormedPhone, PhoneWithinLimits, encodePhone}
 
--- ---- whole records
+-- ---- fronts of files
 
--- the count of states, or a step
-pub data Record : Type 0 where
-  states : ℕ → Record
-  step : Step → Record
+-- The bytes of the file before `at` are a model within the limits, with so many steps.
+pub record ModelBefore (f : List ℕ) (at steps : ℕ) : Type 0 where
+  pub phone : Phone
+  pub within-limits : PhoneWithinLimits phone
+  pub steps-are : length (phone .steps) ≡ steps
+  pub bytes-are : take at f ≡ encodePhone phone
 
-abbrev pub recordsBytes : List Record → List ℕ
-recordsBytes [] = []
-recordsBytes (states n ∷ xs) = 16 ∷ n ∷ recordsBytes xs
-recordsBytes (step x ∷ xs) = encodeStep x ++ recordsBytes xs
-
--- how many of the records are steps
-abbrev pub stepsIn : List Record → ℕ
-stepsIn [] = 0
-stepsIn (states n ∷ xs) = stepsIn xs
-stepsIn (step x ∷ xs) = suc (stepsIn xs)
-
--- ---- fronts of models
-
--- the bytes are a front of the encoding of a well-formed phone model
+-- A well-formed model, with any number of steps, is encoded with these bytes and none or some after them.
 pub record BeginsModel (f : List ℕ) : Type 0 where
   pub phone : Phone
   pub well-formed : WellFormedPhone phone
   pub rest : List ℕ
-  pub front : f ++ rest ≡ encodePhone phone
-
--- The bytes of the file before `at` are whole records that begin a model, so many steps among them, at most 512.
-pub record Front (f : List ℕ) (at steps : ℕ) : Type 0 where
-  pub inside : at ≤ length f
-  pub records : List Record
-  pub are : take at f ≡ recordsBytes records
-  pub steps-are : stepsIn records ≡ steps
-  pub few-steps : steps ≤ 512
-  pub begins : BeginsModel (take at f)
+  pub bytes-are : f ++ rest ≡ encodePhone phone
 
 -- ---- the clauses
 
@@ -70,13 +49,13 @@ pub data Fault (f : List ℕ) : (number place : ℕ) → Type 0 where
   -- 11: the file is empty, or ends inside a record that may come next
   empty : length f ≡ 0 → Fault f 11 (length f)
   count-cut : KindAt f 0 IsCount → length f < 2 → Fault f 11 (length f)
-  step-cut : {at n : ℕ} → Front f at n → 0 < at → KindAt f at IsStep → n < 512 → length f < afterStep f at → Fault f 11 (length f)
+  step-cut : {at n : ℕ} → ModelBefore f at n → KindAt f at IsStep → n < 512 → length f < afterStep f at → Fault f 11 (length f)
   -- 12: another kind than the one that is due, or a count that isn't 1 to 64
   not-count : KindAt f 0 NoCount → Fault f 12 0
   bad-count : KindAt f 0 IsCount → 2 ≤ length f → (getD f 1 0 ≡ 0) ⊎ (64 < getD f 1 0) → Fault f 12 0
-  not-step : {at n : ℕ} → Front f at n → 0 < at → KindAt f at NoStep → Fault f 12 at
+  not-step : {at n : ℕ} → ModelBefore f at n → KindAt f at NoStep → Fault f 12 at
   -- 13: a step with which no model begins
-  bad-step : {at n : ℕ} → Front f at n → 0 < at → KindAt f at IsStep → n < 512 → afterStep f at ≤ length f
+  bad-step : {at n : ℕ} → ModelBefore f at n → KindAt f at IsStep → n < 512 → afterStep f at ≤ length f
       → (BeginsModel (take (afterStep f at) f) → ⊥) → Fault f 13 at
   -- 14: a 513th step
-  step-513 : {at : ℕ} → Front f at 512 → KindAt f at IsStep → Fault f 14 at
+  step-513 : {at : ℕ} → ModelBefore f at 512 → KindAt f at IsStep → Fault f 14 at

@@ -2,7 +2,7 @@
 -- the mark for dropped are any; with 128 and 255 these are the terms of the contracts of building and of judging.
 use Prim.Native.Nat.{ℕ, _*_, _≤_}
 use mathlib.Core.Path.{_≡_}
-use mathlib.Core.Logic.{_↔_}
+use mathlib.Core.Logic.{_↔_, _⊎_}
 use mathlib.Core.List.{List, [], _∷_}
 use lib.ListN.{length, take}
 use Rattle.reading.specs.Rule.{Rule, RuleWithinLimits, encode, Bytes}
@@ -17,9 +17,9 @@ use Rattle.models.specs.Model.{Model, Walk, Weak, Finite, ByteCodes, Sat
 use Rattle.models.specs.Model.{Response, suppressing, PassesKept, monitored}
 use Rattle.models.specs.Phone.{Phone, modelOf, PhoneWithinLimits, encodePhone, phoneOf}
 use Rattle.models.specs.Faults.{Fault}
-use Rattle.models.specs.Judging.{stored, modelReadingOf, judgingOf, JudgedAs}
+use Rattle.models.specs.Judging.{stored, modelReadingOf, judgingOf, JudgedAs, tableJudged}
 use Rattle.models.specs.declared.Judged.{Judged}
-use Rattle.models.specs.declared.Judged.the-variants.{Meets, Breaks}
+use Rattle.models.specs.declared.Judged.the-variants.{Meets, Breaks, Refused as NotJudged}
 
 -- 1. Demand 3. The model behind the monitor satisfies the rule; where the model already does, the two are strongly bisimilar; and every walk
 -- of the model whose trace doesn't violate the rule is there behind the monitor, with the same trace, to the same state of the model. The field
@@ -96,6 +96,18 @@ JudgesExactly =
     (limit : ℕ) (s f : List ℕ) (size : ℕ) (r : Rule) (n : ℕ) (y : Phone) (answer : Judged)
     → ruleOf s ≡ accepted r → countedOf (buildingOf limit s size) ≡ Equations n → phoneOf f ≡ accepted y
     → JudgedAs (judgingOf limit s size f) answer → JudgedExactly r y answer
+
+-- What judging leaves in the table, in the terms of its contract: where the answer is a refusal, of the rule or of the model, all bytes as they were,
+-- and else exactly what building leaves.
+pub record TableLeft (answer : Judged) (before built after : List ℕ) : Type 0 where
+  pub refused : {number place : ℕ} → answer ≡ NotJudged number place → after ≡ before
+  pub judged : (answer ≡ Meets) ⊎ (answer ≡ Breaks) → after ≡ built
+
+abbrev pub RefusedUnchanged : Type 0
+RefusedUnchanged =
+    (limit mark : ℕ) (s f table : List ℕ) (answer : Judged) → JudgedAs (judgingOf limit s (length table) f) answer →
+    let built = tableAfter mark (buildingOf limit s (length table)) table in
+    TableLeft answer table built (tableJudged (judgingOf limit s (length table) f) built table)
 
 -- 4. Demand 2, acceptance. With a table that is long enough, building isn't refused exactly when the file is the encoding of a well-formed
 -- rule within 32 patterns and 64 nodes, of which at most `limit` equations are reached, and which some finite model satisfies. All that are

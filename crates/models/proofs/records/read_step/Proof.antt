@@ -1,13 +1,14 @@
 -- `records::read_step` meets its contract: a record of another kind or one too many is refused, and else the kind's own reader answers.
 use mathlib.Core.Path.{_≡_}
 use mathlib.Core.Bool.{true, _||_}
-use mathlib.Core.Logic.{⊎-elim}
+use mathlib.Core.Logic.{inl, inr, ⊎-elim}
 use Prim.Native.Nat.{ℕ}
 use lib.Dec.{eqb}
 use lib.ListN.{getD}
 use borrow.Author.Tests.{eqb-true, eqb-false, not-true, not-false}
 use borrow.Author.Needs.{needs}
-use Rattle.models.proofs.RecordChecks.{no-step, a-code-step, a-silent-step, no-step-left, code-step, silent-step}
+use Rattle.models.proofs.StepLaws.{a-step}
+use Rattle.models.proofs.RecordChecks.{no-step, no-step-left, code-step, silent-step}
 use Rattle.models.proofs.records.read_step.Statement.{statement}
 use Rattle.models.proofs.records.read_step.Tie as tie
 
@@ -17,7 +18,7 @@ module _ (c : tie.Joined1) where
   kind = getD (c .before .before .before .args .bytes .now) (c .before .before .before .args .at) 0
 
   is-step : (eqb kind 17 || eqb kind 18) ≡ true
-  is-step = ⊎-elim (λ w. a-silent-step kind (eqb-true kind 18 (not-false _ (w .1 .left)))) (λ w. a-code-step kind (w .left)) (c .if1 .came)
+  is-step = a-step kind (⊎-elim (λ w. inr (eqb-true kind 18 (not-false _ (w .1 .left)))) (λ w. inl (w .left)) (c .if1 .came))
 
 shared-slice-read-kind : tie.Need-shared-slice-read-kind
 shared-slice-read-kind c = search needs
