@@ -7,6 +7,7 @@ pub mod Refusals
 pub mod Joining
 pub mod Histories
 pub mod Conservation
+pub mod Leaving
 pub mod BuiltTables
 pub mod DemandTwo
 -- What the proofs of the functions use.

@@ -6,8 +6,7 @@ use mathlib.Core.List.{List, [], _∷_, _++_}
 use native.Mathlib.Omega.{arith}
 use native.Mathlib.Nat.{add-zero, mul-div-right}
 use native.Mathlib.Numerals.{add-one}
-use lib.Dec.{eqb, ltb}
-use borrow.Author.Tests.{eqb-true, eqb-false, le-ltb, lt-ltb}
+use lib.Dec.{eqb}
 use lib.ListN.{length, getD, take, set, length-append, length-set}
 use lib.Seq.{take-all, take-suc, length-take-le, set-getD}
 use Rattle.synthesis.specs.Monitor.{dropped, next, kept, verdicts, ended, rowOf}
@@ -23,14 +22,6 @@ answers : (mark : ℕ) (table : List ℕ) (s : State) (c entry : ℕ) → entry 
     → eqb entry mark ≡ b → following mark table s c ≡ cond b dropped (next (record { equation = entry }))
 answers mark table s c entry h true q = rw (← h, q)
 answers mark table s c entry h false q = rw (← h, q)
-
--- an entry under the mark is one that isn't the mark
-pub below-mark : (mark entry : ℕ) → entry ≤ mark → _≡_ {A = ℕ} (cond (ltb entry mark) 1 0) (cond (eqb entry mark) 0 1)
-below-mark mark entry h = on (eqb entry mark) refl
-  where
-    on : (b : Bool) → eqb entry mark ≡ b → _≡_ {A = ℕ} (cond (ltb entry mark) 1 0) (cond b 0 1)
-    on true q = rw (le-ltb entry mark (omega (arith, eqb-true entry mark q)))
-    on false q = let other = eqb-false entry mark q in rw (lt-ltb entry mark (omega arith))
 
 module _ (mark : ℕ) (table : List ℕ) (s : State) (output₀ judged₀ : List ℕ) where
   -- what the loop has when it has gone over the scans w: where the row of the equation begins, how many were kept, and the buffers

@@ -1,19 +1,19 @@
 -- Well-formed tables: the test for them, their entries, and where a run on one ends.
-use Prim.Native.Nat.{ℕ, zero, suc, _+_, _-_, _*_, _/_, _%_, _≤_, _<_}
+use Prim.Native.Nat.{ℕ, zero, suc, _+_, _*_, _/_, _%_, _≤_, _<_}
 use mathlib.Core.Path.{_≡_, refl, sym, _∙_, ap}
 use mathlib.Core.Logic.{_↔_, _⊎_, inl, inr}
 use mathlib.Core.Bool.{Bool, true, false, _&&_, and-eq-true-iff}
 use mathlib.Core.List.{List, [], _∷_}
 use native.Mathlib.Decide.{decLt}
-use native.Mathlib.Nat.{add-comm, div-add-mod, mod-lt}
+use native.Mathlib.Nat.{div-add-mod, mod-lt}
 use native.Mathlib.Omega.{arith}
 use lib.Dec.{eqb, ltb, leb}
-use lib.ListN.{length, getD, take, drop, length-take, length-drop, List·getD-eq-default}
+use lib.ListN.{length, getD, take, drop, length-take, List·getD-eq-default}
 use lib.Seq.{length-take-le, getD-take, getD-drop}
-use borrow.Author.Tests.{eqb-true, eqb-false, ltb-true, lt-ltb, leb-true, leb-false, le-leb}
+use borrow.Author.Tests.{eqb-true, eqb-false, ltb-true, lt-ltb, leb-true, le-leb}
 use Rattle.reading.proofs.ListLaws.{getD-inside}
 use Rattle.synthesis.specs.Monitor.{dropped, next, cases, ended, rowOf, meaning}
-use Rattle.synthesis.proofs.Rows.{row-is, row-none}
+use Rattle.synthesis.proofs.Rows.{row-is}
 use Rattle.synthesis.proofs.Runs.{run-induction}
 use Rattle.running.specs.Running.{moved, following, inRange, entriesInRange, isWellFormed, WellFormedTable, fits}
 use Rattle.running.specs.declared.State.{State}
@@ -113,30 +113,6 @@ row-at table k c d room b =
     ∙ (getD-take 256 (drop (256 * k) table) c d b
     ∙ (getD-drop (256 * k) table c d
     ∙ getD-inside table (256 * k + c) d 0 (omega arith)))
-
--- a row with an entry is wholly inside the table
-pub row-whole : (table : List ℕ) (k c : ℕ) → c < length (rowOf 256 table k) → 256 * k + 256 ≤ length table
-row-whole table k c h = on (leb (256 * k + 256) (length table)) refl
-  where
-    on : (b : Bool) → leb (256 * k + 256) (length table) ≡ b → 256 * k + 256 ≤ length table
-    on true e = leb-true (256 * k + 256) (length table) e
-    on false e = absurd (omega (arith, h, ap length (row-none 256 table k (leb-false (256 * k + 256) (length table) e))))
-
--- the column of a code: the table from its first entry on
-abbrev column : List ℕ → (c : ℕ) → List ℕ
-column table c = take (length table - c) (drop c table)
-
-pub column-length : (table : List ℕ) (c : ℕ) → length (column table c) ≡ length table - c
-column-length table c = length-take (length table - c) (drop c table) ∙ omega (arith, length-drop c table)
-
--- an entry, read from the column of its code
-pub column-at : (table : List ℕ) (k c d : ℕ) → 256 * k + 256 ≤ length table → c < 256
-    → getD (column table c) (256 * k) 0 ≡ getD (rowOf 256 table k) c d
-column-at table k c d room b =
-    getD-take (length table - c) (drop c table) (256 * k) 0 (omega arith)
-    ∙ (getD-drop c table (256 * k) 0
-    ∙ (ap (λ (i : ℕ). getD table i 0) (add-comm c (256 * k))
-    ∙ sym (row-at table k c d room b)))
 
 module _ (limit mark count : ℕ) (table : List ℕ) (wf : WellFormedTable limit mark count table) where
   row-inside : (k : ℕ) → k < count → 256 * k + 256 ≤ length table

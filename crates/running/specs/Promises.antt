@@ -5,7 +5,7 @@ use mathlib.Core.Path.{_≡_}
 use mathlib.Core.Logic.{_↔_, _⊎_}
 use mathlib.Core.Bool.{true}
 use mathlib.Core.List.{List, [], _∷_, _++_}
-use lib.ListN.{length, getD, take}
+use lib.ListN.{length, getD, take, drop}
 use Rattle.reading.specs.Rule.{Rule, Bytes}
 use Rattle.reading.specs.File.{Outcome, accepted, ruleOf}
 use Rattle.synthesis.specs.Violation.{ViolatesRule}
@@ -13,10 +13,10 @@ use Rattle.synthesis.specs.Monitor.{dropped, cases, next, meaning}
 use Rattle.synthesis.specs.Building.{buildingOf, countedOf, tableAfter}
 use Rattle.synthesis.specs.declared.Counted.the-variants.{Equations}
 use Rattle.running.specs.Running.{moved, following, WellFormedTable, roomy, Run, followed, runOf, checkedOf, occurrences, ranOf}
-use Rattle.running.specs.Running.{keptOf, verdictsOf}
+use Rattle.running.specs.Running.{keptOf, verdictsOf, outputAfter, verdictsAfter}
 use Rattle.running.specs.Calls.{Call, History, taken, outcomeOf, Calls, OnTable, OnTableOrRefused, withVerdict}
 use Rattle.running.specs.declared.State.{State}
-use Rattle.running.specs.declared.Checked.the-variants.{Refused}
+use Rattle.running.specs.declared.Checked.the-variants.{Fit, Refused}
 
 -- 1. Demand 2. After any number of calls on the table that building leaves, a scan has verdict 1 exactly when the scans kept before it,
 -- with it after them, violate the rule. What was kept doesn't.
@@ -107,3 +107,34 @@ NeverUnfit =
     → (h : History) → Calls limit mark (OnTableOrRefused limit mark (tableAfter mark (buildingOf limit s (length table)) table) n) h
     → (c : Call) → OnTable (tableAfter mark (buildingOf limit s (length table)) table) n c
     → checkedOf (outcomeOf limit mark h c) ≡ Refused 16 0 → ⊥
+
+-- 5. The buffers, in the terms of the contract of `run`. A refused run hands back the state that it was given and counts of 0, and leaves every
+-- byte of both buffers as it was.
+pub record Unchanged (s : State) (output verdicts : List ℕ) (number place : ℕ) (outcome : Outcome Run) : Type 0 where
+  pub ran : ranOf s outcome ≡ record { checked = Refused number place; state = s; kept = 0; dropped = 0 }
+  pub same-output : outputAfter outcome output ≡ output
+  pub same-verdicts : verdictsAfter outcome verdicts ≡ verdicts
+
+abbrev pub RefusedUnchanged : Type 0
+RefusedUnchanged =
+    (limit mark : ℕ) (table : List ℕ) (count : ℕ) (s : State) (scans output verdicts : List ℕ) (number place : ℕ) →
+    let outcome = runOf limit mark table count s scans (length output) (length verdicts) in
+    checkedOf outcome ≡ Refused number place → Unchanged s output verdicts number place outcome
+
+-- Any other has one verdict a scan, 0 or 1, at the front of the verdicts, and the scans with verdict 0 at the front of the output, as many as it
+-- says. Behind these both buffers are as they were.
+pub record OnlyFronts (s : State) (scans output verdicts : List ℕ) (outcome : Outcome Run) : Type 0 where
+  pub same-lengths : (length (outputAfter outcome output) ≡ length output) × (length (verdictsAfter outcome verdicts) ≡ length verdicts)
+  pub verdicts-front : take (length scans) (verdictsAfter outcome verdicts) ≡ verdictsOf outcome
+  pub one-each : length (verdictsOf outcome) ≡ length scans
+  pub zero-or-one : (i : ℕ) → i < length scans → (getD (verdictsOf outcome) i 0 ≡ 0) ⊎ (getD (verdictsOf outcome) i 0 ≡ 1)
+  pub output-front : take (ranOf s outcome .kept) (outputAfter outcome output) ≡ keptOf outcome
+  pub kept-are : keptOf outcome ≡ withVerdict 0 (verdictsOf outcome) scans
+  pub output-rest : drop (ranOf s outcome .kept) (outputAfter outcome output) ≡ drop (ranOf s outcome .kept) output
+  pub verdicts-rest : drop (length scans) (verdictsAfter outcome verdicts) ≡ drop (length scans) verdicts
+
+abbrev pub RestUnchanged : Type 0
+RestUnchanged =
+    (limit mark : ℕ) (table : List ℕ) (count : ℕ) (s : State) (scans output verdicts : List ℕ) →
+    let outcome = runOf limit mark table count s scans (length output) (length verdicts) in
+    checkedOf outcome ≡ Fit → OnlyFronts s scans output verdicts outcome

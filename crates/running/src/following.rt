@@ -15,8 +15,7 @@ pub(crate) struct End {
     pub(crate) kept: usize,
 }
 
-// The entry of an equation for a code; DROPPED where the table has none. Where the row is there, the entry is read from the column of the code:
-// in the loop below the row is known last, and then there is one sum less to wait for.
+// The entry of an equation for a code, from the row of the equation; DROPPED where the row has none.
 fn entry(table: &[u8], equation: usize, code: u8) -> usize
     ensures { λ r. ⌜ r ≡ getD (rowOf 256 (now (table .entry)) equation) code 255 ⌝ }
     ensures { λ r. ⌜ r < 256 ⌝ }
@@ -24,30 +23,27 @@ fn entry(table: &[u8], equation: usize, code: u8) -> usize
     let entries = row(table, equation);
     let at = code as usize;
     if at < entries.len() {
-        let from = 256 * equation;
-        let column = &table[at..];
-        return column[from] as usize;
+        return entries[at] as usize;
     }
     DROPPED as usize
 }
 
-// One of two numbers. It is compiled to a choice with no jump.
+// One of two numbers.
 fn either(first: bool, a: usize, b: usize) -> usize
     ensures { λ r. ⌜ r ≡ cond first a b ⌝ }
 {
     if first { a } else { b }
 }
 
-// One of two bytes, in the same way.
+// One of two bytes.
 fn either_byte(first: bool, a: u8, b: u8) -> u8
     ensures { λ r. ⌜ r ≡ cond first a b ⌝ }
 {
     if first { a } else { b }
 }
 
-// Runs over the scans with a look-up and two stores for each, and no jump on its entry: for a dropped scan the byte of the output is
-// written back as it was. What goes from scan to scan is where the equation's row begins, so that no scan waits for a multiplication. Kept is
-// told by a test of its own, with which the compiled loop was measured to be faster.
+// Runs over the scans. What goes from scan to scan is where the row of the equation begins. For a dropped scan the byte of the output is
+// written back as it was: so nothing in the compiled loop jumps on an entry.
 pub(crate) fn follow(
     table: &[u8],
     state: State,
@@ -73,8 +69,7 @@ pub(crate) fn follow(
         verdicts[i] = either_byte(is_dropped, 1, 0);
         let before = output[kept];
         output[kept] = either_byte(is_dropped, before, code);
-        let is_kept = entry < DROPPED as usize;
-        kept += either(is_kept, 1, 0);
+        kept += either(is_dropped, 0, 1);
         i += 1;
     }
     let state = State {

@@ -1,51 +1,30 @@
 -- `following::entry` meets its contract.
-use Prim.Native.Nat.{_+_, _*_, _≤_}
+use Prim.Native.Nat.{_<_}
 use mathlib.Core.Path.{sym}
 use native.Mathlib.Omega.{arith}
 use borrow.Author.Needs.{needs}
 use lib.ListN.{length, List·getD-eq-default}
-use Rattle.running.proofs.Tables.{row-whole, column-length, column-at}
+use Rattle.reading.proofs.ListLaws.{getD-inside}
 use Rattle.running.proofs.following.entry.Statement.{statement}
 use Rattle.running.proofs.following.entry.Tie as tie
 
 row-requires : tie.Need-row-requires
 row-requires c κs = search needs
 
--- the row is there
-whole : (c : tie.Then1) → let x = c .before .before .before .args in 256 * x .equation + 256 ≤ length (x .table .now)
-whole c =
-    let x = c .before .before .before .args in
-    row-whole (x .table .now) (x .equation) (x .code) (rw (c .before .row .ensures) at (c .if1 .taken))
-
-mul-from : tie.Need-mul-from
-mul-from c = search (needs, whole c)
-
-sub-column : tie.Need-sub-column
-sub-column c = omega (arith, whole c, c .before .before .before .fits .code .fits)
-
-part-column-start : tie.Need-part-column-start
-part-column-start c = search (needs, sub-column c)
-
-part-column-end : tie.Need-part-column-end
-part-column-end c = search needs
-
 shared-slice-read-result : tie.Need-shared-slice-read-result
-shared-slice-read-result c =
-    let start = c .before .before .before .before .before in
-    let x = start .args in
-    rw (column-length (x .table .now) (x .code)) (omega (arith, whole (c .before .before), start .fits .code .fits))
+shared-slice-read-result c = search needs
 
 cast-result : tie.Need-cast-result
-cast-result c =
-    let x = c .before .before .before .before .before .args in
-    omega (arith, c .shared-slice-known2 .given (256 * x .equation) .fits)
+cast-result c = omega (arith, c .shared-slice-known2 .given (c .before .before .before .before .args .code) .fits)
 
 returns : tie.Need-returns
 returns c =
-    let start = c .before .before .before .before .before in
-    let x = start .args in (
-      column-at (x .table .now) (x .equation) (x .code) 255 (whole (c .before .before)) (omega (arith, start .fits .code .fits)),
-      omega (arith, c .shared-slice-known2 .given (256 * x .equation) .fits),
+    let r = c .before .before in
+    let l = r .row .result .now in
+    let code = r .before .before .args .code in
+    let inside : code < length l = c .before .if1 .taken in (
+      rw (← r .row .ensures) (getD-inside l code 0 255 inside),
+      omega (arith, c .shared-slice-known2 .given code .fits),
     )
 
 cast-result-2 : tie.Need-cast-result-2
@@ -59,16 +38,4 @@ returns-2 c =
     )
 
 pub entry-spec : {M : Type 1} → statement M
-entry-spec =
-    tie.close
-    (tie.spec
-    row-requires
-    mul-from
-    sub-column
-    part-column-start
-    part-column-end
-    shared-slice-read-result
-    cast-result
-    returns
-    cast-result-2
-    returns-2)
+entry-spec = tie.close (tie.spec row-requires shared-slice-read-result cast-result returns cast-result-2 returns-2)

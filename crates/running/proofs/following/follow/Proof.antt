@@ -1,10 +1,9 @@
 -- `following::follow` meets its contract. What the loop has is right for the scans so far; the measure is how many are left.
 use Prim.Native.Nat.{_-_, _/_}
-use mathlib.Core.Path.{_∙_}
 use native.Mathlib.Omega.{arith}
 use borrow.Author.Needs.{needs}
 use lib.ListN.{length}
-use Rattle.running.proofs.Stepping.{After, one-more, begins, ends, below-mark}
+use Rattle.running.proofs.Stepping.{After, one-more, begins, ends}
 use Rattle.running.proofs.following.follow.Statement.{statement}
 use Rattle.running.proofs.following.follow.Tie as tie
 
@@ -53,9 +52,6 @@ either-byte-requires-2 c κs = search needs
 slice-write-output : tie.Need-slice-write-output Inv-loop μ-loop
 slice-write-output c = search needs
 
-cast-is-kept : tie.Need-cast-is-kept Inv-loop μ-loop
-cast-is-kept c = search needs
-
 either-requires-2 : tie.Need-either-requires-2 Inv-loop μ-loop
 either-requires-2 c κs = search needs
 
@@ -74,7 +70,7 @@ loop-again c =
     one-more 255 _ _ _ _ _ _ _ _ _ _ (l .loop .inv) (e .before .before .loop-test .taken) (start .pre .1) (start .pre .2)
     _ (e .entry .ensures .1) (e .entry .ensures .0)
     (c .before .either-byte2 .ensures) (verdict .either-byte .ensures) (verdict .before .either .ensures)
-    (c .either2 .ensures ∙ below-mark 255 (e .entry .result) (omega (arith, e .entry .ensures .1)))
+    (c .either2 .ensures)
 
 add-kept : tie.Need-add-kept Inv-loop μ-loop
 add-kept c = omega (arith, loop-again c .few)
@@ -109,7 +105,6 @@ follow-spec =
     slice-read-before
     either-byte-requires-2
     slice-write-output
-    cast-is-kept
     either-requires-2
     add-kept
     add-i
