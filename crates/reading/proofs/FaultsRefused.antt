@@ -55,7 +55,7 @@ module _ (s : List ℕ) {number place : ℕ} where
   head-refused zero n at is e = rw is cc
   head-refused (suc left) n at is e = rw (is, e)
 
-answer-refused : (o : Outcome Rule) (number place : ℕ) → (o ≡ refused number place) ↔ (readingOf o .answer ≡ Refused number place)
+pub answer-refused : (o : Outcome Rule) (number place : ℕ) → (o ≡ refused number place) ↔ (readingOf o .answer ≡ Refused number place)
 answer-refused (accepted r) number place =
     (λ e. let z : _≡_ {A = ℕ} 0 1 = cc in absurd (omega arith), λ e. let z : _≡_ {A = ℕ} 0 1 = cc in absurd (omega arith))
 answer-refused (refused m at) number place = (λ e. cc, λ e. cc)

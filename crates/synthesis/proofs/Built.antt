@@ -16,7 +16,7 @@ use Rattle.synthesis.specs.Search.{indexOf}
 use Rattle.synthesis.specs.Table.{filled}
 use Rattle.synthesis.specs.Building.{equationsOf, Synthesis, synthesisOf, buildingOf, countedOf, tableAfter}
 use Rattle.synthesis.specs.declared.Counted.the-variants.{Equations}
-use Rattle.synthesis.specs.Promises.{TableMonitors, TableDrops, RefusesHopeless}
+use Rattle.synthesis.specs.Promises.{TableMonitors, TableDrops, RefusesHopeless, RefusedUnchanged}
 use Rattle.synthesis.specs.Promises.{RowInRange, EntriesInRange, EntryAnswers, EntriesAnswer, SameAfterRows, TableRest}
 use Rattle.synthesis.proofs.AnsweringLaws.{answers-as-defined}
 use Rattle.synthesis.proofs.RuleMonitor.{rule-monitors, hopeless-iff}
@@ -148,6 +148,9 @@ entries-answer limit mark s table r n below bytes read e k c h b =
     by-count limit s (length table)
     (λ y. EntryAnswers (y .rule) (y .equations) k c (entry 256 mark (left limit mark s table) k c)) r n read e
     (λ y is count. built-answers limit mark s table below bytes k c b y is (omega (arith, count, h)))
+
+pub refused-unchanged : RefusedUnchanged
+refused-unchanged limit mark s table number place e = rw (counted-refuses (buildingOf limit s (length table)) number place e)
 
 pub refuses-hopeless : RefusesHopeless
 refuses-hopeless limit s bytes r read =

@@ -73,6 +73,12 @@ pub record ChecksTable (limit : ℕ) (s : List ℕ) (size : ℕ) : Type 0 where
   pub short : size < 256 * limit → buildingOf limit s size ≡ refused 10 0
   pub enough : 256 * limit ≤ size → buildingOf limit s size ≡ synthesisOf limit s
 
+-- A building that is refused leaves the table as it was, every byte.
+abbrev pub RefusedUnchanged : Type 0
+RefusedUnchanged =
+    (limit mark : ℕ) (s table : List ℕ) (number place : ℕ) → countedOf (buildingOf limit s (length table)) ≡ Refused number place
+    → tableAfter mark (buildingOf limit s (length table)) table ≡ table
+
 -- 4. The table that building leaves monitors the rule, whatever it held before. The mark for dropped is any number that no equation
 -- has; with 128 and 255 these are the terms of building's contract.
 abbrev pub TableMonitors : Type 0

@@ -1,0 +1,46 @@
+-- When a call is refused, for each function that can refuse: a clause for each way, with the paper's number and place. `RuleFault` and `ModelFault` have
+-- those of files. A table has 256 bytes for each of 128 equations, and 255 is the mark for dropped.
+use Prim.Native.Nat.{ℕ, _≤_, _<_}
+use mathlib.Core.Path.{_≡_}
+use mathlib.Core.Logic.{_⊎_}
+use mathlib.Core.List.{List}
+use lib.ListN.{length}
+use Rattle.reading.specs.Rule.{Rule, RuleWithinLimits, encode}
+use Rattle.reading.specs.Faults.{Fault as RuleFault}
+use Rattle.synthesis.specs.Promises.{Closed}
+use Rattle.running.specs.Running.{WellFormedTable}
+use Rattle.running.specs.declared.State.{State}
+use Rattle.models.specs.Model.{Model, Finite, Satisfies}
+use Rattle.models.specs.Faults.{Fault as ModelFault}
+use Rattle.models.specs.Promises.{Acceptable}
+
+-- counting the equations of a rule file
+pub data CountRefused (s : List ℕ) : (number place : ℕ) → Type 1 where
+  -- 1 to 7: the file is no rule
+  in-file : {number place : ℕ} → RuleFault s number place → CountRefused s number place
+  -- 8: no finite model satisfies the rule
+  unsatisfiable : (r : Rule) → RuleWithinLimits r → s ≡ encode r → ((m : Model) → Finite m → Satisfies m r → ⊥) → CountRefused s 8 0
+  -- 9: one does, and over 128 equations are reached: no list of so few is closed under the codes
+  too-many : (r : Rule) → RuleWithinLimits r → s ≡ encode r → (m : Model) → Finite m → Satisfies m r
+      → ((es : List ℕ) → length es ≤ 128 → Closed r es → ⊥) → CountRefused s 9 0
+
+-- building, with a table of so many bytes
+pub data BuildRefused (s : List ℕ) (size : ℕ) : (number place : ℕ) → Type 1 where
+  -- 10, which comes first: the table is too short
+  short-table : size < 32768 → BuildRefused s size 10 0
+  in-rule : {number place : ℕ} → 32768 ≤ size → CountRefused s number place → BuildRefused s size number place
+
+-- running, with an output and verdicts of so many bytes
+pub data RunRefused (table : List ℕ) (count : ℕ) (s : State) (scans : List ℕ) (output verdicts : ℕ) : (number place : ℕ) → Type 0 where
+  -- 15: a buffer is shorter than the scans
+  short-buffer : (output < length scans) ⊎ (verdicts < length scans) → RunRefused table count s scans output verdicts 15 0
+  -- 16: the buffers are long enough, and the table isn't well formed for the count or the state isn't under it
+  unfit : length scans ≤ output → length scans ≤ verdicts → (WellFormedTable 128 255 count table × (s .equation < count) → ⊥)
+      → RunRefused table count s scans output verdicts 16 0
+
+-- judging a model file under a rule file, with a table of so many bytes
+pub data JudgeRefused (s : List ℕ) (size : ℕ) (f : List ℕ) : (number place : ℕ) → Type 1 where
+  -- 10 and 1 to 9: building is refused
+  in-building : {number place : ℕ} → BuildRefused s size number place → JudgeRefused s size f number place
+  -- 11 to 14: it isn't, and the file is no model
+  in-model : {number place : ℕ} → 32768 ≤ size → Acceptable 128 s → ModelFault f number place → JudgeRefused s size f number place
