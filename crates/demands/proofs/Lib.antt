@@ -1,2 +1,3 @@
 pub mod Refused
+pub mod RefusedCalls
 pub mod Demands

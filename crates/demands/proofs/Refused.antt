@@ -1,7 +1,8 @@
--- What each function refuses, from the promises of the layers: a refusal of an outcome is that of one of its checks, in their order.
+-- What each function refuses, from the promises of the layers: a refusal of an outcome is that of one of its checks, in their order, and each check is
+-- the condition of a clause.
 use Prim.Native.Nat.{ℕ, _≤_, _<_}
-use mathlib.Core.Path.{_≡_, refl, sym, ap, _∙_}
-use mathlib.Core.Logic.{_↔_, _⊎_, inl, inr}
+use mathlib.Core.Path.{_≡_, refl}
+use mathlib.Core.Logic.{_↔_}
 use mathlib.Core.Bool.{Bool, true, false}
 use mathlib.Core.List.{List}
 use native.Mathlib.Omega.{arith}
@@ -9,28 +10,83 @@ use lib.Dec.{ltb}
 use lib.ListN.{length}
 use borrow.Author.Tests.{ltb-true, ltb-false}
 use Rattle.reading.specs.Rule.{Rule, Bytes}
-use Rattle.reading.specs.File.{Outcome, accepted, refused, andThen, ruleOf}
-use Rattle.reading.specs.Faults.{Fault as RuleFault}
-use Rattle.reading.specs.Numbered.{readingOf}
-use Rattle.reading.specs.declared.Answer.the-variants as Reading
+use Rattle.reading.specs.File.{accepted, refused, ruleOf}
 use Rattle.reading.proofs.Outcomes.{found, never-refused, refused-by}
 use Rattle.reading.proofs.Accepted.{reading-accepts}
 use Rattle.reading.proofs.FaultsRefused.{answer-refused, refuses-at-the-fault}
 use Rattle.synthesis.specs.Answering.{hopeless}
-use Rattle.synthesis.specs.Building.{equationsOf, Synthesis, synthesisOf, buildingOf, countedOf}
+use Rattle.synthesis.specs.Building.{equationsOf, synthesized, synthesisOf, buildingOf, countedOf}
 use Rattle.synthesis.specs.declared.Counted.the-variants as Counted
-use Rattle.synthesis.proofs.Synthesized.{building-enough, building-short, counted-refuses}
+use Rattle.synthesis.proofs.Synthesized.{building-enough, building-short, synthesis-of, counted-refuses}
 use Rattle.synthesis.proofs.Equations.{refuses-too-many}
 use Rattle.models.specs.Model.{Model, Finite, Satisfies}
-use Rattle.models.proofs.Acceptance.{refuses-unsatisfiable}
+use Rattle.models.proofs.Acceptance.{satisfiable, refuses-unsatisfiable}
 use Rattle.demands.specs.Refusals.{CountRefused, in-file, unsatisfiable, too-many, BuildRefused, short-table, in-rule}
 
 module _ (s : List ℕ) (bytes : Bytes s) where
+  abbrev Counts : ℕ → ℕ → Type 0
+  Counts number place = countedOf (synthesisOf 128 s) ≡ Counted.Refused number place
+
   -- ---- counting
 
-  eight : (r : Rule) → ruleOf s ≡ accepted r
-      → (countedOf (synthesisOf 128 s) ≡ Counted.Refused 8 0) ↔ ((m : Model) → Finite m → Satisfies m r → ⊥)
+  eight : (r : Rule) → ruleOf s ≡ accepted r → Counts 8 0 ↔ ((m : Model) → Finite m → Satisfies m r → ⊥)
   eight r read = rw (building-enough 128 s 32768 (omega arith)) at (refuses-unsatisfiable 128 s 32768 r bytes (omega arith) read .no-finite)
 
-  count-found : (number place : ℕ) → countedOf (synthesisOf 128 s) ≡ Counted.Refused number place → CountRefused s number place
-  count-found number place e = ?
+  -- a rule that was read
+  rule-found : (r : Rule) → ruleOf s ≡ accepted r → (number place : ℕ) → synthesized 128 r ≡ refused number place → CountRefused s number place
+  rule-found r read number place e =
+      let (w, is) = reading-accepts s bytes r .0 read in
+      let outcome : synthesisOf 128 s ≡ synthesized 128 r = synthesis-of 128 s r read in
+      found (CountRefused s) (hopeless r) 8 0 _ e
+      (λ t. unsatisfiable r w is (eight r read .0 (rw (outcome, t))))
+      (λ f e′.
+      found (CountRefused s) (ltb 128 (length (equationsOf 128 r))) 9 0 _ e′
+      (λ t.
+      let other : Counts 8 0 → ⊥ = λ e″. let z : Counted.Refused 9 0 ≡ Counted.Refused 8 0 = rw (outcome, f, t) at e″ in
+      let y : _≡_ {A = ℕ} 9 8 = cc in omega arith in
+      let (m, finite, satisfies) = satisfiable 128 s bytes r read other in
+      too-many r w is m finite satisfies (refuses-too-many 128 s r read other .0 (rw (outcome, f, t))))
+      (λ f′ e″. absurd (never-refused e″)))
+
+  count-found : (number place : ℕ) → Counts number place → CountRefused s number place
+  unfolding synthesisOf
+  count-found number place e =
+      refused-by (ruleOf s) (synthesized 128) (counted-refuses (synthesisOf 128 s) number place e)
+      (λ e′. in-file (refuses-at-the-fault s bytes number place .0 (answer-refused (ruleOf s) number place .0 e′)))
+      (λ r read e′. rule-found r read number place e′)
+
+  count-refuses : {number place : ℕ} → CountRefused s number place → Counts number place
+  unfolding synthesisOf
+  count-refuses {number} {place} (in-file fault) =
+      rw (answer-refused (ruleOf s) number place .1 (refuses-at-the-fault s bytes number place .1 fault))
+  count-refuses (unsatisfiable r w is none) = eight r (reading-accepts s bytes r .1 (w, is)) .1 none
+  count-refuses (too-many r w is m finite satisfies over) =
+      let read = reading-accepts s bytes r .1 (w, is) in
+      refuses-too-many 128 s r read (λ e. eight r read .0 e m finite satisfies) .1 over
+
+  pub count-refused : (number place : ℕ) → (countedOf (synthesisOf 128 s) ≡ Counted.Refused number place) ↔ CountRefused s number place
+  count-refused number place = (count-found number place, count-refuses)
+
+  -- ---- building
+
+  module _ (size : ℕ) where
+    build-found : (number place : ℕ) → countedOf (buildingOf 128 s size) ≡ Counted.Refused number place → BuildRefused s size number place
+    build-found number place e = on (ltb size 32768) refl
+      where
+        on : (b : Bool) → ltb size 32768 ≡ b → BuildRefused s size number place
+        on true t =
+            let short : size < 32768 = ltb-true size 32768 t in
+            let same : Counted.Refused 10 0 ≡ Counted.Refused number place = rw (building-short 128 s size short) at e in
+            let number-is : 10 ≡ number = cc in
+            let place-is : 0 ≡ place = cc in
+            rw (← number-is, ← place-is) (short-table short)
+        on false f =
+            let long : 32768 ≤ size = ltb-false size 32768 f in
+            in-rule long (count-found number place (rw (building-enough 128 s size long) at e))
+
+    build-refuses : {number place : ℕ} → BuildRefused s size number place → countedOf (buildingOf 128 s size) ≡ Counted.Refused number place
+    build-refuses (short-table short) = rw (building-short 128 s size short)
+    build-refuses (in-rule long fault) = rw (building-enough 128 s size long) (count-refuses fault)
+
+    pub build-refused : (number place : ℕ) → (countedOf (buildingOf 128 s size) ≡ Counted.Refused number place) ↔ BuildRefused s size number place
+    build-refused number place = (build-found number place, build-refuses)

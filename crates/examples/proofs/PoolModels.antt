@@ -20,7 +20,7 @@ use Rattle.models.specs.declared.Judged.the-variants.{Meets, Breaks}
 use Rattle.models.proofs.SatisfactionLaws.{satisfies-safe}
 use Rattle.models.proofs.DecidedSets.{decided-satisfies}
 use Rattle.models.proofs.BisimulationLaws.{bisimilar-alike}
-use Rattle.models.proofs.DemandThree.{demand-three}
+use Rattle.models.proofs.TablesEnforce.{tables-enforce}
 use Rattle.models.proofs.JudgingLaws.{judging-case}
 use Rattle.examples.specs.Examples.{tableLeft, poolFile, poolRule}
 use Rattle.examples.specs.ModelExamples.{behind, JudgesPool, breakingFile, breakingPhone, Breaking}
@@ -37,7 +37,7 @@ module _ (f : List ℕ) (y : Phone) (read : phoneOf f ≡ accepted y) where
   pool-enforces : Bytes f → (table : List ℕ) → 32768 ≤ length table
       → Enforces poolRule (suppressing (entry 256 255 (tableLeft poolFile table))) 0 (modelOf y)
   pool-enforces bytes table room =
-      demand-three 128 255 poolFile table f poolRule 3 y (omega arith) (search arith) bytes (number-pool .file .reading)
+      tables-enforce 128 255 poolFile table f poolRule 3 y (omega arith) (search arith) bytes (number-pool .file .reading)
       (number-pool .file .answers .building table room) read .0
 
   pool-judging : (table : List ℕ) → 32768 ≤ length table

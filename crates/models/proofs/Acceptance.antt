@@ -17,7 +17,7 @@ use Rattle.synthesis.proofs.RuleMonitor.{hopeless-iff}
 use Rattle.synthesis.proofs.Synthesized.{made, synthesis-of}
 use Rattle.synthesis.proofs.Equations.{file-well-formed, answers-count, checks-table, reaches-equations, refuses-too-many}
 use Rattle.synthesis.proofs.Built.{refuses-hopeless}
-use Rattle.models.specs.Model.{Model, Satisfies}
+use Rattle.models.specs.Model.{Model, Finite, Satisfies}
 use Rattle.models.specs.Phone.{Phone, modelOf, PhoneWithinLimits}
 use Rattle.models.specs.Promises.{Acceptable, AcceptsExactly, RefusesUnsatisfiable}
 use Rattle.models.proofs.QuietModels.{empty-safe, quiet-satisfies}
@@ -51,6 +51,14 @@ unrefused y false true o e eight nine = absurd (nine (rw e))
 unrefused y false false o e eight nine = (length (y .equations), rw e)
 
 module _ (limit : ℕ) (s : List ℕ) (bytes : Bytes s) where
+  unrefused-satisfies : (r : Rule) → ruleOf s ≡ accepted r → (countedOf (synthesisOf limit s) ≡ Refused 8 0 → ⊥) → Satisfies still r
+  unrefused-satisfies r read other = still-satisfies r (λ v. other (refuses-hopeless limit s bytes r read .1 v))
+
+  -- so some finite model satisfies a rule that isn't refused with 8
+  pub satisfiable : (r : Rule) → ruleOf s ≡ accepted r → (countedOf (synthesisOf limit s) ≡ Refused 8 0 → ⊥)
+      → (m : Model) × Finite m × Satisfies m r
+  satisfiable r read other = (still, phones-finite stillPhone, unrefused-satisfies r read other)
+
   counted-acceptable : (n : ℕ) → countedOf (synthesisOf limit s) ≡ Equations n → Acceptable limit s
   counted-acceptable n e =
       let counts = answers-count limit s n e in
@@ -65,9 +73,7 @@ module _ (limit : ℕ) (s : List ℕ) (bytes : Bytes s) where
         closed = reaches-equations limit s bytes r n (counts .is) e .closed;
         model = still;
         finite = phones-finite stillPhone;
-        satisfied = still-satisfies r (λ v.
-            let refused : countedOf (synthesisOf limit s) ≡ Refused 8 0 = refuses-hopeless limit s bytes r (counts .is) .1 v in
-            let z : _≡_ {A = ℕ} 0 1 = cc in omega arith);
+        satisfied = unrefused-satisfies r (counts .is) (λ refused. let z : _≡_ {A = ℕ} 0 1 = cc in omega arith);
       }
 
   module _ (r : Rule) (read : ruleOf s ≡ accepted r) where

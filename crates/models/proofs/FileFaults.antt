@@ -1,6 +1,6 @@
 -- A model file is refused with a number at a place exactly where a clause of `Fault` has it so.
 use mathlib.Core.Path.{_≡_, refl, sym, ap, _∙_, subst}
-use mathlib.Core.Logic.{inl, inr}
+use mathlib.Core.Logic.{_↔_, inl, inr}
 use mathlib.Core.Bool.{Bool, true, false, cond, not, _||_}
 use mathlib.Core.List.{List, []}
 use Prim.Native.Nat.{ℕ, zero, suc, _+_, _-_, _≤_, _<_}
@@ -187,9 +187,13 @@ module _ (f : List ℕ) (bytes : Bytes f) where
 
 -- ---- the promise
 
+pub model-refused : (o : Outcome Phone) (number place : ℕ) → (o ≡ refused number place) ↔ (modelReadingOf o .answer ≡ Refused number place)
+model-refused (accepted y) number place =
+    (λ e. let z : _≡_ {A = ℕ} 0 1 = cc in absurd (omega arith), λ e. let z : _≡_ {A = ℕ} 0 1 = cc in absurd (omega arith))
+model-refused (refused other there) number place = (λ e. cc, λ e. cc)
+
 pub refuses-at-the-fault : RefusesAtTheFault
-refuses-at-the-fault f bytes number place = (λ e. rw (told (phoneOf f) e) at (phone-faulty f bytes), λ h. rw (fault-refuses f bytes h))
-  where
-    told : (o : Outcome Phone) → modelReadingOf o .answer ≡ Refused number place → o ≡ refused number place
-    told (accepted y) e = let z : _≡_ {A = ℕ} 0 1 = cc in absurd (omega arith)
-    told (refused other there) e = cc
+refuses-at-the-fault f bytes number place = (
+  λ e. rw (model-refused (phoneOf f) number place .1 e) at (phone-faulty f bytes),
+  λ h. rw (fault-refuses f bytes h),
+)

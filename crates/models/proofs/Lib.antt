@@ -18,7 +18,7 @@ pub mod Settled
 pub mod ModelFronts
 pub mod FileFaults
 pub mod PhoneCodes
-pub mod DemandThree
+pub mod TablesEnforce
 pub mod BoundedTests
 pub mod GreatestSets
 pub mod PhoneStates

@@ -48,8 +48,8 @@ RunsBehind = (E : Type 0) (answer : E → ℕ → Answer E) (first : E) (m : Mod
 
 -- Demand 3 holds for the table that building leaves, whatever the table held before, and every model file that isn't refused, with
 -- dropped scans in the claim.
-abbrev pub DemandThree : Type 1
-DemandThree =
+abbrev pub TablesEnforce : Type 1
+TablesEnforce =
     (limit mark : ℕ) (s table f : List ℕ) (r : Rule) (n : ℕ) (y : Phone) → limit ≤ mark → Bytes s → Bytes f
     → ruleOf s ≡ accepted r → countedOf (buildingOf limit s (length table)) ≡ Equations n → phoneOf f ≡ accepted y →
     let answer = entry 256 mark (tableAfter mark (buildingOf limit s (length table)) table) in

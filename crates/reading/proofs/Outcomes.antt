@@ -22,7 +22,7 @@ neither true b e = let z : _≡_ {A = ℕ} 0 1 = cc in absurd (omega arith)
 neither false b e = (refl, e)
 
 -- what is refused was refused by this check or by a later one
-pub found : {A : Type 0} (P : (number place : ℕ) → Type 0) (b : Bool) (k q : ℕ) (o : Outcome A) {number place : ℕ}
+pub found {ℓ} : {A : Type 0} (P : (number place : ℕ) → Type ℓ) (b : Bool) (k q : ℕ) (o : Outcome A) {number place : ℕ}
     → refuse b k q o ≡ refused number place → (b ≡ true → P k q) → (b ≡ false → o ≡ refused number place → P number place) → P number place
 found P true k q o {number} {place} e here later =
     let same : k ≡ number = cc in
@@ -35,7 +35,7 @@ never-refused e = let z : _≡_ {A = ℕ} 0 1 = cc in omega arith
 
 module _ {A B : Type 0} where
   -- what two steps refuse, the first or the second refuses
-  pub refused-by : {P : Type 0} (o : Outcome A) (f : A → Outcome B) {number place : ℕ} → andThen o f ≡ refused number place
+  pub refused-by {ℓ} : {P : Type ℓ} (o : Outcome A) (f : A → Outcome B) {number place : ℕ} → andThen o f ≡ refused number place
       → (o ≡ refused number place → P) → ((a : A) → o ≡ accepted a → f a ≡ refused number place → P) → P
   refused-by (accepted a) f e first second = second a refl e
   refused-by (refused m at) f e first second = first cc

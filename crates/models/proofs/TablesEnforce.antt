@@ -6,15 +6,15 @@ use Rattle.synthesis.specs.Building.{buildingOf, tableAfter}
 use Rattle.synthesis.proofs.Built.{table-monitors}
 use Rattle.models.specs.Model.{suppressing}
 use Rattle.models.specs.Phone.{modelOf}
-use Rattle.models.specs.Promises.{DemandThree}
+use Rattle.models.specs.Promises.{TablesEnforce}
 use Rattle.models.proofs.Responses.{suppressing-passes}
 use Rattle.models.proofs.Suppressing.{runs-behind}
 use Rattle.models.proofs.PhoneCodes.{phone-codes}
 use Rattle.models.proofs.Enforcing.{monitors-enforce}
 use Rattle.models.proofs.Encoding.{accepts-phones}
 
-pub demand-three : DemandThree
-demand-three limit mark s table f r n y below bytes bytes′ read e read′ =
+pub tables-enforce : TablesEnforce
+tables-enforce limit mark s table f r n y below bytes bytes′ read e read′ =
     let answer : ℕ → ℕ → Answer ℕ = entry 256 mark (tableAfter mark (buildingOf limit s (length table)) table) in (
       monitors-enforce ℕ r answer 0 (table-monitors limit mark s table r n below bytes read e) (suppressing answer) (suppressing-passes answer)
           (modelOf y) (phone-codes y (accepts-phones f bytes′ y .0 read′ .0 .well-formed)),

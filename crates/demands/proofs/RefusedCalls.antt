@@ -1,0 +1,95 @@
+-- What running and judging refuse, in the same way.
+use Prim.Native.Nat.{ℕ}
+use mathlib.Core.Path.{_≡_, refl, ap}
+use mathlib.Core.Logic.{_↔_, inl, inr}
+use mathlib.Core.Bool.{not}
+use mathlib.Core.List.{List}
+use native.Mathlib.Omega.{arith}
+use lib.ListN.{length}
+use Rattle.reading.specs.Rule.{Bytes}
+use Rattle.reading.specs.File.{Outcome, accepted, refused}
+use Rattle.reading.proofs.Outcomes.{found, never-refused, refused-by}
+use Rattle.synthesis.specs.Building.{buildingOf, countedOf}
+use Rattle.synthesis.proofs.Synthesized.{building-accepts, counted-accepts, counted-refuses}
+use Rattle.running.specs.Running.{roomy, fits, Run, runOf, checkedOf, ranOf}
+use Rattle.running.specs.declared.State.{State}
+use Rattle.running.specs.declared.Checked.the-variants as Checked
+use Rattle.running.proofs.Refusals.{runs-on-tables}
+use Rattle.models.specs.Phone.{phoneOf}
+use Rattle.models.specs.Judging.{RuleAndModel, judgingOf, JudgedAs}
+use Rattle.models.specs.declared.Judged.the-variants as Judged
+use Rattle.models.proofs.Acceptance.{accepts-exactly}
+use Rattle.models.proofs.FileFaults.{model-refused, refuses-at-the-fault}
+use Rattle.demands.specs.Refusals.{RunRefused, short-buffer, unfit, JudgeRefused, in-building, in-model}
+use Rattle.demands.proofs.Refused.{build-refused}
+
+-- ---- running
+
+pub checked-alike : (s : State) (o : Outcome Run) → ranOf s o .checked ≡ checkedOf o
+checked-alike s (accepted y) = refl
+checked-alike s (refused number place) = refl
+
+checked-refuses : (o : Outcome Run) (number place : ℕ) → checkedOf o ≡ Checked.Refused number place → o ≡ refused number place
+checked-refuses (accepted y) number place e = let z : _≡_ {A = ℕ} 0 1 = cc in absurd (omega arith)
+checked-refuses (refused m at) number place e = cc
+
+module _ (table : List ℕ) (count : ℕ) (s : State) (scans : List ℕ) (output verdicts : ℕ) where
+  abbrev Refuses : ℕ → ℕ → Type 0
+  Refuses = RunRefused table count s scans output verdicts
+
+  run-found : (number place : ℕ) → checkedOf (runOf 128 255 table count s scans output verdicts) ≡ Checked.Refused number place → Refuses number place
+  unfolding runOf
+  run-found number place e =
+      let runs = runs-on-tables 128 255 table count s scans output verdicts in
+      found Refuses (not (roomy scans output verdicts)) 15 0 _ (checked-refuses (runOf 128 255 table count s scans output verdicts) number place e)
+      (λ t. short-buffer (runs .short .0 (rw t)))
+      (λ f e′.
+      found Refuses (not (fits 128 255 table count s)) 16 0 _ e′
+      (λ t. let (room, room′, bad) = runs .unfit .0 (rw (f, t)) in unfit room room′ bad)
+      (λ f′ e″. absurd (never-refused e″)))
+
+  run-refuses : {number place : ℕ} → Refuses number place → checkedOf (runOf 128 255 table count s scans output verdicts) ≡ Checked.Refused number place
+  run-refuses (short-buffer short) = runs-on-tables 128 255 table count s scans output verdicts .short .1 short
+  run-refuses (unfit room room′ bad) = runs-on-tables 128 255 table count s scans output verdicts .unfit .1 (room, room′, bad)
+
+  pub run-refused : (number place : ℕ)
+      → (ranOf s (runOf 128 255 table count s scans output verdicts) .checked ≡ Checked.Refused number place) ↔ Refuses number place
+  run-refused number place =
+      rw (checked-alike s (runOf 128 255 table count s scans output verdicts)) (run-found number place, run-refuses)
+
+-- ---- judging
+
+judged-refuses : (o : Outcome RuleAndModel) (number place : ℕ) → JudgedAs o (Judged.Refused number place) → o ≡ refused number place
+judged-refuses (accepted x) number place (inl (e, sat)) = let z : _≡_ {A = ℕ} 0 1 = cc in absurd (omega arith)
+judged-refuses (accepted x) number place (inr (e, sat)) = let z : _≡_ {A = ℕ} 0 1 = cc in absurd (omega arith)
+judged-refuses (refused m at) number place e = cc
+
+module _ (s table f : List ℕ) (bytes : Bytes s) (bytes′ : Bytes f) where
+  judge-found : (number place : ℕ) → JudgedAs (judgingOf 128 s (length table) f) (Judged.Refused number place)
+      → JudgeRefused s (length table) f number place
+  unfolding judgingOf
+  judge-found number place judged =
+      refused-by (buildingOf 128 s (length table)) _ (judged-refuses (judgingOf 128 s (length table) f) number place judged)
+      (λ e. in-building (build-refused s bytes (length table) number place .0 (ap countedOf e)))
+      (λ y built e.
+      let (room, made) = building-accepts 128 s (length table) y built in
+      refused-by (phoneOf f) _ e
+      (λ e′.
+      in-model room (accepts-exactly 128 s table bytes room .0 (length (y .equations), ap countedOf built))
+      (refuses-at-the-fault f bytes′ number place .0 (model-refused (phoneOf f) number place .0 e′)))
+      (λ p read e′. absurd (never-refused e′)))
+
+  judge-refuses : {number place : ℕ} → JudgeRefused s (length table) f number place
+      → JudgedAs (judgingOf 128 s (length table) f) (Judged.Refused number place)
+  unfolding judgingOf
+  judge-refuses {number} {place} (in-building b) =
+      rw (counted-refuses (buildingOf 128 s (length table)) number place (build-refused s bytes (length table) number place .1 b))
+  judge-refuses {number} {place} (in-model room a fault) =
+      let (n, e) = accepts-exactly 128 s table bytes room .1 a in
+      let (y, built, long) = counted-accepts (buildingOf 128 s (length table)) n e in
+      let read = model-refused (phoneOf f) number place .1 (refuses-at-the-fault f bytes′ number place .1 fault) in
+      rw (built, read)
+
+  pub judge-refused : (number place : ℕ)
+      → JudgedAs (judgingOf 128 s (length table) f) (Judged.Refused number place) ↔ JudgeRefused s (length table) f number place
+  judge-refused number place = (judge-found number place, judge-refuses)
