@@ -1,4 +1,4 @@
-/* Loops over a block of scans, as run_loop says. */
+/* Loops over a block of scans, as run_loop says, and one with the checks of a run. */
 #include "twin.h"
 
 #include <string.h>
@@ -22,13 +22,12 @@ static void jump(const uint8_t *restrict table, struct run *run, const uint8_t *
     run->kept = kept;
 }
 
-/* The entry of a code in the row that begins at `from`. Where `column_first` holds, the empty statement has gcc add the code to the table first and the
-   row last, so that the next look-up waits for one sum less. */
-static inline size_t entry_at(const uint8_t *table, size_t from, uint8_t code, int column_first)
+/* The entry of a code in the row that begins at `from`. By the empty statement gcc adds the code to the table first and the row last, so that the next
+   look-up waits for one sum less. */
+static inline size_t entry_at(const uint8_t *table, size_t from, uint8_t code)
 {
     const uint8_t *column = table + code;
-    if (column_first)
-        __asm__("" : "+r"(column));
+    __asm__("" : "+r"(column));
     return column[from];
 }
 
@@ -39,7 +38,7 @@ static void tuned_jump(const uint8_t *restrict table, struct run *run, const uin
     size_t from = CODES * run->equation, kept = 0;
     for (size_t i = 0; i < n; i++) {
         uint8_t code = scans[i];
-        size_t entry = entry_at(table, from, code, 1);
+        size_t entry = entry_at(table, from, code);
         if (entry == DROPPED) {
             verdicts[i] = 1;
         } else {
@@ -69,14 +68,14 @@ static void choice(const uint8_t *restrict table, struct run *run, const uint8_t
     run->kept = kept;
 }
 
-/* The same, from row to row. */
-static inline void choice_by_rows(const uint8_t *restrict table, struct run *run, const uint8_t *restrict scans, size_t n, uint8_t *restrict output,
-                                  uint8_t *restrict verdicts, int column_first)
+/* The same, going from the beginning of one row to that of the next. */
+static void tuned_choice(const uint8_t *restrict table, struct run *run, const uint8_t *restrict scans, size_t n, uint8_t *restrict output,
+                         uint8_t *restrict verdicts)
 {
     size_t from = CODES * run->equation, kept = 0;
     for (size_t i = 0; i < n; i++) {
         uint8_t code = scans[i];
-        size_t entry = entry_at(table, from, code, column_first);
+        size_t entry = entry_at(table, from, code);
         uint8_t dropped = entry == DROPPED;
         verdicts[i] = dropped;
         output[kept] = code;
@@ -87,18 +86,8 @@ static inline void choice_by_rows(const uint8_t *restrict table, struct run *run
     run->kept = kept;
 }
 
-static void row_choice(const uint8_t *table, struct run *run, const uint8_t *scans, size_t n, uint8_t *output, uint8_t *verdicts)
-{
-    choice_by_rows(table, run, scans, n, output, verdicts, 0);
-}
-
-static void tuned_choice(const uint8_t *table, struct run *run, const uint8_t *scans, size_t n, uint8_t *output, uint8_t *verdicts)
-{
-    choice_by_rows(table, run, scans, n, output, verdicts, 1);
-}
-
 const struct named_loop loops[] = {
-    {"jump", jump}, {"tuned jump", tuned_jump}, {"choice", choice}, {"row choice", row_choice}, {"tuned choice", tuned_choice},
+    {"jump", jump}, {"choice", choice}, {"tuned jump", tuned_jump}, {"tuned choice", tuned_choice},
 };
 
 const size_t nloops = sizeof loops / sizeof loops[0];
@@ -109,4 +98,29 @@ run_loop *loop_named(const char *name)
         if (strcmp(loops[i].name, name) == 0)
             return loops[i].loop;
     return NULL;
+}
+
+/* Whether each entry is under the count or the mark for dropped. */
+static int in_range(const uint8_t *entries, size_t n, uint8_t count)
+{
+    uint8_t all = 1;
+    for (size_t i = 0; i < n; i++)
+        all &= (entries[i] < count) | (entries[i] == DROPPED);
+    return all;
+}
+
+uint8_t twin_run(const uint8_t *table, size_t table_len, size_t count, size_t *equation, const uint8_t *scans, size_t scans_len, uint8_t *output,
+                 size_t output_len, uint8_t *verdicts, size_t verdicts_len, size_t *kept, size_t *dropped)
+{
+    struct run run = {*equation, 0};
+    *kept = *dropped = 0;
+    if (output_len < scans_len || verdicts_len < scans_len)
+        return 15;
+    if (count < 1 || count > MOST_EQUATIONS || run.equation >= count || table_len < CODES * count || !in_range(table, CODES * count, (uint8_t)count))
+        return 16;
+    jump(table, &run, scans, scans_len, output, verdicts);
+    *equation = run.equation;
+    *kept = run.kept;
+    *dropped = scans_len - run.kept;
+    return 0;
 }

@@ -9,45 +9,60 @@
 #include <stdlib.h>
 #include <string.h>
 
-enum { BLOCK = 65536, BLOCKS = 16, RUN_CALLS = 16, BUILD_CALLS = 7, MODEL_LEN = 2 + 3 * MOST_STATES + 4 * (MOST_STEPS - MOST_STATES) };
+enum { BLOCK = 65536, BLOCKS = 16, RUN_CALLS = 16, SMALL_CALLS = 256, BUILD_CALLS = 7 };
 
 static uint8_t scans[BLOCKS * BLOCK];
 
-/* A run over block after block: by the library, or else by a loop in C. */
+typedef uint8_t run_function(const uint8_t *, size_t, size_t, size_t *, const uint8_t *, size_t, uint8_t *, size_t, uint8_t *, size_t, size_t *,
+                             size_t *);
+
+/* Runs over the scans, so many a call and so many calls a turn: by a function that checks, or else by a loop in C that doesn't. */
 struct runner {
+    run_function *function;
     run_loop *loop;
     const uint8_t *table;
+    size_t count, size, calls, turn, kept, dropped;
     struct run run;
-    size_t turn, dropped;
     uint8_t refused, output[BLOCK], verdicts[BLOCK];
 };
 
-static void run_block(void *work)
+static void run_once(struct runner *r, const uint8_t *from, uint8_t *verdicts)
+{
+    uint8_t *output = r->output + r->kept;
+    size_t dropped;
+    if (r->function) {
+        r->refused |= r->function(r->table, CODES * r->count, r->count, &r->run.equation, from, r->size, output, r->size, verdicts, r->size,
+                                  &r->run.kept, &dropped);
+    } else {
+        r->loop(r->table, &r->run, from, r->size, output, verdicts);
+        dropped = r->size - r->run.kept;
+    }
+    r->kept += r->run.kept;
+    r->dropped += dropped;
+}
+
+static void run_turn(void *work)
 {
     struct runner *r = work;
     const uint8_t *block = scans + BLOCK * (r->turn++ % BLOCKS);
-    if (r->loop) {
-        r->loop(r->table, &r->run, block, BLOCK, r->output, r->verdicts);
-        r->dropped = BLOCK - r->run.kept;
-    } else {
-        r->refused = jarveun_run(r->table, LEAST_TABLE, MOST_EQUATIONS, &r->run.equation, block, BLOCK, r->output, BLOCK, r->verdicts, BLOCK,
-                                 &r->run.kept, &r->dropped);
-    }
+    r->kept = r->dropped = 0;
+    for (size_t i = 0; i < r->calls; i++)
+        run_once(r, block + r->size * i, r->verdicts + r->size * i);
 }
 
-static int same_block(const void *a, const void *b)
+static int same_turn(const void *a, const void *b)
 {
     const struct runner *x = a, *y = b;
-    return x->refused == y->refused && x->run.equation == y->run.equation && x->run.kept == y->run.kept && x->dropped == y->dropped &&
-           memcmp(x->output, y->output, x->run.kept) == 0 && memcmp(x->verdicts, y->verdicts, BLOCK) == 0;
+    return x->refused == y->refused && x->run.equation == y->run.equation && x->kept == y->kept && x->dropped == y->dropped &&
+           memcmp(x->output, y->output, x->kept) == 0 && memcmp(x->verdicts, y->verdicts, x->size * x->calls) == 0;
 }
 
-/* A table of 128 equations with entries at random, so many in 100 of them dropped. */
-static void random_table(uint8_t *table, unsigned percent)
+/* A table of so many equations with entries at random, so many in 100 of them dropped. */
+static void random_table(uint8_t *table, size_t count, unsigned percent)
 {
     uint64_t seed = 1000 + percent;
-    for (size_t i = 0; i < LEAST_TABLE; i++)
-        table[i] = random_under(&seed, 100) < percent ? DROPPED : (uint8_t)random_under(&seed, MOST_EQUATIONS);
+    for (size_t i = 0; i < CODES * count; i++)
+        table[i] = random_under(&seed, 100) < percent ? DROPPED : (uint8_t)random_under(&seed, (unsigned)count);
 }
 
 static void print(const char *what, const struct entrant *entrants, size_t n)
@@ -57,20 +72,52 @@ static void print(const char *what, const struct entrant *entrants, size_t n)
     fflush(stdout);
 }
 
+/* The entrants of a contest of runs. The first is ours. */
+static struct runner runners[MOST_ENTRANTS];
+static struct entrant entrants[MOST_ENTRANTS];
+
+static void enter(size_t j, const char *name, const struct runner *runner)
+{
+    runners[j] = *runner;
+    entrants[j] = (struct entrant){name, &runners[j], run_turn, 0, 0};
+}
+
+/* One call on a block. */
 static void contest_of_runs(unsigned percent, size_t rounds)
 {
     static uint8_t table[LEAST_TABLE];
-    static struct runner runners[MOST_ENTRANTS];
-    struct entrant entrants[MOST_ENTRANTS];
     char what[80];
-    random_table(table, percent);
-    for (size_t j = 0; j <= nloops; j++) {
-        runners[j] = (struct runner){.loop = j ? loops[j - 1].loop : NULL, .table = table};
-        entrants[j] = (struct entrant){j ? loops[j - 1].name : "run", &runners[j], run_block, 0, 0};
+    random_table(table, MOST_EQUATIONS, percent);
+    struct runner runner = {.table = table, .count = MOST_EQUATIONS, .size = BLOCK, .calls = 1};
+    runner.function = jarveun_run;
+    enter(0, "run", &runner);
+    runner.function = NULL;
+    for (size_t j = 0; j < nloops; j++) {
+        runner.loop = loops[j].loop;
+        enter(j + 1, loops[j].name, &runner);
     }
-    compete(entrants, nloops + 1, rounds, RUN_CALLS, same_block);
+    compete(entrants, nloops + 1, rounds, RUN_CALLS, same_turn);
     snprintf(what, sizeof what, "run %u", percent);
     print(what, entrants, nloops + 1);
+}
+
+/* Calls on a few scans each: the loop "jump", without and with the checks of a run. */
+static void contest_of_small_calls(size_t count, size_t size, size_t rounds)
+{
+    static uint8_t table[LEAST_TABLE];
+    char what[80];
+    random_table(table, count, 1);
+    struct runner runner = {.table = table, .count = count, .size = size, .calls = SMALL_CALLS};
+    runner.function = jarveun_run;
+    enter(0, "run", &runner);
+    runner.function = twin_run;
+    enter(1, "checked jump", &runner);
+    runner.function = NULL;
+    runner.loop = loop_named("jump");
+    enter(2, "jump", &runner);
+    compete(entrants, 3, rounds, RUN_CALLS, same_turn);
+    snprintf(what, sizeof what, "small %zu %zu", count, size);
+    print(what, entrants, 3);
 }
 
 typedef uint8_t build_function(const uint8_t *, size_t, uint8_t *, size_t, size_t *);
@@ -112,29 +159,9 @@ static void contest_of_jobs(const char *what, struct job ours, struct job twin, 
     print(what, entrants, 2);
 }
 
-/* The largest model. Each state has a silent step to the next and seven steps with codes to states at random: code 5 from odd states, codes at
-   random from even ones. */
-static void largest_model(uint8_t *model)
-{
-    uint64_t seed = 7;
-    *model++ = 16;
-    *model++ = MOST_STATES;
-    for (unsigned i = 0; i < MOST_STEPS; i++) {
-        uint8_t from = (uint8_t)(i % MOST_STATES);
-        *model++ = i < MOST_STATES ? 18 : 17;
-        *model++ = from;
-        if (i < MOST_STATES) {
-            *model++ = (uint8_t)((i + 1) % MOST_STATES);
-        } else {
-            *model++ = i % 2 ? 5 : (uint8_t)random_under(&seed, CODES);
-            *model++ = (uint8_t)random_under(&seed, MOST_STATES);
-        }
-    }
-}
-
 static void contests_of_rule(const char *name, const uint8_t *rule, size_t len, size_t rounds)
 {
-    static uint8_t model[MODEL_LEN];
+    static uint8_t model[LARGEST_MODEL];
     char what[80];
     largest_model(model);
     struct job ours = {.rule = rule, .rule_len = len, .model = model, .model_len = sizeof model, .build = jarveun_build}, twin = ours;
@@ -158,6 +185,11 @@ int main(int argc, char **argv)
     contest_of_runs(1, rounds);
     contest_of_runs(10, rounds);
     contest_of_runs(50, rounds);
+    for (size_t count = 3; count <= MOST_EQUATIONS; count += MOST_EQUATIONS - 3) {
+        contest_of_small_calls(count, 1, rounds);
+        contest_of_small_calls(count, 16, rounds);
+        contest_of_small_calls(count, 50, rounds);
+    }
     contests_of_rule("paper", paper_rule, sizeof paper_rule, rounds);
     contests_of_rule("hard", hard_rule, sizeof hard_rule, rounds);
     return 0;

@@ -1,6 +1,9 @@
-/* Rules whose tables take long to build. */
+/* Rules whose tables take long to build, and the largest model. */
 #ifndef RULES_H
 #define RULES_H
+
+#include "random.h"
+#include "twin.h"
 
 #include <stdint.h>
 
@@ -25,5 +28,27 @@ static const uint8_t hard_rule[] = {
     4, 5, 0, 5, 0, 5, 0, 5, 0, 5, 0, 2,
     5, 0, 5, 0, 5, 0, 5, 0, 2,
 };
+
+enum { LARGEST_MODEL = 2 + 3 * MOST_STATES + 4 * (MOST_STEPS - MOST_STATES) };
+
+/* The largest model. Each state has a silent step to the next and seven steps with codes to states at random: code 5 from odd states, codes at
+   random from even ones. */
+static inline void largest_model(uint8_t *model)
+{
+    uint64_t seed = 7;
+    *model++ = 16;
+    *model++ = MOST_STATES;
+    for (unsigned i = 0; i < MOST_STEPS; i++) {
+        uint8_t from = (uint8_t)(i % MOST_STATES);
+        *model++ = i < MOST_STATES ? 18 : 17;
+        *model++ = from;
+        if (i < MOST_STATES) {
+            *model++ = (uint8_t)((i + 1) % MOST_STATES);
+        } else {
+            *model++ = i % 2 ? 5 : (uint8_t)random_under(&seed, CODES);
+            *model++ = (uint8_t)random_under(&seed, MOST_STATES);
+        }
+    }
+}
 
 #endif

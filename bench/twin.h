@@ -49,4 +49,8 @@ extern const size_t nloops;
 /* NULL where there is none of that name. */
 run_loop *loop_named(const char *name);
 
+/* As jarveun_run: the loop "jump", after the same checks. */
+uint8_t twin_run(const uint8_t *table, size_t table_len, size_t count, size_t *equation, const uint8_t *scans, size_t scans_len, uint8_t *output,
+                 size_t output_len, uint8_t *verdicts, size_t verdicts_len, size_t *kept, size_t *dropped);
+
 #endif

@@ -1,6 +1,6 @@
 // The library for programs in C: building, judging and running, under plain names. A slice is a pointer and a length; the contracts suppose that
-// it is good, and apart from what is changed. bench/jarveun.h declares the functions. The definitions that the contracts cite stand in specs/ of
-// the layers; Results.antt has the answers as numbers.
+// it is good, and apart from what is changed. include/jarveun.h declares the functions, and says what a caller owes. The definitions that the
+// contracts cite stand in specs/ of the layers; Results.antt has the answers as numbers.
 use models::Judged;
 use running::Checked;
 use running::State;

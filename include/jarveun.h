@@ -1,0 +1,75 @@
+/* Jarveun for programs in C and C++: a rule is built into a table, scans are run through the table, a model of a phone is judged under a rule.
+   README.md says what the files mean. `rt staticlib boundary` writes target/staticlib/libboundary.a, for x86-64 Linux; it is linked beside the
+   program, and wants nothing but memcpy and memset of the C library.
+
+   Every function answers 0, or the number of a refusal. Whatever the bytes are, it ends, and does what is said here.
+
+   What is handed over
+   - A pointer and the length after it: that many bytes are there to be read, and where the pointer isn't const, to be written.
+   - No pointer is null, also where its length is 0. The pointers to size_t are aligned for it; those to bytes needn't be.
+   - What is written to overlaps nothing else of the same call: so a run can't put its output over its scans. What is only read may overlap.
+   - While a call runs, nobody else writes to what it was handed, or reads what it writes.
+   A buffer that is too short is refused, by 10, 15 or 16, and is no breach of these duties; a length that isn't true is.
+
+   What a call takes
+   - No globals, heap, files or locks: calls share nothing, and may run side by side, any number of them on one table that they only read.
+   - Stack. At most 200 bytes were seen in use by a run, 47,000 by building and 81,000 by judging, the last two on rules with 64 nodes, each inside
+     the one before; bench/stack.c measures this.
+
+   The refusals. A place is an offset in bytes from 0, in the rule, or for 11 to 14 in the model. Where none is named below, it is that of the
+   record's first byte.
+    1  the rule ends before its formula is whole; at its length
+    2  a record of the rule with a kind that isn't 1 to 7
+    3  a byte after the whole formula, or a pattern once the formula has begun; at that byte
+    4  a 33rd pattern or a 65th node
+    5  a pattern with no kind, with a slot over 31, or whose first slot is after its last
+    6  a pattern number or a depth that names nothing
+    7  a variable with no necessity between it and its max
+    8  opening the formula gives ff at once: no model satisfies the rule; at 0
+    9  the rule has over 128 equations; at 0
+   10  the table has under 32,768 bytes; at 0
+   11  the model is empty, or ends inside a record; at its length
+   12  a record of the model with another kind than is due, or a count of states that isn't 1 to 64
+   13  a step with a state that isn't under the count
+   14  a 513th step
+   15  the output or the verdicts are shorter than the scans; at 0
+   16  the count isn't 1 to 128, the equation isn't under it, the table has under 256 * count bytes, or one of these bytes is neither under the
+       count nor 255; at 0 */
+#ifndef JARVEUN_H
+#define JARVEUN_H
+
+#include <stddef.h>
+#include <stdint.h>
+
+#ifdef __cplusplus
+extern "C" {
+#endif
+
+/* The least size of a table for building and judging. */
+#define JARVEUN_TABLE 32768
+
+/* Builds the table of a rule. The table has at least JARVEUN_TABLE bytes. Refusals: 10, then 1 to 9.
+   0: *value is the count of equations, 1 to 128. Row k, the 256 bytes of the table from 256 * k on, has an entry for each code: the next equation,
+   or 255 where the code is dropped. The bytes after the last row are as they were.
+   Refused: *value is the place, and the table is as it was. *value is never read. */
+uint8_t jarveun_build(const uint8_t *rule, size_t rule_len, uint8_t *table, size_t table_len, size_t *value);
+
+/* Judges a model under a rule. The table has at least JARVEUN_TABLE bytes. Refusals: 10, then 1 to 9, then 11 to 14.
+   0: *value is 1 where the model meets the rule, and 0 where it breaks it. The table is as building leaves it.
+   Refused: *value is the place, and the table is as it was. *value is never read. */
+uint8_t jarveun_judge(const uint8_t *rule, size_t rule_len, const uint8_t *model, size_t model_len, uint8_t *table, size_t table_len, size_t *value);
+
+/* Runs scans through a table with so many equations, as building answered. The table has at least 256 * count bytes, and no others are looked at;
+   the output and the verdicts have each at least as many bytes as there are scans. Refusals: 15, then 16.
+   *equation goes in and comes out: the first equation, 0, before the first call, and then what the last call left there.
+   0: the kept scans are at the front of the output, *kept of them, and at the front of the verdicts there is a byte for each scan, 0 kept or
+   1 dropped, *dropped of them 1. All other bytes of both are as they were.
+   Refused: *equation and both buffers are as they were, *kept and *dropped are 0, and the place is 0. *kept and *dropped are never read. */
+uint8_t jarveun_run(const uint8_t *table, size_t table_len, size_t count, size_t *equation, const uint8_t *scans, size_t scans_len,
+                    uint8_t *output, size_t output_len, uint8_t *verdicts, size_t verdicts_len, size_t *kept, size_t *dropped);
+
+#ifdef __cplusplus
+}
+#endif
+
+#endif
