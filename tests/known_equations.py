@@ -1,5 +1,5 @@
 """Listings of rules, answers of building, verdicts and violating lists, typed from the paper, by hand."""
-from known import ANY, ONE, POOL, bytes_of, counted
+from known import ANY, FULL, ONE, POOL, bytes_of, counted
 
 SIX = "1 1 6 6 "
 SEVEN = "1 1 7 7 "
@@ -19,8 +19,8 @@ def counted_lines(m):
     return lines
 
 
-# A file that its second byte settles, longer than the 4,096 bytes that the program `equations` reads.
-LONG = "2 " + "0 " * 5000
+# A file that its 257th byte settles, longer than the 4,096 bytes that the program `equations` reads.
+LONG = FULL + "5 31 " * 64 + "255 " + "0 " * 5000
 
 # What the program `equations` prints, line by line.
 LISTINGS = [(counted(m), counted_lines(m)) for m in (1, 2, 7)]
@@ -102,7 +102,7 @@ LISTINGS += [
     ("", ["refused 1 at 0"]),
     ("0", ["refused 2 at 0"]),
     ("2 2", ["refused 3 at 1"]),
-    (LONG, ["refused 3 at 1"]),
+    (LONG, ["refused 2 at 256"]),
     (ANY + "5 0 " * 64 + "2", ["refused 4 at 132"]),
     ("1 1 6 5 2", ["refused 5 at 0"]),
     ("5 0 2", ["refused 6 at 0"]),
@@ -120,10 +120,6 @@ LISTINGS += [
     # both 8 and 9 apply: 8 comes first
     (ANY + ONE + "4 3 6 4 5 0 7 0 5 1 " + "5 0 " * 8 + "2", ["refused 8 at 0"]),
 ]
-
-
-# The program `equations` and the others of the same call, with what each reads.
-PROGRAMS = [("equations", POOL), ("equations_long", counted(7)), ("equations_refused", LONG), ("equations_empty", "")]
 
 
 def late(n):
@@ -180,12 +176,6 @@ VIOLATIONS = [
 def listings():
     """Each file with the whole text of its listing."""
     return [(bytes_of(text), "".join(line + "\n" for line in lines)) for text, lines in LISTINGS]
-
-
-def programs():
-    """Each program with its input and what it must print, which is one of the listings."""
-    texts = dict(listings())
-    return [(program, bytes_of(text), texts[bytes_of(text)]) for program, text in PROGRAMS]
 
 
 def buildings():
