@@ -55,8 +55,17 @@ PROGRAMS = [
 SCANS = bytes(WAITS[:62]) + bytes([30]) * (2 * 65536) + bytes([31]) + bytes(WAITS)
 KEPT = bytes(WAITS[:62]) + bytes([31]) + bytes(WAITS)
 
-# Where nothing can be written, `equations` prints no line, and `sift` ends after the first block, in equation 63.
-UNWRITTEN = "unwritten 0 63"
+# Where nothing can be written, `equations` prints no line, `sift` ends after the first block, in equation 63, and each of
+# the three programs says so once.
+UNWRITTEN = "lines 0 equation 63 said 3\n"
+
+# Where standard input is a folder and there is no model.bin: what `equations` and `meets` print, and what is said.
+UNREAD = """refused 1 at 0
+refused 11 at 0
+equations: standard input: Is a directory
+sift: standard input: Is a directory
+meets: model.bin: No such file or directory
+"""
 
 # 64 states and 512 steps, each with a code: a chain of the codes that the longest rule waits for, whose last step comes
 # last. Without that step the chain stops short of ff. All other steps have code 255, which leads to the empty set.

@@ -53,7 +53,8 @@ def main():
     check_rule(rule, text)
     check_scans(rule)
     model = check_model(rule)
-    stdout = f"{known_programs.UNWRITTEN}\n{text}".encode() + known_programs.KEPT + b"breaks\nrefused 1 at 0\n"
+    stdout = (known_programs.UNWRITTEN + text).encode() + known_programs.KEPT
+    stdout += ("breaks\n" + known_programs.UNREAD).encode()
     files = {"data/rule.bin": rule, "data/scans.bin": known_programs.SCANS, "data/model.bin": model, "stdout": stdout}
     settle_files("programs", files, checks)
     print(f"{len(rule)} bytes of a rule, {len(model)} of a model")

@@ -3,8 +3,8 @@ use Prim.Native.Nat.{_+_, _*_, _≤_}
 use mathlib.Core.Logic.{⊎-elim}
 use native.Mathlib.Omega.{arith}
 use borrow.Author.Needs.{needs}
-use Rattle.programs.proofs.seek_last.Statement.{statement}
-use Rattle.programs.proofs.seek_last.Tie as tie
+use Rattle.programs.proofs.places.seek_last.Statement.{statement}
+use Rattle.programs.proofs.places.seek_last.Tie as tie
 
 abbrev Inv-loop : tie.InvT-loop
 Inv-loop place₀ step₀ place step = place + 2 * step ≤ 9223372036854775808
