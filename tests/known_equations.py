@@ -1,5 +1,5 @@
 """Listings of rules, answers of building, verdicts and violating lists, typed from the paper, by hand."""
-from known import ANY, ONE, POOL, bytes_of, counted
+from known import ANY, FULL, ONE, POOL, bytes_of, counted
 
 SIX = "1 1 6 6 "
 SEVEN = "1 1 7 7 "
@@ -23,8 +23,8 @@ def counted_lines(m):
     return lines
 
 
-# A file that its second byte settles, longer than the 4,096 bytes that the program `equations` reads.
-LONG = "2 " + "0 " * 5000
+# A file that its 257th byte settles, longer than the 4,096 bytes that the program `equations` reads.
+LONG = FULL + "5 31 " * 64 + "255 " + "0 " * 5000
 
 # What the program `equations` prints, line by line.
 LISTINGS = [(counted(m), counted_lines(m)) for m in (1, 2, 7)]
@@ -113,7 +113,7 @@ LISTINGS += [
     ("", ["refused 1 at 0"]),
     ("0", ["refused 2 at 0"]),
     ("2 2", ["refused 3 at 1"]),
-    (LONG, ["refused 3 at 1"]),
+    (LONG, ["refused 2 at 256"]),
     (ANY + "5 0 " * 64 + "2", ["refused 4 at 132"]),
     ("1 1 6 5 2", ["refused 5 at 0"]),
     ("5 0 2", ["refused 6 at 0"]),
@@ -135,9 +135,6 @@ LISTINGS += [
 
 # A rule and its equations in order, each as the numbers of its nodes.
 SETS = [(POOL, [{1}, set(), {3, 5}]), (BRANCHES, [{1, 4}, set(), {2, 5}]), (REQUESTS, [{2, 5}, set(), {3, 6}])]
-
-# The program `equations` and the others of the same call, with what each reads.
-PROGRAMS = [("equations", POOL), ("equations_long", counted(7)), ("equations_refused", LONG), ("equations_empty", "")]
 
 
 def late(n):
@@ -203,12 +200,6 @@ def listings():
 def sets():
     """Each file with the equations of its rule."""
     return [(bytes_of(text), equations) for text, equations in SETS]
-
-
-def programs():
-    """Each program with its input and what it must print, which is one of the listings."""
-    texts = dict(listings())
-    return [(program, bytes_of(text), texts[bytes_of(text)]) for program, text in PROGRAMS]
 
 
 def buildings():

@@ -9,6 +9,7 @@ from expected import is_check, settle_files
 from judging import judge
 from known import POOL, bytes_of
 from known_models import MEETING, PAPER
+from known_programs import LONGEST
 from models import MOST_STEPS, file_of
 
 # More steps than there may be, and more bytes than the program reads. The first byte that is too much settles it.
@@ -22,7 +23,7 @@ def programs():
         ("meets", paper, bytes_of(PAPER), "breaks"),
         ("meets_met", paper, bytes_of(MEETING), "meets"),
         ("meets_missing", paper, None, "refused 11 at 0"),
-        ("meets_refused", paper, REFUSED, "refused 14 at 2050"),
+        ("meets_refused", bytes_of(LONGEST), REFUSED, "refused 14 at 2050"),
         ("meets_bare", None, None, "refused 1 at 0"),
     ]
 

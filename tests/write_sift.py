@@ -6,8 +6,10 @@ With --check nothing is written, and the files are compared with what would be.
 from random import Random
 
 from compare import expect
+from equations import listing
 from expected import is_check, settle_files
 from known import POOL, bytes_of
+from known_equations import LONG
 from rules import read_rule
 from shapes import BOTH, FALSITY, MAX, after, pattern, variable
 from sifting import Sifting, kept
@@ -61,8 +63,9 @@ def main():
     expect(sifted(paper, scans)[0] == bytes([37, 128, 5, 37, 5]), "the paper's scans")
     settle_files("sift", {"data/rule.bin": paper, "stdin": scans, "stdout": bytes([37, 128, 5, 37, 5])}, checks)
     settle_files("sift_missing", {"stdin": scans, "stdout": b"refused 1 at 0\n"}, checks)
-    longer = paper + bytes(5000)
-    settle_files("sift_refused", {"data/rule.bin": longer, "stdin": scans, "stdout": b"refused 3 at 23\n"}, checks)
+    longer, line = bytes_of(LONG), b"refused 2 at 256\n"
+    expect(listing(longer) == line.decode(), "the long rule")
+    settle_files("sift_refused", {"data/rule.bin": longer, "stdin": scans, "stdout": line}, checks)
     rule, scans = pool_rule(), long_stream(Random("sift"))
     written, verdicts = sifted(rule, scans)
     check_long(scans, verdicts)

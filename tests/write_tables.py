@@ -5,10 +5,10 @@ Each case on the standard input of `tables` is a table's size and a file's lengt
 and then the rule file. Each case has one line on its standard output. With --check nothing is written, and the files
 are compared with what would be.
 """
-import known_equations
+import known_programs
 import table_cases
-from compare import check
-from equations import CODES, build, row, rows, said, text_of
+from compare import check, expect
+from equations import CODES, build, listing, row, rows, said, text_of
 from expected import digest, is_check, settle, three_bytes
 from rules import Refusal
 
@@ -48,7 +48,8 @@ def main():
     lines = [line_of(case, size, data) for case, (size, data) in enumerate(cases)]
     stdin = b"".join(three_bytes(size) + three_bytes(len(data)) + data for size, data in cases)
     settle("tables", stdin, lines, checks)
-    for program, data, text in known_equations.programs():
+    for program, data, text in known_programs.programs():
+        expect(listing(data) == text, program, listing(data))
         settle(program, data, text.splitlines(), checks)
     print(f"{rules} rules compared on {lists} lists of codes, {len(cases)} cases")
 

@@ -1,7 +1,8 @@
--- What `equations` prints is the text that is due.
-use mathlib.Core.Path.{_≡_, refl}
+-- What `equations` prints is the text that is due, and the bytes that a program reads settle its answer.
+use mathlib.Core.Path.{_≡_, refl, _∙_}
+use mathlib.Core.Bool.{true}
 use mathlib.Core.List.{List}
-use Prim.Native.Nat.{ℕ}
+use Prim.Native.Nat.{ℕ, _+_, _*_}
 use native.Mathlib.Omega.{arith}
 use lib.ListN.{length}
 use Rattle.reading.specs.Rule.{Bytes}
@@ -15,25 +16,33 @@ use Rattle.models.specs.Judging.{judgingOf}
 use Rattle.models.proofs.Settled.{settled-by-first-bytes}
 use Rattle.listing.specs.Positions.{linesFrom}
 use Rattle.listing.proofs.AllLines.{lists-rule}
-use Rattle.commands.specs.Printing.{textFor, printed}
+use Rattle.commands.specs.Printing.{textFor, ListingStops, Stops, printed}
 use Rattle.commands.specs.Promises.{PrintsAnswer, SettledByBuffer, JudgmentSettledByBuffer}
+use Rattle.commands.proofs.Leading.{no-more}
 
--- 32,802 lines are enough for the listing of an accepted rule, which has at most 128 equations
-accepted-prints : (s table : List ℕ) → Bytes s → (y : Synthesis) → synthesisOf 128 s ≡ accepted y
-    → linesFrom (readingOf (ruleOf s) .rule) table (length (y .equations)) 32802 0 ≡ textFor (accepted y) table
-accepted-prints s table bytes =
+-- as many lines as the listing of an accepted rule has are the listing
+accepted-prints : (s table : List ℕ) (lines : ℕ) → Bytes s → (y : Synthesis) → synthesisOf 128 s ≡ accepted y
+    → ListingStops (readingOf (ruleOf s) .rule) table (length (y .equations)) lines true
+    → linesFrom (readingOf (ruleOf s) .rule) table (length (y .equations)) lines 0 ≡ textFor (accepted y) table
+accepted-prints s table lines bytes =
     synthesis-accepts 128 s
-    (λ y. linesFrom (readingOf (ruleOf s) .rule) table (length (y .equations)) 32802 0 ≡ textFor (accepted y) table)
-    (λ r read hopeful few.
-    rw read (lists-rule r table (length (equationsOf 128 r)) 32802 (reading-accepts s bytes r .0 read .0) (omega arith)))
+    (λ y. ListingStops (readingOf (ruleOf s) .rule) table (length (y .equations)) lines true
+    → linesFrom (readingOf (ruleOf s) .rule) table (length (y .equations)) lines 0 ≡ textFor (accepted y) table)
+    (λ r read hopeful few stops.
+    let count = length (equationsOf 128 r) in
+    no-more (readingOf (ruleOf s) .rule) table count (stops .lead) (stops .ends refl) (34 + 256 * count)
+    ∙ rw read (lists-rule r table count (lines + (34 + 256 * count)) (reading-accepts s bytes r .0 read .0) (omega arith)))
 
 pub prints-answer : PrintsAnswer
-prints-answer s table bytes = on (buildingOf 128 s (length table)) refl
+prints-answer s table r bytes shows written =
+    rw (shows .answer) (on (buildingOf 128 s (length table)) refl (rw (shows .answer, written) at (shows .stops)))
   where
     on : (o : Outcome Synthesis) → buildingOf 128 s (length table) ≡ o
-        → printed (countedOf o) (readingOf (ruleOf s) .rule) (tableAfter 255 o table) ≡ textFor o (tableAfter 255 o table)
-    on (accepted y) e = accepted-prints s (tableAfter 255 (accepted y) table) bytes y (building-accepts 128 s (length table) y e .1)
-    on (refused number place) e = refl
+        → Stops (countedOf o) (readingOf (ruleOf s) .rule) (tableAfter 255 o table) (r .lines) true
+        → printed (countedOf o) (readingOf (ruleOf s) .rule) (tableAfter 255 o table) (r .lines) ≡ textFor o (tableAfter 255 o table)
+    on (accepted y) e stops =
+        accepted-prints s (tableAfter 255 (accepted y) table) (r .lines) bytes y (building-accepts 128 s (length table) y e .1) stops
+    on (refused number place) e stops = refl
 
 pub settled-by-buffer : SettledByBuffer
 unfolding buildingOf synthesisOf

@@ -1,5 +1,6 @@
 -- What this crate promises, as statements over the definitions; proofs/ has a theorem of each of these types.
 use mathlib.Core.Path.{_≡_}
+use mathlib.Core.Bool.{true}
 use mathlib.Core.List.{List}
 use Prim.Native.Nat.{ℕ}
 use lib.ListN.{length, take}
@@ -11,16 +12,17 @@ use Rattle.synthesis.specs.declared.Counted.the-variants.{Equations, Refused}
 use Rattle.running.specs.Calls.{History, noCalls, Calls}
 use Rattle.running.specs.Promises.{Sifted}
 use Rattle.models.specs.Judging.{judgingOf}
-use Rattle.commands.specs.Printing.{textFor, printed}
+use Rattle.commands.specs.declared.EquationsResult.{EquationsResult}
+use Rattle.commands.specs.Printing.{textFor, printed, Shows}
 use Rattle.commands.specs.Sifting.{UnderRule}
 
--- 1. From what building and reading leave, the lines that `listing_line` gives to a loop like that of `equations` are the text that is due: none
--- is missing.
+-- 1. Where `equations` says that all lines were written, the lines that it counted are, one after the other, the text that is due: none is missing.
 abbrev pub PrintsAnswer : Type 0
 PrintsAnswer =
-    (s table : List ℕ) → Bytes s →
+    (s table : List ℕ) (r : EquationsResult) → Bytes s → Shows s table r → r .written ≡ true →
     let outcome = buildingOf 128 s (length table) in
-    printed (countedOf outcome) (readingOf (ruleOf s) .rule) (tableAfter 255 outcome table) ≡ textFor outcome (tableAfter 255 outcome table)
+    let after = tableAfter 255 outcome table in
+    printed (r .answer) (readingOf (ruleOf s) .rule) after (r .lines) ≡ textFor outcome after
 
 -- 2. The 4,096 bytes that each program reads of a rule file settle the answer to the whole of it.
 abbrev pub SettledByBuffer : Type 0

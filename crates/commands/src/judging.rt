@@ -30,7 +30,7 @@ fn print_judged(rule: &[u8], model: &[u8], table: &mut [u8]) -> Judged
     ensures { λ r. ⌜ JudgedAs (judgingOf 128 (now (rule .entry)) (length (now (table .entry))) (now (model .entry))) r ⌝ }
 {
     let answer = models::judge(rule, model, table);
-    print_line(answer_line(answer));
+    print_line(b"meets: standard output", answer_line(answer));
     answer
 }
 
@@ -40,9 +40,9 @@ pub fn meets() -> Judged
     ensures { λ r. ⌜ ((s : List ℕ) × (f : List ℕ) × Bytes s × Bytes f × JudgedAs (judgingOf 128 s 32768 f) r) ⌝ }
 {
     let mut rule = io::buffer();
-    let n = read_file(b"rule.bin", &mut rule);
+    let n = read_file(b"meets: rule.bin", b"rule.bin", &mut rule);
     let mut model = io::buffer();
-    let k = read_file(b"model.bin", &mut model);
+    let k = read_file(b"meets: model.bin", b"model.bin", &mut model);
     let mut table = [0u8; 32768];
     print_judged(&rule[..n], &model[..k], &mut table)
 }

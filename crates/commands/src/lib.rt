@@ -3,10 +3,10 @@ mod files;
 mod judging;
 mod sifting;
 
+use files::read_whole;
+use files::write_whole;
 pub use judging::meets;
 use libc::STDIN_FILENO;
-use libc::STDOUT_FILENO;
-use listing::LINES;
 use listing::Line;
 use reading::NumberedRule;
 use running::State;
@@ -17,8 +17,18 @@ ghost use mathlib.Core.List.{List};
 ghost use Prim.Native.Nat.{ℕ};
 ghost use lib.ListN.{length};
 ghost use Rattle.reading.specs.Rule.{Bytes};
-ghost use Rattle.synthesis.specs.Building.{buildingOf, countedOf};
+ghost use Rattle.reading.specs.File.{ruleOf};
+ghost use Rattle.reading.specs.Numbered.{readingOf};
 ghost use Rattle.listing.specs.Positions.{Within};
+ghost use Rattle.commands.specs.Printing.{ListingStops, Stops, Shows};
+
+// What `equations` hands back: what building answers to the rule file, how many lines were printed, and whether all of them could be
+// written.
+pub struct EquationsResult {
+    pub answer: Counted,
+    pub lines: usize,
+    pub written: bool,
+}
 
 // What `sift` hands back: what building answers to the rule file, and the state in which the scans leave the run.
 pub struct SiftResult {
@@ -26,63 +36,88 @@ pub struct SiftResult {
     pub state: State,
 }
 
+// How many lines of a text were printed, and whether all of them could be written.
+struct Printed {
+    lines: usize,
+    written: bool,
+}
+
 // Prints a line, and says whether it was written.
-fn print_line(line: Line) -> bool
+fn print_line(what: &[u8], line: Line) -> bool
     requires { ⌜ Within line ⌝ }
 {
     let bytes = line.bytes;
     let n = line.len;
-    io::write_all(STDOUT_FILENO, &bytes[..n])
+    write_whole(what, &bytes[..n])
 }
 
 // Prints a listing, up to a line that can't be written.
-fn print_listing(rule: NumberedRule, table: &[u8], count: usize) {
+fn print_listing(rule: NumberedRule, table: &[u8], count: usize) -> Printed
+    ensures { λ r. ⌜ ListingStops rule (now (table .entry)) count (r .lines) (r .written) ⌝ }
+{
     let mut at = 0;
-    let mut left = LINES;
-    while 0 < left {
+    let mut lines = 0;
+    loop {
         let this = listing::listing_line(rule, table, count, at);
         let line = this.line;
         if line.len == 0 {
-            return;
+            return Printed {
+                lines,
+                written: true,
+            };
         }
-        if !print_line(line) {
-            return;
+        if !print_line(b"equations: standard output", line) {
+            return Printed {
+                lines,
+                written: false,
+            };
         }
         at = this.next;
-        left -= 1;
+        lines += 1;
     }
 }
 
 // Prints the listing of a rule file from its table, or the line of a refusal.
-fn print_answer(answer: Counted, file: &[u8], table: &[u8]) {
+fn print_answer(answer: Counted, file: &[u8], table: &[u8]) -> Printed
+    ensures { λ r. ⌜ Stops answer (readingOf (ruleOf (now (file .entry))) .rule) (now (table .entry)) (r .lines) (r .written) ⌝ }
+{
     match answer {
         Counted::Equations(count) => {
             let reading = reading::read_rule(file);
-            print_listing(reading.rule, table, count);
+            print_listing(reading.rule, table, count)
         }
         Counted::Refused(number, place) => {
-            print_line(listing::refusal_line(number, place));
+            let line = listing::refusal_line(number, place);
+            let written = print_line(b"equations: standard output", line);
+            Printed {
+                lines: written as usize,
+                written,
+            }
         }
     }
 }
 
 // Builds the table of a rule file, and prints the answer. (A slice of u8 consists of bytes.)
-fn print_equations(file: &[u8], table: &mut [u8]) -> Counted
+fn print_equations(file: &[u8], table: &mut [u8]) -> EquationsResult
     ensures { λ _. ⌜ Bytes (now (file .entry)) ⌝ }
-    ensures { λ r. ⌜ r ≡ countedOf (buildingOf 128 (now (file .entry)) (length (now (table .entry)))) ⌝ }
+    ensures { λ r. ⌜ Shows (now (file .entry)) (now (table .entry)) r ⌝ }
 {
     let answer = synthesis::build(file, table);
-    print_answer(answer, file, table);
-    answer
+    let printed = print_answer(answer, file, table);
+    EquationsResult {
+        answer,
+        lines: printed.lines,
+        written: printed.written,
+    }
 }
 
-// Reads a rule file from standard input, prints the listing of its equations or why it is refused, and hands back the answer. The
-// first 257 bytes of a file settle the answer; no more than 4,096 are read.
-pub fn equations() -> Counted
-    ensures { λ r. ⌜ ((s : List ℕ) × Bytes s × (r ≡ countedOf (buildingOf 128 s 32768))) ⌝ }
+// Reads a rule file from standard input, prints the listing of its equations or why it is refused, and hands back the answer and how far
+// printing came. The first 257 bytes of a file settle the answer; no more than 4,096 are read.
+pub fn equations() -> EquationsResult
+    ensures { λ r. ⌜ ((s : List ℕ) × (table : List ℕ) × Bytes s × (length table ≡ 32768) × Shows s table r) ⌝ }
 {
     let mut file = io::buffer();
-    let n = io::read_full(STDIN_FILENO, &mut file);
+    let n = read_whole(b"equations: standard input", STDIN_FILENO, &mut file);
     let mut table = [0u8; 32768];
     print_equations(&file[..n], &mut table)
 }

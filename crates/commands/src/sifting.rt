@@ -1,9 +1,10 @@
 // The program `sift`.
 use crate::SiftResult;
 use crate::files::read_file;
+use crate::files::read_some;
+use crate::files::write_whole;
 use crate::print_line;
 use libc::STDIN_FILENO;
-use libc::STDOUT_FILENO;
 use running::State;
 use synthesis::Counted;
 ghost use mathlib.Core.Path.{_≡_};
@@ -35,7 +36,7 @@ fn sift_block(
 {
     let ran = running::run(table, count, state, scans, output, verdicts);
     let kept = ran.kept;
-    let goes_on = io::write_all(STDOUT_FILENO, &output[..kept]);
+    let goes_on = write_whole(b"sift: standard output", &output[..kept]);
     let state = ran.state;
     Turn { state, goes_on }
 }
@@ -52,7 +53,7 @@ fn sift_some(
     requires { ⌜ (length (now scans) ≤ length (now output)) × (length (now scans) ≤ length (now verdicts)) ⌝ }
     ensures { λ r. ⌜ GoesOn (now (table .entry)) count state (r .state) ⌝ }
 {
-    let got = libc::read(STDIN_FILENO, scans);
+    let got = read_some(b"sift: standard input", STDIN_FILENO, scans);
     let n = io::count(got, scans);
     if n == 0 {
         return Turn {
@@ -96,7 +97,10 @@ fn sift_under(file: &[u8], table: &mut [u8]) -> SiftResult
             SiftResult { answer, state }
         }
         Counted::Refused(number, place) => {
-            print_line(listing::refusal_line(number, place));
+            print_line(
+                b"sift: standard output",
+                listing::refusal_line(number, place),
+            );
             let state = running::start();
             SiftResult { answer, state }
         }
@@ -108,7 +112,7 @@ pub fn sift() -> SiftResult
     ensures { λ r. ⌜ ((s : List ℕ) × (table : List ℕ) × Bytes s × (length table ≡ 32768) × Sifts s table r) ⌝ }
 {
     let mut file = io::buffer();
-    let n = read_file(b"rule.bin", &mut file);
+    let n = read_file(b"sift: rule.bin", b"rule.bin", &mut file);
     let mut table = [0u8; 32768];
     sift_under(&file[..n], &mut table)
 }

@@ -1,4 +1,4 @@
--- `print_equations` meets its contract: the answer is that of `build`.
+-- `print_equations` meets its contract: the answer is that of `build`, and the table the one that it leaves.
 use borrow.Author.Needs.{needs}
 use Rattle.reading.proofs.ByteLaws.{slice-bytes}
 use Rattle.commands.proofs.print_equations.Statement.{statement}
@@ -15,10 +15,12 @@ same-length c = search needs
 
 returns : tie.Need-returns
 returns c =
-    let known = c .before .before .before .before .before .before .before in (
+    let known = c .before .before .before .before .before .before .before in
+    let build = c .before .before .before .before .build in (
       slice-bytes (known .before .args .file .now) (known .shared-slice-known .given),
-      c .before .before .before .before .build .ensures .0,
+      record { answer = build .ensures .0; stops = rw (← build .ensures .1) (c .print-answer .ensures) },
     )
 
 pub print-equations-spec : {M : Type 1} → statement M
-print-equations-spec = tie.close (tie.spec build-requires print-answer-requires same-length returns)
+print-equations-spec =
+    tie.close (tie.spec build-requires print-answer-requires same-length returns)

@@ -9,25 +9,25 @@ use Rattle.commands.proofs.files.read_whole.Statement.{statement}
 use Rattle.commands.proofs.files.read_whole.Tie as tie
 
 abbrev Inv-loop : tie.InvT-loop
-Inv-loop fd file₀ done₀ file done = (length file ≡ length file₀) × (done ≤ length file)
+Inv-loop what fd file₀ done₀ file done = (length file ≡ length file₀) × (done ≤ length file)
 
 abbrev μ-loop : tie.MeasureT-loop
-μ-loop fd file₀ done₀ file done = length file - done
+μ-loop what fd file₀ done₀ file done = length file - done
 
 loop-holds : tie.Need-loop-holds Inv-loop μ-loop
 loop-holds c = omega arith
 
-sub-read : tie.Need-sub-read Inv-loop μ-loop
-sub-read c = omega arith
+sub-read-some : tie.Need-sub-read-some Inv-loop μ-loop
+sub-read-some c = omega arith
 
-part-read-start : tie.Need-part-read-start Inv-loop μ-loop
-part-read-start c = omega arith
+part-read-some-start : tie.Need-part-read-some-start Inv-loop μ-loop
+part-read-some-start c = omega arith
 
-part-read-end : tie.Need-part-read-end Inv-loop μ-loop
-part-read-end c = omega arith
+part-read-some-end : tie.Need-part-read-some-end Inv-loop μ-loop
+part-read-some-end c = omega arith
 
-read-requires : tie.Need-read-requires Inv-loop μ-loop
-read-requires c κs = search needs
+read-some-requires : tie.Need-read-some-requires Inv-loop μ-loop
+read-some-requires c κs = search needs
 
 same-length : tie.Need-same-length Inv-loop μ-loop
 same-length c = omega arith
@@ -75,10 +75,10 @@ read-whole-spec =
     Inv-loop
     μ-loop
     loop-holds
-    sub-read
-    part-read-start
-    part-read-end
-    read-requires
+    sub-read-some
+    part-read-some-start
+    part-read-some-end
+    read-some-requires
     same-length
     returns
     sub-count

@@ -7,6 +7,9 @@ use Rattle.commands.proofs.judging.print_judged.Tie as tie
 judge-requires : tie.Need-judge-requires
 judge-requires c κs = search needs
 
+slice-aggregate-print-line : tie.Need-slice-aggregate-print-line
+slice-aggregate-print-line c = search needs
+
 answer-line-requires : tie.Need-answer-line-requires
 answer-line-requires c κs = search needs
 
@@ -18,16 +21,16 @@ same-length c = search needs
 
 returns : tie.Need-returns
 returns c =
-    let known = c .before .before .before .before .before .before .before in
+    let known = c .before .before .before .before .before .before .before .before in
     let x = known .before .before .args in (
       (
         slice-bytes (x .rule .now) (known .before .shared-slice-known .given),
         slice-bytes (x .model .now) (known .shared-slice-known2 .given),
       ),
-      c .before .before .before .before .judge .ensures .0,
+      c .before .before .before .before .before .judge .ensures .0,
     )
 
 pub print-judged-spec : {M : Type 1} → statement M
 print-judged-spec =
     tie.close
-    (tie.spec judge-requires answer-line-requires print-line-requires same-length returns)
+    (tie.spec judge-requires slice-aggregate-print-line answer-line-requires print-line-requires same-length returns)

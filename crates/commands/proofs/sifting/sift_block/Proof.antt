@@ -19,14 +19,17 @@ room c =
 run-requires : tie.Need-run-requires
 run-requires c κs = search needs
 
-slice-reshare-prefix-write-all : tie.Need-slice-reshare-prefix-write-all
-slice-reshare-prefix-write-all c = omega (arith, room (c .before .before .before .before))
+slice-aggregate-write-whole : tie.Need-slice-aggregate-write-whole
+slice-aggregate-write-whole c = search needs
 
-slice-aggregate-write-all : tie.Need-slice-aggregate-write-all
-slice-aggregate-write-all c = front _ _ (slice-reshare-prefix-write-all (c .before))
+slice-reshare-prefix-write-whole : tie.Need-slice-reshare-prefix-write-whole
+slice-reshare-prefix-write-whole c = omega (arith, room (c .before .before .before .before .before))
 
-write-all-requires : tie.Need-write-all-requires
-write-all-requires c κs = search needs
+slice-aggregate-write-whole-2 : tie.Need-slice-aggregate-write-whole-2
+slice-aggregate-write-whole-2 c = front _ _ (slice-reshare-prefix-write-whole (c .before))
+
+write-whole-requires : tie.Need-write-whole-requires
+write-whole-requires c κs = search needs
 
 same-length : tie.Need-same-length
 same-length c = search needs
@@ -36,7 +39,7 @@ same-length-2 c = search needs
 
 returns : tie.Need-returns
 returns c =
-    let run = c .before .before .before .before .before .before .before in
+    let run = c .before .before .before .before .before .before .before .before in
     let known = run .before .before .before .before .before in (
       slice-bytes (known .before .before .args .scans .now) (known .shared-slice-known2 .given),
       cc (run .run .ensures .0),
@@ -47,9 +50,10 @@ sift-block-spec =
     tie.close
     (tie.spec
     run-requires
-    slice-reshare-prefix-write-all
-    slice-aggregate-write-all
-    write-all-requires
+    slice-aggregate-write-whole
+    slice-reshare-prefix-write-whole
+    slice-aggregate-write-whole-2
+    write-whole-requires
     same-length
     same-length-2
     returns)

@@ -7,8 +7,11 @@ use Rattle.commands.proofs.SiftingLaws.{one-more}
 use Rattle.commands.proofs.sifting.sift_some.Statement.{statement}
 use Rattle.commands.proofs.sifting.sift_some.Tie as tie
 
-read-requires : tie.Need-read-requires
-read-requires c κs = search needs
+slice-aggregate-read-some : tie.Need-slice-aggregate-read-some
+slice-aggregate-read-some c = search needs
+
+read-some-requires : tie.Need-read-some-requires
+read-some-requires c κs = search needs
 
 count-requires : tie.Need-count-requires
 count-requires c κs = search needs
@@ -41,7 +44,7 @@ returns-2 : tie.Need-returns-2
 returns-2 c =
     let block = c .before .before .before .before in
     let counted = block .before .before .before .before .before in
-    let start = counted .before .before .before .before .before .before .before .before .before .before in
+    let start = counted .before .before .before .before .before .before .before .before .before .before .before in
     let x = start .args in
     let e = block .sift-block .ensures in
     let read = slice-aggregate-sift-block (block .before .before .before) in
@@ -51,7 +54,8 @@ pub sift-some-spec : {M : Type 1} → statement M
 sift-some-spec =
     tie.close
     (tie.spec
-    read-requires
+    slice-aggregate-read-some
+    read-some-requires
     count-requires
     same-length
     returns

@@ -35,6 +35,9 @@ sift-all-requires c κs =
 enum-known-answer-2 : tie.Need-enum-known-answer-2
 enum-known-answer-2 c = search needs
 
+slice-aggregate-print-line : tie.Need-slice-aggregate-print-line
+slice-aggregate-print-line c = search needs
+
 refusal-line-requires : tie.Need-refusal-line-requires
 refusal-line-requires c κs = search needs
 
@@ -66,7 +69,7 @@ same-length-2 c = search needs
 
 returns-2 : tie.Need-returns-2
 returns-2 c =
-    let told = c .before .before .before .before in
+    let told = c .before .before .before .before .before in
     let built = told .before .before .before .before in (
       bytes built,
       record {
@@ -83,6 +86,7 @@ sift-under-spec =
     enum-known-answer
     sift-all-requires
     enum-known-answer-2
+    slice-aggregate-print-line
     refusal-line-requires
     print-line-requires
     start-requires
