@@ -17,7 +17,8 @@ use Rattle.running.specs.declared.Checked.the-variants as Checked
 use Rattle.running.proofs.Refusals.{runs-on-tables}
 use Rattle.models.specs.Phone.{phoneOf}
 use Rattle.models.specs.Judging.{RuleAndModel, judgingOf, JudgedAs}
-use Rattle.models.specs.declared.Judged.the-variants as Judged
+use Rattle.models.specs.declared.Judged.{Judged}
+use Rattle.models.specs.declared.Judged.the-variants as Judged′
 use Rattle.models.proofs.Acceptance.{accepts-exactly}
 use Rattle.models.proofs.FileFaults.{model-refused, refuses-at-the-fault}
 use Rattle.demands.specs.Refusals.{RunRefused, short-buffer, unfit, JudgeRefused, in-building, in-model}
@@ -25,7 +26,7 @@ use Rattle.demands.proofs.Refused.{build-refused}
 
 -- ---- running
 
-pub checked-alike : (s : State) (o : Outcome Run) → ranOf s o .checked ≡ checkedOf o
+checked-alike : (s : State) (o : Outcome Run) → ranOf s o .checked ≡ checkedOf o
 checked-alike s (accepted y) = refl
 checked-alike s (refused number place) = refl
 
@@ -57,15 +58,28 @@ module _ (table : List ℕ) (count : ℕ) (s : State) (scans : List ℕ) (output
   run-refused number place =
       rw (checked-alike s (runOf 128 255 table count s scans output verdicts)) (run-found number place, run-refuses)
 
+  -- where no clause holds, the run isn't refused
+  pub run-fit : ((number place : ℕ) → Refuses number place → ⊥) → ranOf s (runOf 128 255 table count s scans output verdicts) .checked ≡ Checked.Fit
+  run-fit none = on (runOf 128 255 table count s scans output verdicts) refl
+    where
+      on : (o : Outcome Run) → runOf 128 255 table count s scans output verdicts ≡ o → ranOf s o .checked ≡ Checked.Fit
+      on (accepted y) e = refl
+      on (refused number place) e = absurd (none number place (run-found number place (ap checkedOf e)))
+
 -- ---- judging
 
-judged-refuses : (o : Outcome RuleAndModel) (number place : ℕ) → JudgedAs o (Judged.Refused number place) → o ≡ refused number place
+judged-refuses : (o : Outcome RuleAndModel) (number place : ℕ) → JudgedAs o (Judged′.Refused number place) → o ≡ refused number place
 judged-refuses (accepted x) number place (inl (e, sat)) = let z : _≡_ {A = ℕ} 0 1 = cc in absurd (omega arith)
 judged-refuses (accepted x) number place (inr (e, sat)) = let z : _≡_ {A = ℕ} 0 1 = cc in absurd (omega arith)
 judged-refuses (refused m at) number place e = cc
 
+-- a refusal is the only answer to its outcome
+one-answer : (o : Outcome RuleAndModel) (answer : Judged) (number place : ℕ) → JudgedAs o answer → JudgedAs o (Judged′.Refused number place)
+    → answer ≡ Judged′.Refused number place
+one-answer o answer number place judged refuses = rw (judged-refuses o number place refuses) at judged
+
 module _ (s table f : List ℕ) (bytes : Bytes s) (bytes′ : Bytes f) where
-  judge-found : (number place : ℕ) → JudgedAs (judgingOf 128 s (length table) f) (Judged.Refused number place)
+  judge-found : (number place : ℕ) → JudgedAs (judgingOf 128 s (length table) f) (Judged′.Refused number place)
       → JudgeRefused s (length table) f number place
   unfolding judgingOf
   judge-found number place judged =
@@ -80,7 +94,7 @@ module _ (s table f : List ℕ) (bytes : Bytes s) (bytes′ : Bytes f) where
       (λ p read e′. absurd (never-refused e′)))
 
   judge-refuses : {number place : ℕ} → JudgeRefused s (length table) f number place
-      → JudgedAs (judgingOf 128 s (length table) f) (Judged.Refused number place)
+      → JudgedAs (judgingOf 128 s (length table) f) (Judged′.Refused number place)
   unfolding judgingOf
   judge-refuses {number} {place} (in-building b) =
       rw (counted-refuses (buildingOf 128 s (length table)) number place (build-refused s bytes (length table) number place .1 b))
@@ -90,6 +104,7 @@ module _ (s table f : List ℕ) (bytes : Bytes s) (bytes′ : Bytes f) where
       let read = model-refused (phoneOf f) number place .1 (refuses-at-the-fault f bytes′ number place .1 fault) in
       rw (built, read)
 
-  pub judge-refused : (number place : ℕ)
-      → JudgedAs (judgingOf 128 s (length table) f) (Judged.Refused number place) ↔ JudgeRefused s (length table) f number place
-  judge-refused number place = (judge-found number place, judge-refuses)
+  pub judge-refused : (answer : Judged) → JudgedAs (judgingOf 128 s (length table) f) answer → (number place : ℕ)
+      → (answer ≡ Judged′.Refused number place) ↔ JudgeRefused s (length table) f number place
+  judge-refused answer judged number place =
+      (λ e. judge-found number place (rw e at judged), λ h. one-answer (judgingOf 128 s (length table) f) answer number place judged (judge-refuses h))

@@ -1,25 +1,26 @@
 -- The three demands on the product. Each is a record of claims in the very terms of the contracts in the layers' `src/`: what a function answers, and
--- what it leaves in a buffer that it is lent.
+-- what it leaves in a buffer that it is lent. A rule file that isn't refused is `encode r` of a rule within the limits, and a model file likewise.
 use Prim.Native.Nat.{ℕ, _≤_}
 use mathlib.Core.Path.{_≡_}
-use mathlib.Core.Logic.{_↔_}
+use mathlib.Core.Logic.{_↔_, _⊎_}
 use mathlib.Core.List.{List}
 use lib.ListN.{length}
-use Rattle.reading.specs.Rule.{Rule, Bytes}
-use Rattle.reading.specs.File.{accepted, ruleOf}
+use Rattle.reading.specs.Rule.{Rule, RuleWithinLimits, encode, Bytes}
+use Rattle.reading.specs.File.{ruleOf}
 use Rattle.reading.specs.Faults.{Fault as RuleFault}
 use Rattle.reading.specs.Numbered.{readingOf}
 use Rattle.reading.specs.declared.Answer.the-variants as Reading
 use Rattle.synthesis.specs.Monitor.{entry}
 use Rattle.synthesis.specs.Building.{synthesisOf, buildingOf, countedOf, tableAfter}
+use Rattle.synthesis.specs.Promises.{SameAfterRows}
 use Rattle.synthesis.specs.declared.Counted.the-variants as Counted
 use Rattle.running.specs.Running.{runOf, ranOf}
-use Rattle.running.specs.Calls.{History, Calls, OnTableOrRefused}
-use Rattle.running.specs.Promises.{Sifted, Unchanged}
+use Rattle.running.specs.Calls.{Call, History, outcomeOf, Calls, OnTable, OnTableOrRefused}
+use Rattle.running.specs.Promises.{Sifted, Unchanged, OnlyFronts}
 use Rattle.running.specs.declared.State.{State}
 use Rattle.running.specs.declared.Checked.the-variants as Checked
 use Rattle.models.specs.Model.{suppressing}
-use Rattle.models.specs.Phone.{Phone, modelOf, phoneOf}
+use Rattle.models.specs.Phone.{Phone, modelOf, PhoneWithinLimits, encodePhone, phoneOf}
 use Rattle.models.specs.Faults.{Fault as ModelFault}
 use Rattle.models.specs.Judging.{modelReadingOf, judgingOf, JudgedAs, tableJudged}
 use Rattle.models.specs.Promises.{Enforces, WalksBehind, Acceptable, JudgedExactly}
@@ -39,8 +40,8 @@ pub record RefusesExactly : Type 1 where
       ↔ RunRefused table count s scans (length output) (length verdicts) number place
   pub read-model : (f : List ℕ) → Bytes f → (number place : ℕ)
       → (modelReadingOf (phoneOf f) .answer ≡ Reading.Refused number place) ↔ ModelFault f number place
-  pub judge : (s table f : List ℕ) → Bytes s → Bytes f → (number place : ℕ)
-      → JudgedAs (judgingOf 128 s (length table) f) (Judged′.Refused number place) ↔ JudgeRefused s (length table) f number place
+  pub judge : (s table f : List ℕ) → Bytes s → Bytes f → (answer : Judged) → JudgedAs (judgingOf 128 s (length table) f) answer
+      → (number place : ℕ) → (answer ≡ Judged′.Refused number place) ↔ JudgeRefused s (length table) f number place
 
 -- A refused call changes no lent buffer, and a refused run hands back the state that it was given and counts of 0.
 pub record LeavesUnchanged : Type 0 where
@@ -49,31 +50,51 @@ pub record LeavesUnchanged : Type 0 where
   pub run : (table : List ℕ) (count : ℕ) (s : State) (scans output verdicts : List ℕ) (number place : ℕ) →
       let outcome = runOf 128 255 table count s scans (length output) (length verdicts) in
       ranOf s outcome .checked ≡ Checked.Refused number place → Unchanged s output verdicts number place outcome
-  pub judge : (s table f : List ℕ) (number place : ℕ) →
+  pub judge : (s table f : List ℕ) (answer : Judged) (number place : ℕ) →
       let outcome = judgingOf 128 s (length table) f in
-      JudgedAs outcome (Judged′.Refused number place) → tableJudged outcome (tableAfter 255 (buildingOf 128 s (length table)) table) table ≡ table
+      JudgedAs outcome answer → answer ≡ Judged′.Refused number place
+      → tableJudged outcome (tableAfter 255 (buildingOf 128 s (length table)) table) table ≡ table
+
+-- Any other changes no byte that isn't its own: building none behind its rows, a run none behind the kept scans and the verdicts. Judging leaves what
+-- building leaves.
+pub record LeavesTheRest : Type 0 where
+  pub build : (s table : List ℕ) (n : ℕ) → countedOf (buildingOf 128 s (length table)) ≡ Counted.Equations n
+      → SameAfterRows n table (tableAfter 255 (buildingOf 128 s (length table)) table)
+  pub run : (table : List ℕ) (count : ℕ) (s : State) (scans output verdicts : List ℕ) →
+      let outcome = runOf 128 255 table count s scans (length output) (length verdicts) in
+      ranOf s outcome .checked ≡ Checked.Fit → OnlyFronts s scans output verdicts outcome
+  pub judge : (s table f : List ℕ) (answer : Judged) →
+      let outcome = judgingOf 128 s (length table) f in
+      let built = tableAfter 255 (buildingOf 128 s (length table)) table in
+      JudgedAs outcome answer → (answer ≡ Judged′.Meets) ⊎ (answer ≡ Judged′.Breaks) → tableJudged outcome built table ≡ built
 
 pub record DemandOne : Type 1 where
   pub refuses : RefusesExactly
   pub unchanged : LeavesUnchanged
+  pub rest : LeavesTheRest
 
--- 2. A scan is dropped exactly when the scans kept so far, followed by it, violate the rule. Exactly the rules of the grammar within the limits are
--- accepted, except those that no finite model satisfies. A model is said to meet a rule exactly when it satisfies it.
+-- 2. A scan is dropped exactly when the scans kept so far, followed by it, violate the rule; and with room for its scans no call on the built table is
+-- refused. With a table that is long enough, exactly the rules of the grammar within the limits are accepted, except those that no finite model
+-- satisfies. A model is said to meet a rule exactly when it satisfies it.
 pub record DemandTwo : Type 1 where
-  pub drops : (s table : List ℕ) (r : Rule) (n : ℕ) → Bytes s → ruleOf s ≡ accepted r
-      → countedOf (buildingOf 128 s (length table)) ≡ Counted.Equations n → (h : History)
-      → Calls 128 255 (OnTableOrRefused 128 255 (tableAfter 255 (buildingOf 128 s (length table)) table) n) h → Sifted r h
+  pub drops : (r : Rule) (table : List ℕ) (n : ℕ) → RuleWithinLimits r
+      → countedOf (buildingOf 128 (encode r) (length table)) ≡ Counted.Equations n → (h : History)
+      → Calls 128 255 (OnTableOrRefused 128 255 (tableAfter 255 (buildingOf 128 (encode r) (length table)) table) n) h → Sifted r h
+  pub takes : (s table : List ℕ) (n : ℕ) → countedOf (buildingOf 128 s (length table)) ≡ Counted.Equations n → (h : History)
+      → Calls 128 255 (OnTableOrRefused 128 255 (tableAfter 255 (buildingOf 128 s (length table)) table) n) h → (c : Call)
+      → OnTable (tableAfter 255 (buildingOf 128 s (length table)) table) n c → length (c .scans) ≤ length (c .output)
+      → length (c .scans) ≤ length (c .verdicts) → ranOf (h .state) (outcomeOf 128 255 h c) .checked ≡ Checked.Fit
   pub accepts : (s table : List ℕ) → Bytes s → 32768 ≤ length table
       → ((n : ℕ) × (countedOf (buildingOf 128 s (length table)) ≡ Counted.Equations n)) ↔ Acceptable 128 s
-  pub judges : (s table f : List ℕ) (r : Rule) (n : ℕ) (y : Phone) (answer : Judged) → ruleOf s ≡ accepted r
-      → countedOf (buildingOf 128 s (length table)) ≡ Counted.Equations n → phoneOf f ≡ accepted y
-      → JudgedAs (judgingOf 128 s (length table) f) answer → JudgedExactly r y answer
+  pub judges : (r : Rule) (y : Phone) (table : List ℕ) (n : ℕ) (answer : Judged) → RuleWithinLimits r → PhoneWithinLimits y
+      → countedOf (buildingOf 128 (encode r) (length table)) ≡ Counted.Equations n
+      → JudgedAs (judgingOf 128 (encode r) (length table) (encodePhone y)) answer → JudgedExactly r y answer
 
 -- 3. For every accepted rule and model: the model behind the monitor satisfies the rule; where the model already does, the two are strongly bisimilar;
--- every walk of the model whose trace doesn't violate the rule is there behind the monitor, with the same trace, to the same phone state; and what
--- becomes of walks with dropped scans.
+-- every walk of the model whose trace doesn't violate the rule is there behind the monitor, with the same trace, to the same phone state. What becomes
+-- of walks with dropped scans is said too.
 pub record DemandThree : Type 1 where
-  pub enforces : (s table f : List ℕ) (r : Rule) (n : ℕ) (y : Phone) → Bytes s → Bytes f → ruleOf s ≡ accepted r
-      → countedOf (buildingOf 128 s (length table)) ≡ Counted.Equations n → phoneOf f ≡ accepted y →
-      let answer = entry 256 255 (tableAfter 255 (buildingOf 128 s (length table)) table) in
+  pub enforces : (r : Rule) (y : Phone) (table : List ℕ) (n : ℕ) → RuleWithinLimits r → PhoneWithinLimits y
+      → countedOf (buildingOf 128 (encode r) (length table)) ≡ Counted.Equations n →
+      let answer = entry 256 255 (tableAfter 255 (buildingOf 128 (encode r) (length table)) table) in
       Enforces r (suppressing answer) 0 (modelOf y) × WalksBehind answer 0 (modelOf y)

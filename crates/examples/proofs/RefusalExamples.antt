@@ -1,21 +1,35 @@
 -- What reading says of the refused files is computed, and with it what counting, building and judging answer.
 use Prim.Native.Nat.{ℕ}
 use mathlib.Core.Path.{_≡_, refl}
-use mathlib.Core.List.{List}
+use mathlib.Core.List.{List, [], _∷_}
+use native.Mathlib.Omega.{arith}
 use lib.ListN.{length}
+use Rattle.reading.specs.Pattern.{bit, covers}
+use Rattle.reading.specs.Rule.{necessity, max, variable, Rule}
 use Rattle.reading.specs.File.{refused, patternsAt, formulaAt, formulaOf, ruleOf}
-use Rattle.synthesis.specs.Building.{buildingOf}
+use Rattle.synthesis.specs.Answering.{firstOf, answerOf, hopeless}
+use Rattle.synthesis.specs.Search.{noted, found}
+use Rattle.synthesis.specs.Building.{equationsOf, buildingOf}
+use Rattle.synthesis.specs.declared.Counted.the-variants.{Equations}
 use Rattle.synthesis.proofs.Synthesized.{counted-accepts}
 use Rattle.models.specs.Phone.{statesOf, stepsAt, phoneOf}
 use Rattle.models.specs.Judging.{judgingOf}
-use Rattle.examples.specs.Examples.{poolFile}
+use Rattle.examples.specs.Examples.{pattern, rule, Reads, poolFile}
 use Rattle.examples.specs.RefusalExamples.{times, RuleRefusals, RefusesModel, ModelRefusals, RefusalExamples}
-use Rattle.examples.proofs.FileAnswers.{refuses}
+use Rattle.examples.proofs.FileAnswers.{refuses, reads}
 use Rattle.examples.proofs.NumberPool.{number-pool}
 use Rattle.examples.proofs.FullModel.{step-513}
 
+guarded-rule : Rule
+guarded-rule = rule (pattern 255 0 31 ∷ []) (max (max (necessity 0 (variable 1))))
+
+-- node 2 alone, which every code leads back to
+guards-both : Reads (1 ∷ 255 ∷ 0 ∷ 31 ∷ 6 ∷ 6 ∷ 5 ∷ 0 ∷ 7 ∷ 1 ∷ []) guarded-rule (Equations 1)
+unfolding guarded-rule ruleOf patternsAt formulaOf formulaAt hopeless equationsOf found noted firstOf answerOf bit covers
+guards-both = reads _ _ refl refl (4 ∷ []) refl (omega arith)
+
 rule-refusals : RuleRefusals
-unfolding times ruleOf patternsAt formulaOf formulaAt
+unfolding times ruleOf patternsAt formulaOf formulaAt guarded-rule
 rule-refusals = record {
   half = refuses _ 1 2 refl;
   no-kind-after = refuses _ 3 1 refl;
@@ -40,6 +54,7 @@ rule-refusals = record {
   guard-above = refuses _ 7 7 refl;
   guard-outer = refuses _ 7 8 refl;
   guard-beside = refuses _ 7 10 refl;
+  guards-both = guards-both;
 }
 
 refuses-model : (f : List ℕ) (number place : ℕ) → phoneOf f ≡ refused number place → RefusesModel f number place

@@ -3,10 +3,12 @@
 use Prim.Native.Nat.{ℕ, zero, suc}
 use mathlib.Core.Path.{_≡_}
 use mathlib.Core.List.{List, [], _∷_, _++_}
+use Rattle.reading.specs.Rule.{necessity, max, variable}
 use Rattle.reading.specs.File.{refused}
+use Rattle.synthesis.specs.declared.Counted.the-variants.{Equations}
 use Rattle.models.specs.Phone.{phoneOf}
 use Rattle.models.specs.declared.Judged.the-variants.{Refused}
-use Rattle.examples.specs.Examples.{Refuses}
+use Rattle.examples.specs.Examples.{pattern, rule, Refuses, Reads}
 use Rattle.examples.specs.ModelExamples.{JudgesPool}
 
 -- n times some bytes, before the rest
@@ -50,6 +52,8 @@ pub record RuleRefusals : Type 0 where
   pub guard-above : Refuses (1 ∷ 1 ∷ 5 ∷ 5 ∷ 5 ∷ 0 ∷ 6 ∷ 7 ∷ 0 ∷ []) 7 7
   pub guard-outer : Refuses (1 ∷ 1 ∷ 5 ∷ 5 ∷ 6 ∷ 5 ∷ 0 ∷ 6 ∷ 7 ∷ 0 ∷ []) 7 8
   pub guard-beside : Refuses (1 ∷ 1 ∷ 5 ∷ 5 ∷ 6 ∷ 4 ∷ 5 ∷ 0 ∷ 7 ∷ 0 ∷ 7 ∷ 0 ∷ []) 7 10
+  -- no 7: a necessity below two maxes guards the outer one too
+  pub guards-both : Reads (1 ∷ 255 ∷ 0 ∷ 31 ∷ 6 ∷ 6 ∷ 5 ∷ 0 ∷ 7 ∷ 1 ∷ []) (rule (pattern 255 0 31 ∷ []) (max (max (necessity 0 (variable 1))))) (Equations 1)
 
 -- ---- model files
 

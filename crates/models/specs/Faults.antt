@@ -1,5 +1,5 @@
--- Why a model file is refused, and where, without the steps of a reader: a clause for each way in which a file can go wrong. What stands before
--- the record at fault is a whole model: a model may end after its count of states, and after each step.
+-- Why a model file is refused, and where, without the steps of a reader: a clause for each way in which a file can go wrong. Before a step at fault
+-- stands a whole model: a model may end after its count of states, and after each step.
 use Prim.Native.Nat.{ℕ, _+_, _≤_, _<_}
 use mathlib.Core.Path.{_≡_}
 use mathlib.Core.Logic.{_⊎_}

@@ -1,5 +1,5 @@
 -- Why a rule file is refused, and where, without the steps of a reader: a clause for each way in which a file can go wrong. A front of the file
--- begins a rule when some well-formed rule, with any number of patterns and nodes, is encoded with it.
+-- begins a rule when the encoding of some well-formed rule, with any number of patterns and nodes, begins with it.
 use Prim.Native.Nat.{ℕ, suc, _+_, _≤_, _<_}
 use mathlib.Core.Path.{_≡_}
 use mathlib.Core.Logic.{_⊎_}
@@ -43,7 +43,7 @@ nodesIn (node x ∷ xs) = suc (nodesIn xs)
 
 -- ---- fronts of rules
 
--- Well formed if guards aren't asked for: pattern numbers are in range, and each variable is bound by one of so many maxes around it or one of its own.
+-- Well formed if guards aren't asked for, after so many patterns and inside so many maxes: pattern numbers are in range, and each variable is bound.
 abbrev pub Bound : (patterns maxes : ℕ) → Formula → Type 0
 Bound n k truth = Unit
 Bound n k falsity = Unit

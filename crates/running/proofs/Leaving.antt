@@ -11,7 +11,7 @@ use Rattle.reading.proofs.AllLaws.{all-getD}
 use Rattle.synthesis.specs.Monitor.{kept, verdicts}
 use Rattle.synthesis.proofs.Runs.{verdicts-length}
 use Rattle.synthesis.proofs.Verdicts.{verdicts-range}
-use Rattle.running.specs.Running.{following, followed, checkedOf, overlay}
+use Rattle.running.specs.Running.{following, followed, ranOf, overlay}
 use Rattle.running.specs.Promises.{Unchanged, RefusedUnchanged, OnlyFronts, RestUnchanged}
 use Rattle.running.specs.declared.State.{State}
 use Rattle.running.specs.declared.Checked.the-variants.{Fit, Refused}
@@ -23,7 +23,7 @@ use Rattle.running.proofs.Refusals.{roomy-room}
 pub refused-unchanged : RefusedUnchanged
 refused-unchanged limit mark table count s scans output verdicts number place =
     run-cases limit mark table count s scans (length output) (length verdicts)
-    (λ o. checkedOf o ≡ Refused number place → Unchanged s output verdicts number place o)
+    (λ o. ranOf s o .checked ≡ Refused number place → Unchanged s output verdicts number place o)
     (λ r e. record { ran = rw e; same-output = refl; same-verdicts = refl })
     (λ r f e. record { ran = rw e; same-output = refl; same-verdicts = refl })
     (λ r f e. let z : _≡_ {A = ℕ} 0 1 = cc in absurd (omega arith))
@@ -55,7 +55,7 @@ module _ (mark : ℕ) (table : List ℕ) (s : State) (scans output judged : List
 pub rest-unchanged : RestUnchanged
 rest-unchanged limit mark table count s scans output verdicts =
     run-cases limit mark table count s scans (length output) (length verdicts)
-    (λ o. checkedOf o ≡ Fit → OnlyFronts s scans output verdicts o)
+    (λ o. ranOf s o .checked ≡ Fit → OnlyFronts s scans output verdicts o)
     (λ r e. let z : _≡_ {A = ℕ} 0 1 = cc in absurd (omega arith))
     (λ r f e. let z : _≡_ {A = ℕ} 0 1 = cc in absurd (omega arith))
     (λ r f e. let room = roomy-room scans (length output) (length verdicts) r in

@@ -119,7 +119,7 @@ abbrev pub RefusedUnchanged : Type 0
 RefusedUnchanged =
     (limit mark : ℕ) (table : List ℕ) (count : ℕ) (s : State) (scans output verdicts : List ℕ) (number place : ℕ) →
     let outcome = runOf limit mark table count s scans (length output) (length verdicts) in
-    checkedOf outcome ≡ Refused number place → Unchanged s output verdicts number place outcome
+    ranOf s outcome .checked ≡ Refused number place → Unchanged s output verdicts number place outcome
 
 -- Any other has one verdict a scan, 0 or 1, at the front of the verdicts, and the scans with verdict 0 at the front of the output, as many as it
 -- says. Behind these both buffers are as they were.
@@ -137,4 +137,4 @@ abbrev pub RestUnchanged : Type 0
 RestUnchanged =
     (limit mark : ℕ) (table : List ℕ) (count : ℕ) (s : State) (scans output verdicts : List ℕ) →
     let outcome = runOf limit mark table count s scans (length output) (length verdicts) in
-    checkedOf outcome ≡ Fit → OnlyFronts s scans output verdicts outcome
+    ranOf s outcome .checked ≡ Fit → OnlyFronts s scans output verdicts outcome
