@@ -15,7 +15,7 @@ use Rattle.reading.specs.declared.Answer.the-variants.{Refused}
 use Rattle.models.specs.Phone.{Phone, statesOf, among, endingAt, stepAt, recordLength, stepsAt, phoneOf}
 use Rattle.models.specs.Judging.{modelReadingOf}
 use Rattle.models.specs.Faults.{ModelBefore, BeginsModel, IsCount, IsStep, afterStep}
-use Rattle.models.specs.Faults.{Fault, empty, count-cut, step-cut, not-count, bad-count, not-step, bad-step, step-513}
+use Rattle.models.specs.Faults.{Fault, empty-file, count-cut, step-cut, not-count, bad-count, not-step, bad-step, step-513}
 use Rattle.models.specs.Promises.{RefusesAtTheFault}
 use Rattle.models.specs.declared.Step.{Step}
 use Rattle.models.proofs.StepLaws.{is-step, is-no-step, a-step, one-refused}
@@ -56,7 +56,7 @@ module _ (f : List ℕ) where
   states-faulty : Faulty (statesOf f)
   unfolding statesOf
   states-faulty =
-      checked (eqb (length f) 0) 11 (length f) _ (λ e. empty (eqb-true _ _ e)) λ some.
+      checked (eqb (length f) 0) 11 (length f) _ (λ e. empty-file (eqb-true _ _ e)) λ some.
       let inside : 0 < length f = omega (arith, eqb-false (length f) 0 some) in
       checked (not (eqb (getD f 0 0) 16)) 12 0 _ (λ e. not-count (inside, eqb-false _ _ (not-true _ e))) λ kind.
       let count : KindAt f 0 IsCount = (inside, eqb-true _ _ (not-false _ kind)) in
@@ -167,7 +167,7 @@ module _ (f : List ℕ) (bytes : Bytes f) where
         none (rw ends at (model-begins longer)))
 
   pub fault-refuses : {number place : ℕ} → Fault f number place → phoneOf f ≡ refused number place
-  fault-refuses (empty e) = first-refused f (no-states-found (statesOf f) (Checks.file-empty f e))
+  fault-refuses (empty-file e) = first-refused f (no-states-found (statesOf f) (Checks.file-empty f e))
   fault-refuses (count-cut (inside, kind) cut) =
       first-refused f (no-states-found (statesOf f) (Checks.states-cut f (λ z. omega arith) kind (omega arith)))
   fault-refuses (step-cut m kind few cut) = cut-refused m few kind cut

@@ -47,7 +47,7 @@ afterStep f at = at + cond (eqb (getD f at 0) 17) 4 3
 -- Refused with this number at this place. n counts the steps before it.
 pub data Fault (f : List ℕ) : (number place : ℕ) → Type 0 where
   -- 11: the file is empty, or ends inside a record that may come next
-  empty : length f ≡ 0 → Fault f 11 (length f)
+  empty-file : length f ≡ 0 → Fault f 11 (length f)
   count-cut : KindAt f 0 IsCount → length f < 2 → Fault f 11 (length f)
   step-cut : {at n : ℕ} → ModelBefore f at n → KindAt f at IsStep → n < 512 → length f < afterStep f at → Fault f 11 (length f)
   -- 12: another kind than the one that is due, or a count that isn't 1 to 64
