@@ -16,8 +16,9 @@ use Rattle.models.specs.Phone.{Phone, statesOf, among, endingAt, stepAt,
 use Rattle.models.specs.Judging.{modelReadingOf}
 use Rattle.models.specs.Faults.{ModelBefore, BeginsModel, IsCount, IsStep, afterStep}
 use Rattle.models.specs.Faults.{Fault, empty-file, count-cut, step-cut, not-count, bad-count, not-step, bad-step, step-513}
-use Rattle.models.specs.Promises.{RefusesAtTheFault}
+use Rattle.models.specs.Promises.{RefusesAtTheFault, HasOneFault}
 use Rattle.models.specs.declared.Step.{Step}
+use Rattle.reading.proofs.OneFault.{one-fault}
 use Rattle.models.proofs.StepLaws.{is-step, is-no-step, a-step, one-refused}
 use Rattle.models.proofs.RecordChecks as Checks
 use Rattle.models.proofs.StepBytes.{StepDue, step-due}
@@ -197,3 +198,6 @@ refuses-at-the-fault f bytes number place = (
   λ e. rw (model-refused (phoneOf f) number place .1 e) at (phone-faulty f bytes),
   λ h. rw (fault-refuses f bytes h),
 )
+
+pub has-one-fault : HasOneFault
+has-one-fault f bytes = one-fault (modelReadingOf (phoneOf f) .answer) (refuses-at-the-fault f bytes)

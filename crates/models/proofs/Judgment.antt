@@ -29,16 +29,10 @@ use Rattle.models.specs.declared.Judged as Judged′
 use Rattle.models.proofs.SatisfactionLaws.{satisfies-safe}
 use Rattle.models.proofs.NeverDropping.{never-drops-safe}
 use Rattle.models.proofs.Encoding.{phone-accepted, phone-within-limits}
+use Rattle.models.proofs.FileFaults.{model-refused}
 use Rattle.models.proofs.PhoneCodes.{phone-codes}
 use Rattle.models.proofs.DecidedSets.{decided-satisfies}
 use Rattle.models.proofs.JudgingLaws.{judging-case}
-
--- ---- what was read
-
-phone-refused : (o : Outcome Phone) (number place : ℕ) → modelReadingOf o .answer ≡ Answer′.the-variants.Refused number place
-    → o ≡ refused number place
-phone-refused (accepted y) number place e = let z : _≡_ {A = ℕ} 0 1 = cc in absurd (omega arith)
-phone-refused (refused number′ place′) number place e = cc
 
 module _ (s table f : List ℕ) where
   -- the answer and the table after a call
@@ -71,7 +65,7 @@ module _ (s table f : List ℕ) where
       on : (o : Outcome Synthesis) → buildingOf 128 s (length table) ≡ o
           → r ≡ refusalBefore (countedOf o) (Answer′.the-variants.Refused number place) → Judges r table
       on (accepted y) built e =
-          rw e (model-second built (phone-refused (phoneOf f) number place (sym (ap (λ (x : ModelReading). x .answer) read) ∙ told)))
+          rw e (model-second built (model-refused (phoneOf f) number place .1 (sym (ap (λ (x : ModelReading). x .answer) read) ∙ told)))
       on (refused number′ place′) built e = rw e (rule-first built)
 
   pub judges-rule-refused : {built : Counted} {number place : ℕ} {r : Judged} {after : List ℕ}

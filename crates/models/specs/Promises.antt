@@ -7,6 +7,7 @@ use mathlib.Core.List.{List, [], _∷_}
 use lib.ListN.{length, take}
 use Rattle.reading.specs.Rule.{Rule, RuleWithinLimits, encode, Bytes}
 use Rattle.reading.specs.File.{accepted, refused, ruleOf}
+use Rattle.reading.specs.Promises.{OneFault}
 use Rattle.reading.specs.declared.Answer.the-variants.{Accepted, Refused as NotAccepted}
 use Rattle.synthesis.specs.Violation.{ViolatesRule}
 use Rattle.synthesis.specs.Monitor.{Answer, kept, ended, Loses, Monitors, entry}
@@ -153,11 +154,14 @@ AnswersAccepted =
     (f : List ℕ) → Bytes f → (modelReadingOf (phoneOf f) .answer ≡ Accepted)
     ↔ ((y : Phone) × PhoneWithinLimits y × (f ≡ encodePhone y) × (modelReadingOf (phoneOf f) .model ≡ stored y))
 
--- A file is refused with a number at a place exactly where a clause of `Fault` has it so. So one number and one place hold of each refused file, and none
--- of an accepted one.
+-- A file is refused with a number at a place exactly where a clause of `Fault` has it so.
 abbrev pub RefusesAtTheFault : Type 0
 RefusesAtTheFault =
     (f : List ℕ) → Bytes f → (number place : ℕ) → (modelReadingOf (phoneOf f) .answer ≡ NotAccepted number place) ↔ Fault f number place
+
+-- So no two of its clauses differ in number or place, and none holds exactly where the file is accepted.
+abbrev pub HasOneFault : Type 0
+HasOneFault = (f : List ℕ) → Bytes f → OneFault (modelReadingOf (phoneOf f) .answer) (Fault f)
 
 -- What a file says is settled by its first 2,051 bytes, and not by 2,050.
 abbrev pub SettledByFirstBytes : Type 0

@@ -15,7 +15,7 @@ use Rattle.reading.specs.Faults.{IsPattern, NoKind, IsNode, HasBody, IsV
 use Rattle.reading.specs.Faults.{file-ended, pattern-cut, node-cut, no-kind, after-rule, late-pattern, pattern-33, node-65, bad-pattern, names-nothing}
 use Rattle.reading.specs.Faults.{unguarded}
 use Rattle.reading.specs.Numbered.{readingOf}
-use Rattle.reading.specs.Promises.{RefusesAtTheFault}
+use Rattle.reading.specs.Promises.{RefusesAtTheFault, HasOneFault}
 use Rattle.reading.specs.Answers.{patternRead, nodeRead}
 use Rattle.reading.specs.declared.Pattern.{Pattern}
 use Rattle.reading.specs.declared.Answer.the-variants.{Refused}
@@ -31,6 +31,7 @@ use Rattle.reading.proofs.LeftToRight.{dueAt, due-over, headAt, refused
 use Rattle.reading.proofs.ReadTo.{ReadTo, front-read, over-read, next-node, next-pattern, node-bound, bound-begins}
 use Rattle.reading.proofs.RecordsHere.{necessity-here, variable-here, pattern-stood}
 use Rattle.reading.proofs.FaultsFound.{fault-found}
+use Rattle.reading.proofs.OneFault.{one-fault}
 use Rattle.reading.proofs.GoingOn.{no-pattern, go-to-node, go-to-pattern, read-to-front, read-to-unfinished}
 
 -- ---- from what a reader's function finds to its outcome
@@ -216,3 +217,6 @@ refuses-at-the-fault s bytes number place =
     let (forth, back) = refused-left-to-right s number place in
     let (say, hear) = answer-refused (ruleOf s) number place in
     (λ e. fault-found s bytes (forth (hear e)), λ fault. say (back (fault-refused s bytes fault)))
+
+pub has-one-fault : HasOneFault
+has-one-fault s bytes = one-fault (readingOf (ruleOf s) .answer) (refuses-at-the-fault s bytes)

@@ -34,4 +34,5 @@ pub mod ReadTo
 pub mod RecordsHere
 pub mod FaultsFound
 pub mod GoingOn
+pub mod OneFault
 pub mod FaultsRefused

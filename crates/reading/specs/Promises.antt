@@ -13,6 +13,7 @@ use Rattle.reading.specs.Faults.{Fault}
 use Rattle.reading.specs.Numbered.{kind, argument, numberOf, numbered, noPattern, noExtent, readingOf}
 use Rattle.reading.specs.Nodes.{EnclosingMax, Node, guardsAt, Resolves}
 use Rattle.reading.specs.declared.Pattern.{Pattern}
+use Rattle.reading.specs.declared.Answer.{Answer}
 use Rattle.reading.specs.declared.Answer.the-variants.{Accepted, Refused}
 
 -- 1. A file is accepted exactly as the encoding of a well-formed rule within the limits, and then as that rule.
@@ -29,11 +30,18 @@ AnswersAccepted =
     (s : List ℕ) → Bytes s → (readingOf (ruleOf s) .answer ≡ Accepted)
     ↔ ((r : Rule) × RuleWithinLimits r × (s ≡ encode r) × (readingOf (ruleOf s) .rule ≡ numbered r))
 
--- A file is refused with a number at a place exactly where a clause of `Fault` has it so. So one number and one place hold of each refused file, and none
--- of an accepted one.
+-- A file is refused with a number at a place exactly where a clause of `Fault` has it so.
 abbrev pub RefusesAtTheFault : Type 0
 RefusesAtTheFault =
     (s : List ℕ) → Bytes s → (number place : ℕ) → (readingOf (ruleOf s) .answer ≡ Refused number place) ↔ Fault s number place
+
+-- So no two of its clauses differ in number or place, and none holds exactly where the file is accepted.
+pub record OneFault (answer : Answer) (Fault : (number place : ℕ) → Type 0) : Type 0 where
+  pub one : {number place number′ place′ : ℕ} → Fault number place → Fault number′ place′ → (number ≡ number′) × (place ≡ place′)
+  pub none : (answer ≡ Accepted) ↔ ((number place : ℕ) → Fault number place → ⊥)
+
+abbrev pub HasOneFault : Type 0
+HasOneFault = (s : List ℕ) → Bytes s → OneFault (readingOf (ruleOf s) .answer) (Fault s)
 
 -- 2. The numbered nodes are those of the tree: each number below the size names one node, and the kind and the argument that stand at
 -- that number say its formula, its parts by their numbers, and the max of a variable. Each node is well formed where it stands.
