@@ -57,13 +57,23 @@ KEPT = bytes(WAITS[:62]) + bytes([31]) + bytes(WAITS)
 
 # Where nothing can be written, `equations` prints no line, `sift` ends after the first block, in equation 63, and each of
 # the three programs says so once.
-UNWRITTEN = "lines 0 equation 63 said 3\n"
+UNWRITTEN = """lines 0 equation 63
+equations: standard output
+sift: standard output
+meets: standard output
+"""
 
-# Where standard input is a folder and there is no model.bin: what `equations` and `meets` print, and what is said.
+# Where standard input is a folder and there is no model.bin: what `equations` and `meets` print. Where there is no rule.bin
+# either: what `sift` and `meets` print. Then what all of them said.
 UNREAD = """refused 1 at 0
 refused 11 at 0
+refused 1 at 0
+refused 1 at 0
 equations: standard input: Is a directory
 sift: standard input: Is a directory
+meets: model.bin: No such file or directory
+sift: rule.bin: No such file or directory
+meets: rule.bin: No such file or directory
 meets: model.bin: No such file or directory
 """
 

@@ -9,17 +9,32 @@ use places::read_error;
 use places::seek_first;
 use places::seek_last;
 
-// How many lines a text has.
-fn count_lines(text: &[u8]) -> u64 {
-    let mut lines: u64 = 0;
+// How many colons of a line have come, up to two, after one more byte of a text.
+fn colons_after(colons: u64, byte: u8) -> u64 {
+    if byte == b'\n' {
+        return 0;
+    }
+    if byte != b':' {
+        return colons;
+    }
+    if colons < 2 {
+        return colons + 1;
+    }
+    colons
+}
+
+// Prints what stands before the second colon of each line: a program, and what it was about. Why a write fails may be told in other words
+// by another file system.
+fn print_subjects(text: &[u8]) {
+    let mut colons = 0;
     let mut i = 0;
     while i < text.len() {
-        if text[i] == b'\n' {
-            lines += 1;
+        colons = colons_after(colons, text[i]);
+        if colons < 2 {
+            io::write_all(STDOUT_FILENO, &text[i..i + 1]);
         }
         i += 1;
     }
-    lines
 }
 
 // Prints a word and a number.
@@ -28,8 +43,8 @@ fn print_number(word: &[u8], number: u64) {
     io::print_decimal(STDOUT_FILENO, number);
 }
 
-// Nothing can be written. Prints how many lines `equations` says that it printed, the equation in which `sift` stopped, and how many lines
-// the three wrote to standard error.
+// Nothing can be written. Prints how many lines `equations` says that it printed, the equation in which `sift` stopped, and what the three
+// said on standard error, without the reason.
 fn unwritten() {
     seek_last();
     open_error();
@@ -44,8 +59,8 @@ fn unwritten() {
     let state = sifted.state;
     print_number(b"lines ", shown.lines as u64);
     print_number(b" equation ", state.equation as u64);
-    print_number(b" said ", count_lines(&said[..n]));
     io::write_all(STDOUT_FILENO, b"\n");
+    print_subjects(&said[..n]);
 }
 
 // All is read and written.
@@ -57,13 +72,16 @@ fn written() {
     commands::meets();
 }
 
-// Standard input is a folder, and there is no model.bin. Prints what was written to standard error.
+// Standard input is a folder, and there is no model.bin; then there is no rule.bin either. Prints what was said on standard error.
 fn unread() {
     open_error();
     open_input(b".");
     commands::equations();
     commands::sift();
     os::unlink(b"model.bin");
+    commands::meets();
+    os::unlink(b"rule.bin");
+    commands::sift();
     commands::meets();
     let mut said = io::buffer();
     let n = read_error(&mut said);
