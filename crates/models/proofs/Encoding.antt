@@ -12,10 +12,11 @@ use Rattle.reading.specs.File.{Outcome, accepted, refused}
 use Rattle.reading.specs.declared.Answer.the-variants.{Accepted}
 use Rattle.reading.proofs.ByteLaws.{bytes-append}
 use Rattle.reading.proofs.Outcomes.{accepted-is, accepted-by, then-accepts, passes}
+use Rattle.reading.proofs.NumberedLaws.{padded-at}
 use Rattle.models.specs.Phone.{Phone, WellFormedStep, WellFormedPhone, PhoneWithinLimits, recordBytes, encodeStep, encodeSteps, encodePhone}
-use Rattle.models.specs.Phone.{statesOf, stepsAt, phoneOf}
+use Rattle.models.specs.Phone.{noStep, statesOf, stepsAt, phoneOf}
 use Rattle.models.specs.Judging.{stored, modelReadingOf}
-use Rattle.models.specs.Promises.{AcceptsPhones, OnePhone, AnswersAccepted}
+use Rattle.models.specs.Promises.{AcceptsPhones, OnePhone, StoresModel, AnswersAccepted}
 use Rattle.models.specs.declared.Step.{Step}
 use Rattle.models.proofs.StepBytes.{from-here, StepsStand, steps-read, steps-stand}
 
@@ -114,3 +115,6 @@ answers-accepted f bytes = (
   λ told. let (y, read, model) = phone-accepted (phoneOf f) told in let (w, is) = accepts-phones f bytes y .0 read in (y, w, is, model),
   λ (y, w, is, model). rw (accepts-phones f bytes y .1 (w, is)),
 )
+
+pub stores-model : (y : Phone) → StoresModel y
+stores-model y = record { states = refl; steps = padded-at noStep 512 (y .steps); counted = refl }

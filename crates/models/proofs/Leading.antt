@@ -13,7 +13,7 @@ use Rattle.synthesis.specs.Monitor.{dropped, next, rowOf, meaning, entry}
 use Rattle.synthesis.specs.Promises.{RowInRange}
 use Rattle.synthesis.proofs.Rows.{row-is}
 use Rattle.running.specs.Running.{WellFormedTable}
-use Rattle.running.proofs.Tables.{row-at}
+use Rattle.synthesis.proofs.Rows.{row-at}
 use Rattle.models.specs.Model.{silent, code, Model}
 use Rattle.models.specs.Phone.{labelOf}
 use Rattle.models.specs.Exploring.{Reached, silently, keeping, NeverDrops, leadsTo}

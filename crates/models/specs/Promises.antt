@@ -4,7 +4,7 @@ use Prim.Native.Nat.{ℕ, _*_, _≤_}
 use mathlib.Core.Path.{_≡_}
 use mathlib.Core.Logic.{_↔_, _⊎_}
 use mathlib.Core.List.{List, [], _∷_}
-use lib.ListN.{length, take}
+use lib.ListN.{length, getD, take}
 use Rattle.reading.specs.Rule.{Rule, RuleWithinLimits, encode, Bytes}
 use Rattle.reading.specs.File.{accepted, refused, ruleOf}
 use Rattle.reading.specs.Promises.{OneFault}
@@ -16,7 +16,7 @@ use Rattle.synthesis.specs.Promises.{Closed}
 use Rattle.synthesis.specs.declared.Counted.the-variants.{Equations, Refused}
 use Rattle.models.specs.Model.{Model, Walk, Weak, Finite, ByteCodes, Satisfies, SatisfiesDecided, Bisimilar}
 use Rattle.models.specs.Model.{Response, suppressing, PassesKept, monitored}
-use Rattle.models.specs.Phone.{Phone, modelOf, PhoneWithinLimits, encodePhone, phoneOf}
+use Rattle.models.specs.Phone.{Phone, noStep, modelOf, PhoneWithinLimits, encodePhone, phoneOf}
 use Rattle.models.specs.Faults.{Fault}
 use Rattle.models.specs.Judging.{stored, modelReadingOf, judgingOf, JudgedAs, tableJudged}
 use Rattle.models.specs.declared.Judged.{Judged}
@@ -147,6 +147,12 @@ AcceptsPhones = (f : List ℕ) → Bytes f → (y : Phone) → (phoneOf f ≡ ac
 -- So one file has one model.
 abbrev pub OnePhone : Type 0
 OnePhone = (y y′ : Phone) → PhoneWithinLimits y → PhoneWithinLimits y′ → encodePhone y ≡ encodePhone y′ → y ≡ y′
+
+-- What is handed up of a model: its states, its steps in their order, and how many there are.
+pub record StoresModel (y : Phone) : Type 0 where
+  pub states : stored y .states ≡ y .states
+  pub steps : (i : ℕ) → getD (stored y .steps) i noStep ≡ getD (y .steps) i noStep
+  pub counted : stored y .nsteps ≡ length (y .steps)
 
 -- In terms of what `read_model` ensures: it answers "accepted" exactly for such files, and hands up that model.
 abbrev pub AnswersAccepted : Type 0

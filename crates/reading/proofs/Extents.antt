@@ -10,16 +10,13 @@ use lib.Dec.{leb}
 use lib.Count.{ones, trailingZeros}
 use borrow.Author.Tests.{eqb-true, leb-true, eq-eqb, le-leb}
 use Rattle.reading.specs.Pattern.{kindOf, slotOf, bit, covers, least, howMany, WellFormedPattern}
-use Rattle.reading.specs.Promises.{MeasuresPattern}
+use Rattle.reading.specs.Promises.{CoversMeans, MeasuresPattern}
 use Rattle.reading.specs.declared.Pattern.{Pattern}
 use Rattle.reading.proofs.Bits.{isSet, trailing-is-least, trailing-lt, ones-is-count}
 use Rattle.reading.proofs.Counting.{least-holds, least-below, howMany-le, between, least-between, howMany-between}
 use Rattle.reading.proofs.Products.{ofBoth, least-of-both, howMany-of-both}
 
-pub covers-means :
-    (p : Pattern) (code : ℕ)
-    → (covers p code ≡ true)
-    ↔ ((bit (kindOf code) (p .mask) ≡ 1) × (p .first ≤ slotOf code) × (slotOf code ≤ p .last))
+pub covers-means : CoversMeans
 unfolding covers
 covers-means p code = (
   λ h.

@@ -76,6 +76,7 @@ extent-at r i h = padded-at noExtent 32 (map extentOf (r .patterns)) i ∙ mappe
 
 pub numbers-nodes : (r : Rule) → NumbersNodes r
 numbers-nodes r = record {
+  counted = refl;
   exists = node-exists (r .formula);
   unique = node-unique;
   fits = node-fits;
@@ -86,4 +87,4 @@ numbers-nodes r = record {
 }
 
 pub numbers-patterns : (r : Rule) → NumbersPatterns r
-numbers-patterns r = record { pattern = pattern-at r; extent = extent-at r }
+numbers-patterns r = record { counted = refl; pattern = pattern-at r; extent = extent-at r }

@@ -6,7 +6,7 @@ use mathlib.Core.Bool.{true}
 use mathlib.Core.List.{List, [], map}
 use lib.ListN.{length, getD, take}
 use lib.Count.{ones, trailingZeros}
-use Rattle.reading.specs.Pattern.{covers, extentOf}
+use Rattle.reading.specs.Pattern.{kindOf, slotOf, bit, covers, extentOf}
 use Rattle.reading.specs.Rule.{Formula, size, WellFormed, Rule, RuleWithinLimits, encode, Bytes}
 use Rattle.reading.specs.File.{accepted, refused, ruleOf}
 use Rattle.reading.specs.Faults.{Fault}
@@ -46,6 +46,7 @@ HasOneFault = (s : List ℕ) → Bytes s → OneFault (readingOf (ruleOf s) .ans
 -- 2. The numbered nodes are those of the tree: each number below the size names one node, and the kind and the argument that stand at
 -- that number say its formula, its parts by their numbers, and the max of a variable. Each node is well formed where it stands.
 pub record NumbersNodes (r : Rule) : Type 0 where
+  pub counted : numbered r .nnodes ≡ size (r .formula)
   pub exists : (k : ℕ) → k < size (r .formula) → (ms : List EnclosingMax) × (f : Formula) × Node (r .formula) k ms f
   pub unique : {k : ℕ} {ms ms′ : List EnclosingMax} {f f′ : Formula} → Node (r .formula) k ms f → Node (r .formula) k ms′ f′
       → (ms ≡ ms′) × (f ≡ f′)
@@ -60,6 +61,7 @@ pub record NumbersNodes (r : Rule) : Type 0 where
 
 -- and the numbered patterns those of the rule
 pub record NumbersPatterns (r : Rule) : Type 0 where
+  pub counted : numbered r .npatterns ≡ length (r .patterns)
   pub pattern : (i : ℕ) → getD (numbered r .patterns) i noPattern ≡ getD (r .patterns) i noPattern
   pub extent : (i : ℕ) → i < length (r .patterns) → getD (numbered r .extents) i noExtent ≡ extentOf (getD (r .patterns) i noPattern)
 
@@ -70,7 +72,12 @@ SettledByFirstBytes = (s : List ℕ) (n : ℕ) → 257 ≤ n → ruleOf (take n 
 abbrev pub NotByFewer : Type 0
 NotByFewer = (s : List ℕ) × Bytes s × (ruleOf (take 256 s) ≡ refused 1 256) × (ruleOf s ≡ refused 4 256)
 
--- 4. Of a well-formed pattern: its lowest code is the least that it covers, the trailing zeros of the mask give it, and the ones of
+-- 4. What a pattern covers: the codes of its kinds, with the slots from first to last.
+abbrev pub CoversMeans : Type 0
+CoversMeans =
+    (p : Pattern) (code : ℕ) → (covers p code ≡ true) ↔ ((bit (kindOf code) (p .mask) ≡ 1) × (p .first ≤ slotOf code) × (slotOf code ≤ p .last))
+
+-- Of a well-formed pattern: its lowest code is the least that it covers, the trailing zeros of the mask give it, and the ones of
 -- the mask times the slot width give its count. (That the count is how many codes it covers is its definition.)
 pub record MeasuresPattern (p : Pattern) : Type 0 where
   pub covered : covers p (extentOf p .lowest) ≡ true

@@ -5,10 +5,11 @@ use native.Mathlib.Omega.{arith}
 use lib.ListN.{length}
 use Rattle.synthesis.specs.Building.{buildingOf, countedOf}
 use Rattle.synthesis.proofs.Synthesized.{building-accepts, building-enough, counted-accepts}
+use Rattle.synthesis.proofs.Rows.{row-at}
 use Rattle.synthesis.proofs.Equations.{answers-count}
 use Rattle.synthesis.proofs.Built.{left, table-rest, entries-in-range}
 use Rattle.running.specs.Promises.{BuiltWellFormed, NeverUnfit}
-use Rattle.running.proofs.Tables.{row-at, other-well-formed}
+use Rattle.running.proofs.Tables.{other-well-formed}
 use Rattle.running.proofs.Refusals.{runs-on-tables}
 use Rattle.running.proofs.Histories.{one-run}
 

@@ -9,11 +9,10 @@ use native.Mathlib.Nat.{div-add-mod, mod-lt}
 use native.Mathlib.Omega.{arith}
 use lib.Dec.{eqb, ltb, leb}
 use lib.ListN.{length, getD, take, drop, length-take, List·getD-eq-default}
-use lib.Seq.{length-take-le, getD-take, getD-drop}
+use lib.Seq.{length-take-le, getD-take}
 use borrow.Author.Tests.{eqb-true, eqb-false, ltb-true, lt-ltb, leb-true, le-leb}
-use Rattle.reading.proofs.ListLaws.{getD-inside}
 use Rattle.synthesis.specs.Monitor.{dropped, next, cases, ended, rowOf, meaning}
-use Rattle.synthesis.proofs.Rows.{row-is}
+use Rattle.synthesis.proofs.Rows.{row-is, row-at}
 use Rattle.synthesis.proofs.Runs.{run-induction}
 use Rattle.running.specs.Running.{moved, following, inRange, entriesInRange, isWellFormed, WellFormedTable, fits}
 use Rattle.running.specs.declared.State.{State}
@@ -105,14 +104,6 @@ module _ (limit mark : ℕ) (table : List ℕ) (count : ℕ) where
     well-fits wf inside = rw (well-tests wf) (lt-ltb (s .equation) count inside)
 
 -- ---- the entries of a well-formed table
-
--- a row's entry by its place in the table
-pub row-at : (table : List ℕ) (k c d : ℕ) → 256 * k + 256 ≤ length table → c < 256 → getD (rowOf 256 table k) c d ≡ getD table (256 * k + c) 0
-row-at table k c d room b =
-    ap (λ (l : List ℕ). getD l c d) (row-is 256 table k room)
-    ∙ (getD-take 256 (drop (256 * k) table) c d b
-    ∙ (getD-drop (256 * k) table c d
-    ∙ getD-inside table (256 * k + c) d 0 (omega arith)))
 
 module _ (limit mark count : ℕ) (table : List ℕ) (wf : WellFormedTable limit mark count table) where
   row-inside : (k : ℕ) → k < count → 256 * k + 256 ≤ length table

@@ -1,15 +1,17 @@
 -- Laws of the rows of a table: their lengths and entries, and what filling leaves.
 use Prim.Native.Nat.{ℕ, zero, suc, _+_, _*_, _≤_, _<_}
-use mathlib.Core.Path.{_≡_, refl, _∙_}
+use mathlib.Core.Path.{_≡_, refl, ap, _∙_}
 use mathlib.Core.List.{List, [], _∷_, _++_, append-assoc}
 use native.Mathlib.Nat.{mul-le-mul-left}
 use native.Mathlib.Decide.{decLt}
 use native.Mathlib.Omega.{arith}
-use lib.ListN.{length, getD, take, drop, length-append, length-drop, List·getD-append}
-use lib.Seq.{take-at, drop-at, getD-at}
+use lib.ListN.{length, getD, take, drop, length-append, length-take, length-drop, List·getD-append}
+use lib.Seq.{take-at, drop-at, getD-at, getD-take, getD-drop}
 use borrow.Author.Tests.{le-leb, lt-leb}
+use Rattle.reading.proofs.ListLaws.{getD-inside}
 use Rattle.synthesis.specs.Monitor.{Answer, rowOf}
 use Rattle.synthesis.specs.Table.{entryFor, entries, rows, filled}
+use Rattle.synthesis.specs.Promises.{HandsBackRows}
 
 -- ---- any table
 
@@ -25,6 +27,21 @@ row-is codes table k h = rw (le-leb (codes * k + codes) (length table) h)
 pub row-none : (codes : ℕ) (table : List ℕ) (k : ℕ) → length table < codes * k + codes → rowOf codes table k ≡ []
 unfolding rowOf
 row-none codes table k h = rw (lt-leb (codes * k + codes) (length table) h)
+
+-- a row's entry by its place in the table
+pub row-at : (table : List ℕ) (k c d : ℕ) → 256 * k + 256 ≤ length table → c < 256 → getD (rowOf 256 table k) c d ≡ getD table (256 * k + c) 0
+row-at table k c d room b =
+    ap (λ (l : List ℕ). getD l c d) (row-is 256 table k room)
+    ∙ (getD-take 256 (drop (256 * k) table) c d b
+    ∙ (getD-drop (256 * k) table c d
+    ∙ getD-inside table (256 * k + c) d 0 (omega arith)))
+
+pub hands-back-rows : HandsBackRows
+hands-back-rows table k = record {
+  whole = λ room. rw (row-is 256 table k room) (length-take 256 (drop (256 * k) table) ∙ omega (arith, length-drop (256 * k) table));
+  entries = λ room c b. row-at table k c 0 room b;
+  none = row-none 256 table k;
+}
 
 module _ (mark : ℕ) (answer : ℕ → ℕ → Answer ℕ) (l : List ℕ) where
   -- ---- entries

@@ -1,5 +1,5 @@
 -- What this crate promises, as statements over the definitions; proofs/ has a theorem of each of these types.
-use Prim.Native.Nat.{ℕ, _*_, _≤_, _<_}
+use Prim.Native.Nat.{ℕ, _+_, _*_, _≤_, _<_}
 use mathlib.Core.Path.{_≡_}
 use mathlib.Core.Logic.{_↔_, _⊎_}
 use mathlib.Core.Bool.{Bool}
@@ -198,3 +198,13 @@ abbrev pub TableRest : Type 0
 TableRest =
     (limit mark : ℕ) (s table : List ℕ) (n : ℕ) → countedOf (buildingOf limit s (length table)) ≡ Equations n
     → SameAfterRows n table (tableAfter mark (buildingOf limit s (length table)) table)
+
+-- What `row` hands back, of any table and for any number: the entries of the row, byte 256 × k + c for the code c, where it is wholly inside the table,
+-- and else an empty part.
+pub record RowPart (table : List ℕ) (k : ℕ) : Type 0 where
+  pub whole : 256 * k + 256 ≤ length table → length (rowOf 256 table k) ≡ 256
+  pub entries : 256 * k + 256 ≤ length table → (c : ℕ) → c < 256 → getD (rowOf 256 table k) c 0 ≡ getD table (256 * k + c) 0
+  pub none : length table < 256 * k + 256 → rowOf 256 table k ≡ []
+
+abbrev pub HandsBackRows : Type 0
+HandsBackRows = (table : List ℕ) (k : ℕ) → RowPart table k

@@ -4,7 +4,7 @@ use Prim.Native.Nat.{_+_, _*_}
 use native.Mathlib.Omega.{arith}
 use borrow.Author.Needs.{needs}
 use Rattle.synthesis.specs.Monitor.{rowOf}
-use Rattle.running.proofs.Tables.{row-at}
+use Rattle.synthesis.proofs.Rows.{row-at}
 use Rattle.models.proofs.Leading.{leads-silently, leads-by-code}
 use Rattle.models.proofs.exploring.equation_after.Statement.{statement}
 use Rattle.models.proofs.exploring.equation_after.Tie as tie
