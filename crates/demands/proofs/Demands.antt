@@ -8,7 +8,7 @@ use lib.ListN.{length}
 use Rattle.reading.specs.Rule.{Rule, RuleWithinLimits, encode}
 use Rattle.reading.specs.File.{accepted, ruleOf}
 use Rattle.reading.proofs.Encoding.{encoding-is-bytes}
-use Rattle.reading.proofs.Accepted.{reading-accepts}
+use Rattle.reading.proofs.Accepted.{reading-accepts, answer-accepted}
 use Rattle.reading.proofs.FaultsRefused as rules
 use Rattle.synthesis.specs.Building.{buildingOf, countedOf, tableAfter}
 use Rattle.synthesis.specs.declared.Counted.the-variants as Counted
@@ -21,7 +21,7 @@ use Rattle.running.proofs.BuiltTables.{never-unfit}
 use Rattle.running.proofs.Leaving as running
 use Rattle.running.proofs.DemandTwo.{drops-exactly}
 use Rattle.models.specs.Phone.{encodePhone}
-use Rattle.models.proofs.Encoding.{encode-bytes, phone-reads}
+use Rattle.models.proofs.Encoding.{encode-bytes, phone-reads, answers-accepted}
 use Rattle.models.proofs.FileFaults as models
 use Rattle.models.proofs.Acceptance.{accepts-exactly}
 use Rattle.models.proofs.JudgingLaws as judging
@@ -29,6 +29,7 @@ use Rattle.models.proofs.TablesEnforce.{tables-enforce}
 use Rattle.demands.specs.Refusals.{RunRefused, short-buffer, unfit}
 use Rattle.demands.specs.Demands.{DemandOne, DemandTwo, DemandThree}
 use Rattle.demands.proofs.Refused.{count-refused, build-refused}
+use Rattle.demands.proofs.UnfitTables.{unfit-not-well}
 use Rattle.demands.proofs.RefusedCalls.{run-refused, run-fit, judge-refused}
 
 rule-read : (r : Rule) → RuleWithinLimits r → ruleOf (encode r) ≡ accepted r
@@ -69,7 +70,8 @@ module _ (s table : List ℕ) (n : ℕ) (counted : countedOf (buildingOf 128 s (
   unrefused number place (short-buffer (inr short)) = omega arith
   unrefused number place (unfit a b bad) =
       never-unfit 128 255 s table n counted h calls c on
-      (runs-on-tables 128 255 (c .table) (c .count) (h .state) (c .scans) (length (c .output)) (length (c .verdicts)) .unfit .1 (a, b, bad))
+      (runs-on-tables 128 255 (c .table) (c .count) (h .state) (c .scans) (length (c .output)) (length (c .verdicts)) .unfit .1
+      (a, b, unfit-not-well bad))
 
   takes : ranOf (h .state) (outcomeOf 128 255 h c) .checked ≡ Checked.Fit
   takes = run-fit (c .table) (c .count) (h .state) (c .scans) (length (c .output)) (length (c .verdicts)) unrefused
@@ -78,6 +80,8 @@ pub demand-two : DemandTwo
 demand-two = record {
   drops = λ r table n w. drops-exactly 128 255 (encode r) table r n (omega arith) (encoding-is-bytes r w) (rule-read r w);
   takes = takes;
+  reads-rule = answer-accepted;
+  reads-model = answers-accepted;
   accepts = accepts-exactly 128;
   judges = λ r y table n answer w w′ e.
       judging.judges-exactly 128 (encode r) (encodePhone y) (length table) r n y answer (rule-read r w) e (phone-reads y w′);

@@ -1,3 +1,4 @@
 pub mod Refused
+pub mod UnfitTables
 pub mod RefusedCalls
 pub mod Demands

@@ -23,6 +23,7 @@ use Rattle.models.proofs.Acceptance.{accepts-exactly}
 use Rattle.models.proofs.FileFaults.{model-refused, refuses-at-the-fault}
 use Rattle.demands.specs.Refusals.{RunRefused, short-buffer, unfit, JudgeRefused, in-building, in-model}
 use Rattle.demands.proofs.Refused.{build-refused}
+use Rattle.demands.proofs.UnfitTables.{unfit-not-well, found-unfit}
 
 -- ---- running
 
@@ -46,12 +47,13 @@ module _ (table : List ℕ) (count : ℕ) (s : State) (scans : List ℕ) (output
       (λ t. short-buffer (runs .short .0 (rw t)))
       (λ f e′.
       found Refuses (not (fits 128 255 table count s)) 16 0 _ e′
-      (λ t. let (room, room′, bad) = runs .unfit .0 (rw (f, t)) in unfit room room′ bad)
+      (λ t. let (room, room′, bad) = runs .unfit .0 (rw (f, t)) in unfit room room′ (found-unfit table count s bad))
       (λ f′ e″. absurd (never-refused e″)))
 
   run-refuses : {number place : ℕ} → Refuses number place → checkedOf (runOf 128 255 table count s scans output verdicts) ≡ Checked.Refused number place
   run-refuses (short-buffer short) = runs-on-tables 128 255 table count s scans output verdicts .short .1 short
-  run-refuses (unfit room room′ bad) = runs-on-tables 128 255 table count s scans output verdicts .unfit .1 (room, room′, bad)
+  run-refuses (unfit room room′ bad) =
+      runs-on-tables 128 255 table count s scans output verdicts .unfit .1 (room, room′, unfit-not-well bad)
 
   pub run-refused : (number place : ℕ)
       → (ranOf s (runOf 128 255 table count s scans output verdicts) .checked ≡ Checked.Refused number place) ↔ Refuses number place

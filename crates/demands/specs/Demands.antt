@@ -1,5 +1,6 @@
 -- The three demands on the product. Each is a record of claims in the very terms of the contracts in the layers' `src/`: what a function answers, and
--- what it leaves in a buffer that it is lent. A rule file that isn't refused is `encode r` of a rule within the limits, and a model file likewise.
+-- what it leaves in a buffer that it is lent. A rule file that isn't refused is `encode r` of a rule within the limits, and a model file `encodePhone y` of a
+-- model within them (`reads-rule`, `reads-model`).
 use Prim.Native.Nat.{ℕ, _≤_}
 use mathlib.Core.Path.{_≡_}
 use mathlib.Core.Logic.{_↔_, _⊎_}
@@ -8,7 +9,7 @@ use lib.ListN.{length}
 use Rattle.reading.specs.Rule.{Rule, RuleWithinLimits, encode, Bytes}
 use Rattle.reading.specs.File.{ruleOf}
 use Rattle.reading.specs.Faults.{Fault as RuleFault}
-use Rattle.reading.specs.Numbered.{readingOf}
+use Rattle.reading.specs.Numbered.{numbered, readingOf}
 use Rattle.reading.specs.declared.Answer.the-variants as Reading
 use Rattle.synthesis.specs.Monitor.{entry}
 use Rattle.synthesis.specs.Building.{synthesisOf, buildingOf, countedOf, tableAfter}
@@ -22,7 +23,7 @@ use Rattle.running.specs.declared.Checked.the-variants as Checked
 use Rattle.models.specs.Model.{suppressing}
 use Rattle.models.specs.Phone.{Phone, modelOf, PhoneWithinLimits, encodePhone, phoneOf}
 use Rattle.models.specs.Faults.{Fault as ModelFault}
-use Rattle.models.specs.Judging.{modelReadingOf, judgingOf, JudgedAs, tableJudged}
+use Rattle.models.specs.Judging.{stored, modelReadingOf, judgingOf, JudgedAs, tableJudged}
 use Rattle.models.specs.Promises.{Enforces, WalksBehind, Acceptable, JudgedExactly}
 use Rattle.models.specs.declared.Judged.{Judged}
 use Rattle.models.specs.declared.Judged.the-variants as Judged′
@@ -74,8 +75,9 @@ pub record DemandOne : Type 1 where
   pub rest : LeavesTheRest
 
 -- 2. A scan is dropped exactly when the scans kept so far, followed by it, violate the rule; and with room for its scans no call on the built table is
--- refused. With a table that is long enough, exactly the rules of the grammar within the limits are accepted, except those that no finite model
--- satisfies. A model is said to meet a rule exactly when it satisfies it.
+-- refused. A file is read exactly where it is the encoding of a rule, or of a model, within the limits, and then as that one. With a table that is long
+-- enough, exactly the rules of the grammar within the limits are accepted, except those that no finite model satisfies. A model is said to meet a rule
+-- exactly when it satisfies it.
 pub record DemandTwo : Type 1 where
   pub drops : (r : Rule) (table : List ℕ) (n : ℕ) → RuleWithinLimits r
       → countedOf (buildingOf 128 (encode r) (length table)) ≡ Counted.Equations n → (h : History)
@@ -84,6 +86,10 @@ pub record DemandTwo : Type 1 where
       → Calls 128 255 (OnTableOrRefused 128 255 (tableAfter 255 (buildingOf 128 s (length table)) table) n) h → (c : Call)
       → OnTable (tableAfter 255 (buildingOf 128 s (length table)) table) n c → length (c .scans) ≤ length (c .output)
       → length (c .scans) ≤ length (c .verdicts) → ranOf (h .state) (outcomeOf 128 255 h c) .checked ≡ Checked.Fit
+  pub reads-rule : (s : List ℕ) → Bytes s → (readingOf (ruleOf s) .answer ≡ Reading.Accepted)
+      ↔ ((r : Rule) × RuleWithinLimits r × (s ≡ encode r) × (readingOf (ruleOf s) .rule ≡ numbered r))
+  pub reads-model : (f : List ℕ) → Bytes f → (modelReadingOf (phoneOf f) .answer ≡ Reading.Accepted)
+      ↔ ((y : Phone) × PhoneWithinLimits y × (f ≡ encodePhone y) × (modelReadingOf (phoneOf f) .model ≡ stored y))
   pub accepts : (s table : List ℕ) → Bytes s → 32768 ≤ length table
       → ((n : ℕ) × (countedOf (buildingOf 128 s (length table)) ≡ Counted.Equations n)) ↔ Acceptable 128 s
   pub judges : (r : Rule) (y : Phone) (table : List ℕ) (n : ℕ) (answer : Judged) → RuleWithinLimits r → PhoneWithinLimits y

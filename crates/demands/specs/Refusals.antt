@@ -1,14 +1,13 @@
 -- When a call is refused, for each function that can refuse: a clause for each way, with the paper's number and place. `RuleFault` and `ModelFault` have
 -- those of files. A table has 256 bytes for each of 128 equations, and 255 is the mark for dropped.
-use Prim.Native.Nat.{ℕ, _≤_, _<_}
+use Prim.Native.Nat.{ℕ, _+_, _*_, _≤_, _<_}
 use mathlib.Core.Path.{_≡_}
 use mathlib.Core.Logic.{_⊎_}
 use mathlib.Core.List.{List}
-use lib.ListN.{length}
+use lib.ListN.{length, getD}
 use Rattle.reading.specs.Rule.{Rule, RuleWithinLimits, encode}
 use Rattle.reading.specs.Faults.{Fault as RuleFault}
 use Rattle.synthesis.specs.Promises.{Closed}
-use Rattle.running.specs.Running.{WellFormedTable}
 use Rattle.running.specs.declared.State.{State}
 use Rattle.models.specs.Model.{Model, Finite, Satisfies}
 use Rattle.models.specs.Faults.{Fault as ModelFault}
@@ -30,13 +29,21 @@ pub data BuildRefused (s : List ℕ) (size : ℕ) : (number place : ℕ) → Typ
   short-table : size < 32768 → BuildRefused s size 10 0
   in-rule : {number place : ℕ} → 32768 ≤ size → CountRefused s number place → BuildRefused s size number place
 
+-- what makes a table, a count and a state unfit for a run: byte 256 × k + c is the entry of equation k for the code c
+pub data Unfit (table : List ℕ) (count : ℕ) (s : State) : Type 0 where
+  no-equations : count ≡ 0 → Unfit table count s
+  many-equations : 128 < count → Unfit table count s
+  no-such-equation : count ≤ s .equation → Unfit table count s
+  short-rows : length table < 256 * count → Unfit table count s
+  bad-entry : (k c : ℕ) → k < count → c < 256 → 256 * count ≤ length table → count ≤ getD table (256 * k + c) 0
+      → (getD table (256 * k + c) 0 ≡ 255 → ⊥) → Unfit table count s
+
 -- running, with an output and verdicts of so many bytes
 pub data RunRefused (table : List ℕ) (count : ℕ) (s : State) (scans : List ℕ) (output verdicts : ℕ) : (number place : ℕ) → Type 0 where
   -- 15: a buffer is shorter than the scans
   short-buffer : (output < length scans) ⊎ (verdicts < length scans) → RunRefused table count s scans output verdicts 15 0
-  -- 16: the buffers are long enough, and the table isn't well formed for the count or the state isn't under it
-  unfit : length scans ≤ output → length scans ≤ verdicts → (WellFormedTable 128 255 count table × (s .equation < count) → ⊥)
-      → RunRefused table count s scans output verdicts 16 0
+  -- 16: the buffers are long enough, and the table, the count or the state is unfit
+  unfit : length scans ≤ output → length scans ≤ verdicts → Unfit table count s → RunRefused table count s scans output verdicts 16 0
 
 -- judging a model file under a rule file, with a table of so many bytes
 pub data JudgeRefused (s : List ℕ) (size : ℕ) (f : List ℕ) : (number place : ℕ) → Type 1 where

@@ -21,10 +21,10 @@ use Rattle.running.specs.declared.State.{State}
 
 module _ (mark count : ℕ) where
   -- an entry that is the mark or a number under the count
-  abbrev InRange : ℕ → Type 0
+  abbrev pub InRange : ℕ → Type 0
   InRange x = (x ≡ mark) ⊎ (x < count)
 
-  in-range : (x : ℕ) → (inRange mark count x ≡ true) ↔ InRange x
+  pub in-range : (x : ℕ) → (inRange mark count x ≡ true) ↔ InRange x
   in-range x = on (eqb x mark) refl
     where
       on : (b : Bool) → eqb x mark ≡ b → (inRange mark count x ≡ true) ↔ InRange x

@@ -1,0 +1,64 @@
+-- A table, a count and a state are unfit exactly where the table isn't well formed for the count or the state isn't under it: where all else is in
+-- order, some byte of the rows isn't in range, and its place says which entry it is.
+use Prim.Native.Nat.{ℕ, _+_, _*_, _/_, _%_, _≤_, _<_}
+use mathlib.Core.Path.{_≡_, refl}
+use mathlib.Core.Logic.{_⊎_, inl, inr}
+use mathlib.Core.Bool.{Bool, true, false}
+use mathlib.Core.List.{List}
+use native.Mathlib.Decide.{decLt, decLe}
+use native.Mathlib.Nat.{div-add-mod, mod-lt}
+use native.Mathlib.Omega.{arith}
+use lib.Dec.{eqb, ltb}
+use lib.ListN.{length, getD}
+use borrow.Author.Tests.{eqb-false, ltb-false}
+use Rattle.reading.proofs.Outcomes.{neither}
+use Rattle.running.specs.Running.{inRange, WellFormedTable}
+use Rattle.running.specs.declared.State.{State}
+use Rattle.running.proofs.Tables.{in-range}
+use Rattle.models.proofs.BoundedTests.{every, every-fails, every-is}
+use Rattle.demands.specs.Refusals.{Unfit, no-equations, many-equations, no-such-equation, short-rows, bad-entry}
+
+-- the table is well formed for the count, and the state is under it
+abbrev Fits : (table : List ℕ) → (count : ℕ) → State → Type 0
+Fits table count s = WellFormedTable 128 255 count table × (s .equation < count)
+
+module _ {table : List ℕ} {count : ℕ} {s : State} where
+  pub unfit-not-well : Unfit table count s → Fits table count s → ⊥
+  unfit-not-well (no-equations none) (wf, under) = omega arith
+  unfit-not-well (many-equations many) (wf, under) = omega (arith, wf .few)
+  unfit-not-well (no-such-equation over) (wf, under) = omega arith
+  unfit-not-well (short-rows short) (wf, under) = omega (arith, wf .room)
+  unfit-not-well (bad-entry k c h b room over other) (wf, under) = on (wf .range k c h b)
+    where
+      on : (getD table (256 * k + c) 0 ≡ 255) ⊎ (getD table (256 * k + c) 0 < count) → ⊥
+      on (inl e) = other e
+      on (inr less) = omega arith
+
+module _ (table : List ℕ) (count : ℕ) (s : State) (bad : Fits table count s → ⊥) where
+  abbrev test : ℕ → Bool
+  test i = inRange 255 count (getD table i 0)
+
+  entry-unfit : 256 * count ≤ length table → (i : ℕ) → i < 256 * count → test i ≡ false → Unfit table count s
+  entry-unfit room i h e =
+      let (other, over) = neither (eqb (getD table i 0) 255) (ltb (getD table i 0) count) e in
+      let is : 256 * (i / 256) + i % 256 ≡ i = div-add-mod i 256 in
+      let code : i % 256 < 256 = mod-lt i (omega arith) in
+      bad-entry (i / 256) (i % 256) (omega arith) code room (rw is (ltb-false _ _ over)) (rw is (eqb-false _ _ other))
+
+  rows-unfit : 1 ≤ count → count ≤ 128 → s .equation < count → 256 * count ≤ length table
+      → (b : Bool) → every (256 * count) test ≡ b → Unfit table count s
+  rows-unfit some few under room false q = let (i, h, e) = every-fails (256 * count) test q in entry-unfit room i h e
+  rows-unfit some few under room true q = absurd (bad (record { some = some; few = few; room = room; range = range }, under))
+    where
+      range : (k c : ℕ) → k < count → c < 256 → (getD table (256 * k + c) 0 ≡ 255) ⊎ (getD table (256 * k + c) 0 < count)
+      range k c h b = in-range 255 count (getD table (256 * k + c) 0) .0 (every-is (256 * count) test .0 q (256 * k + c) (omega arith))
+
+  pub found-unfit : Unfit table count s
+  found-unfit = on (decLe 1 count) (decLe count 128) (decLt (s .equation) count) (decLe (256 * count) (length table))
+    where
+      on : Dec (1 ≤ count) → Dec (count ≤ 128) → Dec (s .equation < count) → Dec (256 * count ≤ length table) → Unfit table count s
+      on (no none) few under room = no-equations (omega arith)
+      on (yes some) (no many) under room = many-equations (omega arith)
+      on (yes some) (yes few) (no over) room = no-such-equation (omega arith)
+      on (yes some) (yes few) (yes under) (no short) = short-rows (omega arith)
+      on (yes some) (yes few) (yes under) (yes room) = rows-unfit some few under room (every (256 * count) test) refl
