@@ -1,8 +1,10 @@
--- A model file of 512 steps is refused where one more begins.
+-- A model file of 512 steps is refused where one more record begins, whatever its kind is.
 use Prim.Native.Nat.{ℕ, zero, suc, _*_, _+_}
 use mathlib.Core.Path.{_≡_, refl, _∙_}
+use mathlib.Core.Bool.{cond, _||_}
 use mathlib.Core.List.{List, [], _∷_, _++_}
 use native.Mathlib.Omega.{arith}
+use lib.Dec.{eqb}
 use lib.ListN.{length, replicate, length-replicate}
 use Rattle.reading.specs.Rule.{All}
 use Rattle.reading.specs.File.{accepted, refused}
@@ -31,15 +33,21 @@ turns-bytes zero rest = refl
 turns-bytes (suc n) rest = rw (turns-bytes n rest)
 
 -- the number is a variable, so that no list of so many steps is written out
-after-turns : (n : ℕ) → n ≡ 512 → (rest : List ℕ)
-    → phoneOf (16 ∷ 1 ∷ times n (17 ∷ 0 ∷ 0 ∷ 0 ∷ []) (17 ∷ rest)) ≡ refused 14 2050
+after-turns : (n : ℕ) → n ≡ 512 → (kind : ℕ) (rest : List ℕ)
+    → phoneOf (16 ∷ 1 ∷ times n (17 ∷ 0 ∷ 0 ∷ 0 ∷ []) (kind ∷ rest)) ≡ refused (cond (eqb kind 17 || eqb kind 18) 14 12) 2050
 unfolding phoneOf
-after-turns n e rest =
-    let f : List ℕ = 16 ∷ 1 ∷ times n (17 ∷ 0 ∷ 0 ∷ 0 ∷ []) (17 ∷ rest) in
+after-turns n e kind rest =
+    let f : List ℕ = 16 ∷ 1 ∷ times n (17 ∷ 0 ∷ 0 ∷ 0 ∷ []) (kind ∷ rest) in
     let states : statesOf f ≡ accepted 1 = states-read 1 _ (omega arith) (omega arith) in
     let place : 2 + length (encodeSteps (turns n)) ≡ 2050 = omega (arith, turns-length n) in
     let full : length (turns n) ≡ 512 = length-replicate n (step 0 0 0) ∙ e in
-    rw (states, steps-full f 1 (turns n) 2 512 rest (turns-well-formed n) full (turns-bytes n (17 ∷ rest)), place)
+    rw (states, steps-full f 1 (turns n) 2 512 kind rest (turns-well-formed n) full (turns-bytes n (kind ∷ rest)), place)
 
 pub step-513 : (rest : List ℕ) → phoneOf (16 ∷ 1 ∷ times 512 (17 ∷ 0 ∷ 0 ∷ 0 ∷ []) (17 ∷ rest)) ≡ refused 14 2050
-step-513 = after-turns 512 refl
+step-513 = after-turns 512 refl 17
+
+pub silent-513 : (rest : List ℕ) → phoneOf (16 ∷ 1 ∷ times 512 (17 ∷ 0 ∷ 0 ∷ 0 ∷ []) (18 ∷ rest)) ≡ refused 14 2050
+silent-513 = after-turns 512 refl 18
+
+pub kind-19-late : (rest : List ℕ) → phoneOf (16 ∷ 1 ∷ times 512 (17 ∷ 0 ∷ 0 ∷ 0 ∷ []) (19 ∷ rest)) ≡ refused 12 2050
+kind-19-late = after-turns 512 refl 19

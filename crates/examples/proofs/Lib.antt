@@ -5,6 +5,7 @@ pub mod SmallFiles
 pub mod NumberPool
 pub mod PaperExamples
 pub mod NumberingExamples
+pub mod NodeExamples
 pub mod OverlapExample
 pub mod PhoneSteps
 pub mod DrawnModel

@@ -18,30 +18,43 @@ use Rattle.examples.specs.Examples.{pattern, rule, Reads, poolFile}
 use Rattle.examples.specs.RefusalExamples.{times, RuleRefusals, RefusesModel, ModelRefusals, RefusalExamples}
 use Rattle.examples.proofs.FileAnswers.{refuses, reads}
 use Rattle.examples.proofs.NumberPool.{number-pool}
-use Rattle.examples.proofs.FullModel.{step-513}
+use Rattle.examples.proofs.FullModel.{step-513, silent-513, kind-19-late}
 
-guarded-rule : Rule
-guarded-rule = rule (pattern 255 0 31 ∷ []) (max (max (necessity 0 (variable 1))))
+below-both : Rule
+below-both = rule (pattern 255 0 31 ∷ []) (max (max (necessity 0 (variable 1))))
 
 -- node 2 alone, which every code leads back to
-guards-both : Reads (1 ∷ 255 ∷ 0 ∷ 31 ∷ 6 ∷ 6 ∷ 5 ∷ 0 ∷ 7 ∷ 1 ∷ []) guarded-rule (Equations 1)
-unfolding guarded-rule ruleOf patternsAt formulaOf formulaAt hopeless equationsOf found noted firstOf answerOf bit covers
+guards-both : Reads (1 ∷ 255 ∷ 0 ∷ 31 ∷ 6 ∷ 6 ∷ 5 ∷ 0 ∷ 7 ∷ 1 ∷ []) below-both (Equations 1)
+unfolding below-both ruleOf patternsAt formulaOf formulaAt hopeless equationsOf found noted firstOf answerOf bit covers
 guards-both = reads _ _ refl refl (4 ∷ []) refl (omega arith)
 
+between : Rule
+between = rule (pattern 255 0 31 ∷ []) (max (necessity 0 (max (variable 1))))
+
+-- node 1 alone, likewise
+guards-outer : Reads (1 ∷ 255 ∷ 0 ∷ 31 ∷ 6 ∷ 5 ∷ 0 ∷ 6 ∷ 7 ∷ 1 ∷ []) between (Equations 1)
+unfolding between ruleOf patternsAt formulaOf formulaAt hopeless equationsOf found noted firstOf answerOf bit covers
+guards-outer = reads _ _ refl refl (2 ∷ []) refl (omega arith)
+
 rule-refusals : RuleRefusals
-unfolding times ruleOf patternsAt formulaOf formulaAt guarded-rule
+unfolding times ruleOf patternsAt formulaOf formulaAt below-both between
 rule-refusals = record {
   half = refuses _ 1 2 refl;
   no-kind-after = refuses _ 3 1 refl;
+  node-after-64 = refuses _ 3 64 refl;
   kind-8 = refuses _ 2 1 refl;
   kind-8-late = refuses _ 2 64 refl;
   late-pattern = refuses _ 3 1 refl;
   late-pattern-cut = refuses _ 3 1 refl;
   late-pattern-65 = refuses _ 3 64 refl;
+  late-pattern-33 = refuses _ 3 129 refl;
   pattern-33 = refuses _ 4 128 refl;
   pattern-33-cut = refuses _ 4 128 refl;
   node-65 = refuses _ 4 132 refl;
   node-65-cut = refuses _ 4 64 refl;
+  node-65-unbound = refuses _ 4 64 refl;
+  node-65-unguarded = refuses _ 4 64 refl;
+  pattern-33-bad = refuses _ 4 128 refl;
   pattern-cut = refuses _ 1 3 refl;
   necessity-cut = refuses _ 1 1 refl;
   variable-cut = refuses _ 1 2 refl;
@@ -55,6 +68,7 @@ rule-refusals = record {
   guard-outer = refuses _ 7 8 refl;
   guard-beside = refuses _ 7 10 refl;
   guards-both = guards-both;
+  guards-outer = guards-outer;
 }
 
 refuses-model : (f : List ℕ) (number place : ℕ) → phoneOf f ≡ refused number place → RefusesModel f number place
@@ -76,7 +90,9 @@ model-refusals = record {
   states-65 = refuses-model _ 12 0 refl;
   kind-19 = refuses-model _ 12 2 refl;
   kind-16 = refuses-model _ 12 2 refl;
+  kind-19-late = λ rest. refuses-model _ 12 2050 (kind-19-late rest);
   step-513 = λ rest. refuses-model _ 14 2050 (step-513 rest);
+  silent-513 = λ rest. refuses-model _ 14 2050 (silent-513 rest);
   code-cut = refuses-model _ 11 5 refl;
   silent-cut = refuses-model _ 11 4 refl;
   from-cut = refuses-model _ 11 4 refl;

@@ -1,6 +1,7 @@
 -- In the order in which to read them.
 pub mod Examples
 pub mod NumberingExamples
+pub mod NodeExamples
 pub mod OverlapExample
 pub mod ModelExamples
 pub mod RefusalExamples

@@ -21,21 +21,27 @@ times (suc n) bytes rest = bytes ++ times n bytes rest
 pub record RuleRefusals : Type 0 where
   -- 1: the second part of a "both" isn't there
   pub half : Refuses (4 ∷ 2 ∷ []) 1 2
-  -- 3: what follows the whole formula, even if it is no kind
+  -- 3: what follows the whole formula, even if it is no kind or would be a 65th node
   pub no-kind-after : Refuses (2 ∷ 0 ∷ []) 3 1
+  pub node-after-64 : Refuses (times 63 (6 ∷ []) (2 ∷ 2 ∷ [])) 3 64
   -- 2: kind 8, also in the place of a 65th node
   pub kind-8 : Refuses (6 ∷ 8 ∷ []) 2 1
   pub kind-8-late : Refuses (times 64 (6 ∷ []) (8 ∷ [])) 2 64
-  -- 3: a pattern below a max, whole or cut short, and one in the place of a 65th node
+  -- 3: a pattern below a max, whole or cut short, one in the place of a 65th node, and one that would be the 33rd
   pub late-pattern : Refuses (6 ∷ 1 ∷ 1 ∷ 5 ∷ 5 ∷ 2 ∷ []) 3 1
   pub late-pattern-cut : Refuses (6 ∷ 1 ∷ []) 3 1
   pub late-pattern-65 : Refuses (times 64 (6 ∷ []) (1 ∷ [])) 3 64
+  pub late-pattern-33 : Refuses (times 32 (1 ∷ 1 ∷ 5 ∷ 5 ∷ []) (6 ∷ 1 ∷ [])) 3 129
   -- 4: a 33rd pattern, whole or cut short
   pub pattern-33 : Refuses (times 33 (1 ∷ 1 ∷ 5 ∷ 5 ∷ []) (2 ∷ [])) 4 128
   pub pattern-33-cut : Refuses (times 32 (1 ∷ 1 ∷ 5 ∷ 5 ∷ []) (1 ∷ [])) 4 128
   -- 4: a 65th node. The paper: 1 255 0 31, then 64 times 5 0, then 2
   pub node-65 : Refuses (1 ∷ 255 ∷ 0 ∷ 31 ∷ times 64 (5 ∷ 0 ∷ []) (2 ∷ [])) 4 132
   pub node-65-cut : Refuses (times 64 (6 ∷ []) (7 ∷ [])) 4 64
+  -- 4: the same with whole bodies that name nothing or aren't guarded, and a 33rd pattern without a kind
+  pub node-65-unbound : Refuses (times 64 (6 ∷ []) (7 ∷ 64 ∷ [])) 4 64
+  pub node-65-unguarded : Refuses (times 64 (6 ∷ []) (7 ∷ 0 ∷ [])) 4 64
+  pub pattern-33-bad : Refuses (times 32 (1 ∷ 1 ∷ 5 ∷ 5 ∷ []) (1 ∷ 0 ∷ 5 ∷ 5 ∷ 2 ∷ [])) 4 128
   -- 1: a body is cut short, whatever the rest of it says
   pub pattern-cut : Refuses (1 ∷ 0 ∷ 5 ∷ []) 1 3
   pub necessity-cut : Refuses (5 ∷ []) 1 1
@@ -52,8 +58,9 @@ pub record RuleRefusals : Type 0 where
   pub guard-above : Refuses (1 ∷ 1 ∷ 5 ∷ 5 ∷ 5 ∷ 0 ∷ 6 ∷ 7 ∷ 0 ∷ []) 7 7
   pub guard-outer : Refuses (1 ∷ 1 ∷ 5 ∷ 5 ∷ 6 ∷ 5 ∷ 0 ∷ 6 ∷ 7 ∷ 0 ∷ []) 7 8
   pub guard-beside : Refuses (1 ∷ 1 ∷ 5 ∷ 5 ∷ 6 ∷ 4 ∷ 5 ∷ 0 ∷ 7 ∷ 0 ∷ 7 ∷ 0 ∷ []) 7 10
-  -- no 7: a necessity below two maxes guards the outer one too
+  -- no 7: a necessity below two maxes guards the outer one too, and one between them guards the outer one alone
   pub guards-both : Reads (1 ∷ 255 ∷ 0 ∷ 31 ∷ 6 ∷ 6 ∷ 5 ∷ 0 ∷ 7 ∷ 1 ∷ []) (rule (pattern 255 0 31 ∷ []) (max (max (necessity 0 (variable 1))))) (Equations 1)
+  pub guards-outer : Reads (1 ∷ 255 ∷ 0 ∷ 31 ∷ 6 ∷ 5 ∷ 0 ∷ 6 ∷ 7 ∷ 1 ∷ []) (rule (pattern 255 0 31 ∷ []) (max (necessity 0 (max (variable 1))))) (Equations 1)
 
 -- ---- model files
 
@@ -72,11 +79,13 @@ pub record ModelRefusals : Type 0 where
   -- 12: 0 states, and 65
   pub states-0 : RefusesModel (16 ∷ 0 ∷ []) 12 0
   pub states-65 : RefusesModel (16 ∷ 65 ∷ []) 12 0
-  -- 12: a later kind that is no step's, also that of the first record
+  -- 12: a later kind that is no step's, also that of the first record, and in the place of a 513th step
   pub kind-19 : RefusesModel (16 ∷ 1 ∷ 19 ∷ []) 12 2
   pub kind-16 : RefusesModel (16 ∷ 1 ∷ 16 ∷ 1 ∷ []) 12 2
-  -- 14: a 513th step, also if it is cut short or from a state that isn't there
+  pub kind-19-late : (rest : List ℕ) → RefusesModel (16 ∷ 1 ∷ times 512 (17 ∷ 0 ∷ 0 ∷ 0 ∷ []) (19 ∷ rest)) 12 2050
+  -- 14: a 513th step, with a code or silent, also if it is cut short or from a state that isn't there
   pub step-513 : (rest : List ℕ) → RefusesModel (16 ∷ 1 ∷ times 512 (17 ∷ 0 ∷ 0 ∷ 0 ∷ []) (17 ∷ rest)) 14 2050
+  pub silent-513 : (rest : List ℕ) → RefusesModel (16 ∷ 1 ∷ times 512 (17 ∷ 0 ∷ 0 ∷ 0 ∷ []) (18 ∷ rest)) 14 2050
   -- 11: a step is cut short, with a code or silent, and also from a state that isn't there
   pub code-cut : RefusesModel (16 ∷ 1 ∷ 17 ∷ 0 ∷ 0 ∷ []) 11 5
   pub silent-cut : RefusesModel (16 ∷ 1 ∷ 18 ∷ 0 ∷ []) 11 4

@@ -75,7 +75,7 @@ full-refused y w full =
     let f = encodePhone y ++ (17 ∷ []) in
     let states : statesOf f ≡ accepted (y .states) = states-read (y .states) _ (w .some-states) (w .few-states) in
     let place : 2 + length (encodeSteps (y .steps)) ≡ length (encodePhone y) = omega arith in
-    rw (states, steps-full f (y .states) (y .steps) 2 512 [] (w .steps) full refl, place)
+    rw (states, steps-full f (y .states) (y .steps) 2 512 17 [] (w .steps) full refl, place)
 
 -- a step from state 0 to itself
 turn : Step

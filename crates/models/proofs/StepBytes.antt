@@ -10,7 +10,7 @@ use lib.Dec.{eqb, ltb, leb}
 use borrow.Author.Tests.{ltb-true, ltb-false, leb-false, eqb-true, eqb-false, lt-leb, ne-eqb, not-false}
 use Rattle.reading.specs.Rule.{All, Bytes}
 use Rattle.reading.specs.Faults.{KindAt}
-use Rattle.reading.specs.File.{Outcome, accepted, refused, andThen}
+use Rattle.reading.specs.File.{Outcome, accepted, refused, refuse, andThen}
 use Rattle.reading.proofs.ByteLaws.{byte-at}
 use Rattle.reading.proofs.Outcomes.{accepted-is, accepted-by, then-accepts, passes}
 use Rattle.reading.proofs.Places.{Byte, from-byte, byte-of, first-byte, rest-after}
@@ -194,13 +194,19 @@ module _ (f : List ℕ) (states : ℕ) where
       omega (arith, length-append (encodeStep x) (encodeSteps xs), length-step x) in
       on ∙ rw (refused-after xs (at + recordLength x) next left total rest (w .1) after later (omega arith) e)
 
-  -- after as many steps as are left one more is refused
-  pub steps-full : (xs : List Step) (at left : ℕ) (rest : List ℕ) → All (WellFormedStep states) xs → length xs ≡ left
-      → drop at f ≡ encodeSteps xs ++ (17 ∷ rest) → stepsAt left f states at ≡ refused 14 (at + length (encodeSteps xs))
-  steps-full xs at left rest w full from =
+  -- after as many steps as are left, one more is refused with 14, and another kind with 12
+  pub steps-full : (xs : List Step) (at left kind : ℕ) (rest : List ℕ) → All (WellFormedStep states) xs → length xs ≡ left
+      → drop at f ≡ encodeSteps xs ++ (kind ∷ rest)
+      → stepsAt left f states at ≡ refused (cond (eqb kind 17 || eqb kind 18) 14 12) (at + length (encodeSteps xs))
+  steps-full xs at left kind rest w full from =
       let next = at + length (encodeSteps xs) in
       let b = first-byte f next (rest-after f at (encodeSteps xs) from) in
-      refused-after xs at next 0 left (17 ∷ rest) w from refl (omega arith) (one-refused f states next 0 (b .inside) (rw (b .is)))
+      refused-after xs at next 0 left (kind ∷ rest) w from refl (omega arith)
+      (one-refused f states next 0 (b .inside) (rw (b .is) (none-left (eqb kind 17 || eqb kind 18) next)))
+    where
+      none-left : (step : Bool) (place : ℕ) → refuse {A = Step} (not step) 12 place (refused 14 place) ≡ refused (cond step 14 12) place
+      none-left true place = refl
+      none-left false place = refl
 
   -- the file ends at `at`, or `more` was accepted
   more-or-none : (at left : ℕ) (xs : List Step) (more : Outcome (List Step))
