@@ -1,0 +1,122 @@
+// A test program: the functions for C, called on the paper's rule, model and scans, and on input that is refused. Each call prints its answer, what it
+// handed back beside it, and, where it is a run, what both buffers hold.
+use libc::STDOUT_FILENO;
+
+const POOL: [u8; 23] = [
+    1,
+    2,
+    5,
+    5,
+    1,
+    1,
+    5,
+    5,
+    1,
+    16,
+    0,
+    31,
+    6,
+    5,
+    0,
+    4,
+    5,
+    1,
+    3,
+    5,
+    2,
+    7,
+    0,
+];
+
+const UNGUARDED: [u8; 3] = [6, 7, 0];
+
+const BREAKS: [u8; 13] = [16, 3, 17, 0, 37, 1, 18, 1, 2, 17, 2, 5, 0];
+
+const MEETS: [u8; 17] = [16, 3, 17, 0, 37, 1, 18, 1, 2, 17, 2, 128, 0, 17, 0, 5, 2];
+
+const CUT: [u8; 4] = [16, 2, 17, 0];
+
+const SCANS: [u8; 6] = [37, 5, 128, 5, 37, 5];
+
+// Prints a space and a number.
+fn print_number(number: usize) {
+    io::write_all(STDOUT_FILENO, b" ");
+    io::print_decimal(STDOUT_FILENO, number as u64);
+}
+
+fn print_byte(byte: u8) {
+    print_number(byte as usize);
+}
+
+// Prints each byte in the same way.
+fn print_bytes(bytes: &[u8]) {
+    let mut i = 0;
+    while i < bytes.len() {
+        print_byte(bytes[i]);
+        i += 1;
+    }
+}
+
+// Prints the line of a call: its answer, and the value beside it.
+fn print_result(name: &[u8], number: u8, value: usize) {
+    io::write_all(STDOUT_FILENO, name);
+    print_byte(number);
+    print_number(value);
+    io::write_all(STDOUT_FILENO, b"\n");
+}
+
+// Builds, and hands back the value.
+fn build(rule: &[u8], table: &mut [u8]) -> usize {
+    let mut value = 99;
+    let number = boundary::jarveun_build(rule, table, &mut value);
+    print_result(b"build", number, value);
+    value
+}
+
+fn judge(rule: &[u8], model: &[u8], table: &mut [u8]) {
+    let mut value = 99;
+    let number = boundary::jarveun_judge(rule, model, table, &mut value);
+    print_result(b"judge", number, value);
+}
+
+// Runs over the paper's scans. The line has the equation, both counts and both buffers after the answer.
+fn run(table: &[u8], count: usize, from: usize, verdicts: &mut [u8]) {
+    let mut equation = from;
+    let mut output = [7u8; 8];
+    let mut kept = 99;
+    let mut dropped = 99;
+    let number = boundary::jarveun_run(
+        table,
+        count,
+        &mut equation,
+        &SCANS,
+        &mut output,
+        verdicts,
+        &mut kept,
+        &mut dropped,
+    );
+    io::write_all(STDOUT_FILENO, b"run");
+    print_byte(number);
+    print_number(equation);
+    print_number(kept);
+    print_number(dropped);
+    print_bytes(&output);
+    print_bytes(verdicts);
+    io::write_all(STDOUT_FILENO, b"\n");
+}
+
+fn main() {
+    let mut table = [0u8; 32768];
+    judge(&POOL, &BREAKS, &mut table);
+    judge(&POOL, &MEETS, &mut table);
+    judge(&POOL, &CUT, &mut table);
+    build(&UNGUARDED, &mut table);
+    let mut short = [0u8; 32767];
+    build(&POOL, &mut short);
+    let count = build(&POOL, &mut table);
+    let mut verdicts = [7u8; 8];
+    run(&table, count, 0, &mut verdicts);
+    run(&table, count, 3, &mut verdicts);
+    let mut few = [7u8; 5];
+    run(&table, count, 2, &mut few);
+}

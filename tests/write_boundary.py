@@ -1,0 +1,79 @@
+"""Writes what the test program `boundary_calls` must print, from what is typed here and held against the Python.
+
+With --check nothing is written, and the files are compared with what would be.
+"""
+from compare import expect
+from equations import LEAST_TABLE, build
+from expected import is_check, settle
+from judging import judge
+from known import POOL, bytes_of
+from known_models import MEETING, PAPER
+from rules import Refusal
+from running import run
+
+# A model that is cut short inside its first step, and the paper's scans.
+CUT = "16 2 17 0"
+SCANS = bytes_of("37 5 128 5 37 5")
+
+# After the name of a function come its answer, 0 or the number of a refusal, and the value beside it: 1 for a model that meets
+# its rule and 0 for one that breaks it, the count of equations, or the place of the refusal. A run has the equation and the
+# counts of kept and of dropped scans there, and then the 8 bytes of the output and all verdicts. Both buffers had 7 before the
+# first run, the verdicts have what it left there before the second, and the third has 5 verdicts of its own.
+LINES = [
+    "judge 0 0",
+    "judge 0 1",
+    "judge 11 4",
+    "build 7 1",
+    "build 10 0",
+    "build 0 3",
+    "run 0 1 5 1 37 128 5 37 5 7 7 7 0 1 0 0 0 0 7 7",
+    "run 16 3 0 0 7 7 7 7 7 7 7 7 0 1 0 0 0 0 7 7",
+    "run 15 2 0 0 7 7 7 7 7 7 7 7 7 7 7 7 7",
+]
+
+
+def judged(model):
+    """The line of a judgment under the number-pool rule."""
+    answer = judge(bytes_of(POOL), bytes_of(model), bytearray(LEAST_TABLE))
+    if answer in ("breaks", "meets"):
+        return f"judge 0 {int(answer == 'meets')}"
+    _, number, _, place = answer.split()
+    return f"judge {number} {place}"
+
+
+def built(rule, size):
+    """The line of a building, and the table after it."""
+    table = bytearray(size)
+    answer = build(bytes_of(rule), table)
+    if isinstance(answer, Refusal):
+        return f"build {answer.number} {answer.place}", table
+    return f"build 0 {len(answer)}", table
+
+
+def ran(table, state, verdicts):
+    """The line of a run over the scans with 3 equations."""
+    output = bytearray([7] * 8)
+    answer = run(table, 3, state, SCANS, output, verdicts)
+    number = 0 if answer.refusal is None else answer.refusal.number
+    fields = [number, answer.state, answer.kept, answer.dropped, *output, *verdicts]
+    return "run " + " ".join(str(field) for field in fields)
+
+
+def lines():
+    """The same by the Python."""
+    last, table = built(POOL, LEAST_TABLE)
+    verdicts = bytearray([7] * 8)
+    buildings = [built("6 7 0", LEAST_TABLE)[0], built(POOL, LEAST_TABLE - 1)[0], last]
+    runs = [ran(table, 0, verdicts), ran(table, 3, verdicts), ran(table, 2, bytearray([7] * 5))]
+    return [judged(PAPER), judged(MEETING), judged(CUT)] + buildings + runs
+
+
+def main():
+    checks = is_check(__doc__)
+    expect(lines() == LINES, "calls", lines())
+    settle("boundary_calls", b"", LINES, checks)
+    print(f"{len(LINES)} calls")
+
+
+if __name__ == "__main__":
+    main()
