@@ -1,6 +1,7 @@
 // A test program: the functions for C, called on the paper's rule, model and scans, and on input that is refused. Each call prints its answer, what it
 // handed back beside it, and, where it is a run, what both buffers hold.
 use libc::STDOUT_FILENO;
+use testing::print_field;
 
 const POOL: [u8; 23] = [
     1,
@@ -38,17 +39,12 @@ const CUT: [u8; 4] = [16, 2, 17, 0];
 
 const SCANS: [u8; 6] = [37, 5, 128, 5, 37, 5];
 
-// Prints a space and a number.
-fn print_number(number: usize) {
-    io::write_all(STDOUT_FILENO, b" ");
-    io::print_decimal(STDOUT_FILENO, number as u64);
-}
-
+// Prints a space and a byte.
 fn print_byte(byte: u8) {
-    print_number(byte as usize);
+    print_field(byte as u64);
 }
 
-// Prints each byte in the same way.
+// The same for each of some bytes.
 fn print_bytes(bytes: &[u8]) {
     let mut i = 0;
     while i < bytes.len() {
@@ -61,7 +57,7 @@ fn print_bytes(bytes: &[u8]) {
 fn print_result(name: &[u8], number: u8, value: usize) {
     io::write_all(STDOUT_FILENO, name);
     print_byte(number);
-    print_number(value);
+    print_field(value as u64);
     io::write_all(STDOUT_FILENO, b"\n");
 }
 
@@ -97,9 +93,9 @@ fn run(table: &[u8], count: usize, from: usize, verdicts: &mut [u8]) {
     );
     io::write_all(STDOUT_FILENO, b"run");
     print_byte(number);
-    print_number(equation);
-    print_number(kept);
-    print_number(dropped);
+    print_field(equation as u64);
+    print_field(kept as u64);
+    print_field(dropped as u64);
     print_bytes(&output);
     print_bytes(verdicts);
     io::write_all(STDOUT_FILENO, b"\n");

@@ -1,10 +1,14 @@
 -- What a variable and a member of an equation stand for, by rules that aren't in the paper: the variable of the outer of two maxes, next to that of the
 -- inner one; and the same text at two places of a rule, which is two nodes.
-use Prim.Native.Nat.{ℕ}
+use Prim.Native.Nat.{ℕ, _≤_}
+use mathlib.Core.Path.{_≡_}
 use mathlib.Core.List.{List, [], _∷_, _++_}
+use lib.ListN.{length, replicate}
 use Rattle.reading.specs.Rule.{truth, falsity, both, necessity, max, variable, Rule}
+use Rattle.synthesis.specs.Monitor.{rowOf}
+use Rattle.synthesis.specs.declared.Counted.the-variants.{Equations}
 use Rattle.listing.specs.Text.{text}
-use Rattle.examples.specs.Examples.{pattern, rule}
+use Rattle.examples.specs.Examples.{pattern, rule, tableLeft, Reads, poolListing}
 use Rattle.examples.specs.NumberingExamples.{Numbers}
 
 -- ---- the variable of either max
@@ -22,24 +26,6 @@ nestedRule d =
 -- {1}, the empty set, {4, 6}
 abbrev pub nestedSets : List ℕ
 nestedSets = 2 ∷ 0 ∷ 80 ∷ []
-
--- with the line of the syncs in equation 2
-abbrev pub nestedListing : (syncs : List ℕ) → List ℕ
-nestedListing syncs =
-    text "patterns 3\n"
-    ++ text "p 0 37 1\n"
-    ++ text "p 1 5 1\n"
-    ++ text "p 2 128 32\n"
-    ++ text "equations 3\n"
-    ++ text "0 0 36 1\n"
-    ++ text "0 37 37 2\n"
-    ++ text "0 38 255 1\n"
-    ++ text "1 0 255 1\n"
-    ++ text "2 0 4 1\n"
-    ++ text "2 5 5 drop\n"
-    ++ text "2 6 127 1\n"
-    ++ syncs
-    ++ text "2 160 255 1\n"
 
 -- ---- the same text at two places
 
@@ -73,6 +59,10 @@ twiceListing =
     ++ text "3 0 255 1\n"
 
 pub record NodeExamples : Type 0 where
-  pub outer-max : Numbers (nestedFile 1) (nestedRule 1) nestedSets (nestedListing (text "2 128 159 0\n"))
-  pub inner-max : Numbers (nestedFile 0) (nestedRule 0) nestedSets (nestedListing (text "2 128 159 2\n"))
+  -- depth 1: what is listed is what the number-pool rule has
+  pub outer-max : Numbers (nestedFile 1) (nestedRule 1) nestedSets poolListing
+  -- depth 0: in equation 2, a sync leads back to equation 2
+  pub inner-max : Reads (nestedFile 0) (nestedRule 0) (Equations 3)
+  pub inner-row : (table : List ℕ) → 32768 ≤ length table
+      → rowOf 256 (tableLeft (nestedFile 0) table) 2 ≡ replicate 5 1 ++ 255 ∷ replicate 122 1 ++ replicate 32 2 ++ replicate 96 1
   pub twice : Numbers twiceFile twiceRule twiceSets twiceListing

@@ -8,6 +8,7 @@ use places::open_input;
 use places::read_error;
 use places::seek_first;
 use places::seek_last;
+use testing::print_field;
 
 // How many colons of a line have come, up to two, after one more byte of a text.
 fn colons_after(colons: u64, byte: u8) -> u64 {
@@ -37,12 +38,6 @@ fn print_subjects(text: &[u8]) {
     }
 }
 
-// Prints a word and a number.
-fn print_number(word: &[u8], number: u64) {
-    io::write_all(STDOUT_FILENO, word);
-    io::print_decimal(STDOUT_FILENO, number);
-}
-
 // Nothing can be written. Prints how many lines `equations` says that it printed, the equation in which `sift` stopped, and what the three
 // said on standard error, without the reason.
 fn unwritten() {
@@ -57,8 +52,10 @@ fn unwritten() {
     let mut said = io::buffer();
     let n = read_error(&mut said);
     let state = sifted.state;
-    print_number(b"lines ", shown.lines as u64);
-    print_number(b" equation ", state.equation as u64);
+    io::write_all(STDOUT_FILENO, b"lines");
+    print_field(shown.lines as u64);
+    io::write_all(STDOUT_FILENO, b" equation");
+    print_field(state.equation as u64);
     io::write_all(STDOUT_FILENO, b"\n");
     print_subjects(&said[..n]);
 }
