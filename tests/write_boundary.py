@@ -23,8 +23,8 @@ LINES = [
     "judge 0 0",
     "judge 0 1",
     "judge 11 4",
-    "build 7 1",
     "build 10 0",
+    "build 7 1",
     "build 0 3",
     "run 0 1 5 1 37 128 5 37 5 7 7 7 0 1 0 0 0 0 7 7",
     "run 16 3 0 0 7 7 7 7 7 7 7 7 0 1 0 0 0 0 7 7",
@@ -63,7 +63,7 @@ def lines():
     """The same by the Python."""
     last, table = built(POOL, LEAST_TABLE)
     verdicts = bytearray([7] * 8)
-    buildings = [built("6 7 0", LEAST_TABLE)[0], built(POOL, LEAST_TABLE - 1)[0], last]
+    buildings = [built(POOL, LEAST_TABLE - 1)[0], built("6 7 0", LEAST_TABLE)[0], last]
     runs = [ran(table, 0, verdicts), ran(table, 3, verdicts), ran(table, 2, bytearray([7] * 5))]
     return [judged(PAPER), judged(MEETING), judged(CUT)] + buildings + runs
 

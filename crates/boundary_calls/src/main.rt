@@ -102,13 +102,14 @@ fn run(table: &[u8], count: usize, from: usize, verdicts: &mut [u8]) {
 }
 
 fn main() {
-    let mut table = [0u8; 32768];
-    judge(&POOL, &BREAKS, &mut table);
-    judge(&POOL, &MEETS, &mut table);
-    judge(&POOL, &CUT, &mut table);
-    build(&UNGUARDED, &mut table);
+    let mut judged = [0u8; 32768];
+    judge(&POOL, &BREAKS, &mut judged);
+    judge(&POOL, &MEETS, &mut judged);
+    judge(&POOL, &CUT, &mut judged);
     let mut short = [0u8; 32767];
     build(&POOL, &mut short);
+    let mut table = [0u8; 32768];
+    build(&UNGUARDED, &mut table);
     let count = build(&POOL, &mut table);
     let mut verdicts = [7u8; 8];
     run(&table, count, 0, &mut verdicts);

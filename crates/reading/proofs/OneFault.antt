@@ -14,8 +14,8 @@ one-refusal : {answer : Answer} {number place number′ place′ : ℕ} → answ
     → (number ≡ number′) × (place ≡ place′)
 one-refusal e e′ = (cc, cc)
 
-pub one-fault : {Fault : (number place : ℕ) → Type 0} (answer : Answer)
-    → ((number place : ℕ) → (answer ≡ Refused number place) ↔ Fault number place) → OneFault answer Fault
+pub one-fault : {Holds : (number place : ℕ) → Type 0} (answer : Answer)
+    → ((number place : ℕ) → (answer ≡ Refused number place) ↔ Holds number place) → OneFault answer Holds
 one-fault Accepted exactly = record {
   one = λ {number} {place} fault other. absurd (never-both (exactly number place .1 fault));
   none = (λ e number place fault. never-both (exactly number place .1 fault), λ h. refl);

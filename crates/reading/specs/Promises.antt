@@ -36,9 +36,9 @@ RefusesAtTheFault =
     (s : List ℕ) → Bytes s → (number place : ℕ) → (readingOf (ruleOf s) .answer ≡ Refused number place) ↔ Fault s number place
 
 -- So no two of its clauses differ in number or place, and none holds exactly where the file is accepted.
-pub record OneFault (answer : Answer) (Fault : (number place : ℕ) → Type 0) : Type 0 where
-  pub one : {number place number′ place′ : ℕ} → Fault number place → Fault number′ place′ → (number ≡ number′) × (place ≡ place′)
-  pub none : (answer ≡ Accepted) ↔ ((number place : ℕ) → Fault number place → ⊥)
+pub record OneFault (answer : Answer) (Holds : (number place : ℕ) → Type 0) : Type 0 where
+  pub one : {number place number′ place′ : ℕ} → Holds number place → Holds number′ place′ → (number ≡ number′) × (place ≡ place′)
+  pub none : (answer ≡ Accepted) ↔ ((number place : ℕ) → Holds number place → ⊥)
 
 abbrev pub HasOneFault : Type 0
 HasOneFault = (s : List ℕ) → Bytes s → OneFault (readingOf (ruleOf s) .answer) (Fault s)
