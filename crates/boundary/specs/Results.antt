@@ -5,7 +5,7 @@ use mathlib.Core.Path.{_≡_}
 use Rattle.reading.specs.File.{Outcome}
 use Rattle.synthesis.specs.declared.Counted.{Counted}
 use Rattle.synthesis.specs.declared.Counted as Counted′
-use Rattle.running.specs.Running.{Run, ranOf}
+use Rattle.running.specs.Running.{Run, resultOf}
 use Rattle.running.specs.declared.State.{State}
 use Rattle.running.specs.declared.Checked.{Checked}
 use Rattle.running.specs.declared.Checked as Checked′
@@ -35,7 +35,7 @@ checkedNumber (Checked′.the-variants.Refused number place) = number
 
 -- what a run from the state s hands back, each part by itself
 pub record IsRun (s : State) (outcome : Outcome Run) (number equation kept dropped : ℕ) : Type 0 where
-  pub number-is : number ≡ checkedNumber (ranOf s outcome .checked)
-  pub equation-is : equation ≡ ranOf s outcome .state .equation
-  pub kept-is : kept ≡ ranOf s outcome .kept
-  pub dropped-is : dropped ≡ ranOf s outcome .dropped
+  pub number-is : number ≡ checkedNumber (resultOf s outcome .checked)
+  pub equation-is : equation ≡ resultOf s outcome .state .equation
+  pub kept-is : kept ≡ resultOf s outcome .kept
+  pub dropped-is : dropped ≡ resultOf s outcome .dropped

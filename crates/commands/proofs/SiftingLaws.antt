@@ -9,7 +9,7 @@ use Rattle.reading.specs.Rule.{Bytes}
 use Rattle.reading.specs.File.{Outcome}
 use Rattle.synthesis.specs.Building.{Synthesis, countedOf, tableAfter}
 use Rattle.synthesis.specs.declared.Counted.the-variants.{Equations}
-use Rattle.running.specs.Running.{WellFormedTable, runOf, ranOf}
+use Rattle.running.specs.Running.{WellFormedTable, runOf, resultOf}
 use Rattle.running.specs.Calls.{Call, History, withCall, Calls, none, call, OnTableOrRefused}
 use Rattle.running.specs.declared.State.{State}
 use Rattle.running.proofs.Refusals.{runs-on-tables}
@@ -26,7 +26,7 @@ fit-on table count = calls-weaken 128 255 (λ h c may. inl (may .on))
 -- one more call, with room for its scans
 pub one-more : (table : List ℕ) (count : ℕ) (s : State) (scans output verdicts : List ℕ) {s′ : State}
     → length scans ≤ length output → length scans ≤ length verdicts → Bytes scans
-    → s′ ≡ ranOf s (runOf 128 255 table count s scans (length output) (length verdicts)) .state → GoesOn table count s s′
+    → s′ ≡ resultOf s (runOf 128 255 table count s scans (length output) (length verdicts)) .state → GoesOn table count s s′
 one-more table count s scans output verdicts ro rv bytes e =
     inr (record { table = table; count = count; scans = scans; output = output; verdicts = verdicts }, bytes, ro, rv, e)
 
@@ -40,7 +40,7 @@ goes-on table count wf (h, calls, same) (inr (x, bytes, ro, rv, e)) =
     let fits = runs-on-tables 128 255 table count (h .state) (x .scans) (length (x .output)) (length (x .verdicts)) .follows ro rv wf inside in (
       withCall 128 255 h c,
       call h c calls bytes (record { on = record { same-rows = refl; same-count = refl }; fit = rw fits }),
-      e ∙ ap (λ (s : State). ranOf s (runOf 128 255 table count s (x .scans) (length (x .output)) (length (x .verdicts))) .state) same,
+      e ∙ ap (λ (s : State). resultOf s (runOf 128 255 table count s (x .scans) (length (x .output)) (length (x .verdicts))) .state) same,
     )
 
 -- calls on the table that building leaves, with its count, are those that `sift` makes under the rule

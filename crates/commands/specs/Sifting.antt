@@ -9,7 +9,7 @@ use Rattle.reading.specs.Rule.{Bytes}
 use Rattle.reading.specs.File.{Outcome}
 use Rattle.synthesis.specs.Building.{Synthesis, buildingOf, countedOf, tableAfter}
 use Rattle.synthesis.specs.declared.Counted.the-variants.{Equations}
-use Rattle.running.specs.Running.{runOf, checkedOf, ranOf}
+use Rattle.running.specs.Running.{runOf, checkedOf, resultOf}
 use Rattle.running.specs.Calls.{Call, History, outcomeOf, Calls, OnTable}
 use Rattle.running.specs.declared.Checked.the-variants.{Fit}
 use Rattle.running.specs.declared.State.{State}
@@ -32,7 +32,7 @@ abbrev pub GoesOn : (table : List ℕ) → (count : ℕ) → (s s′ : State) �
 GoesOn table count s s′ =
     (s′ ≡ s)
     ⊎ ((c : Call) × Bytes (c .scans) × (length (c .scans) ≤ length (c .output)) × (length (c .scans) ≤ length (c .verdicts))
-    × (s′ ≡ ranOf s (runOf 128 255 table count s (c .scans) (length (c .output)) (length (c .verdicts))) .state))
+    × (s′ ≡ resultOf s (runOf 128 255 table count s (c .scans) (length (c .output)) (length (c .verdicts))) .state))
 
 -- such calls on the table that building leaves, with the count that it answers; where building refuses, there are none
 pub record UnderRule (outcome : Outcome Synthesis) (table : List ℕ) (h : History) (c : Call) : Type 0 where

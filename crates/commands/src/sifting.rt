@@ -12,7 +12,7 @@ ghost use mathlib.Core.List.{List};
 ghost use Prim.Native.Nat.{ℕ, _≤_};
 ghost use lib.ListN.{length};
 ghost use Rattle.reading.specs.Rule.{Bytes};
-ghost use Rattle.running.specs.Running.{WellFormedTable, runOf, ranOf};
+ghost use Rattle.running.specs.Running.{WellFormedTable, runOf, resultOf};
 ghost use Rattle.commands.specs.Sifting.{EndsCallsOn, GoesOn, Sifts};
 
 // The state after a block of scans, and whether there may be more.
@@ -31,7 +31,7 @@ fn sift_block(
     verdicts: &mut [u8],
 ) -> Turn
     ensures { λ _. ⌜ Bytes (now (scans .entry)) ⌝ }
-    ensures { λ r. ⌜ r .state ≡ ranOf state (runOf 128 255 (now (table .entry)) count state (now (scans .entry))
+    ensures { λ r. ⌜ r .state ≡ resultOf state (runOf 128 255 (now (table .entry)) count state (now (scans .entry))
         (length (now (output .entry))) (length (now (verdicts .entry)))) .state ⌝ }
 {
     let ran = running::run(table, count, state, scans, output, verdicts);

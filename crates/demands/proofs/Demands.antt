@@ -13,7 +13,7 @@ use Rattle.reading.proofs.FaultsRefused as rules
 use Rattle.synthesis.specs.Building.{buildingOf, countedOf, tableAfter}
 use Rattle.synthesis.specs.declared.Counted.the-variants as Counted
 use Rattle.synthesis.proofs.Built as building
-use Rattle.running.specs.Running.{ranOf}
+use Rattle.running.specs.Running.{resultOf}
 use Rattle.running.specs.Calls.{Call, History, outcomeOf, Calls, OnTable, OnTableOrRefused}
 use Rattle.running.specs.declared.Checked.the-variants as Checked
 use Rattle.running.proofs.Refusals.{runs-on-tables}
@@ -73,7 +73,7 @@ module _ (s table : List ℕ) (n : ℕ) (counted : countedOf (buildingOf 128 s (
       (runs-on-tables 128 255 (c .table) (c .count) (h .state) (c .scans) (length (c .output)) (length (c .verdicts)) .unfit .1
       (a, b, unfit-not-well bad))
 
-  takes : ranOf (h .state) (outcomeOf 128 255 h c) .checked ≡ Checked.Fit
+  takes : resultOf (h .state) (outcomeOf 128 255 h c) .checked ≡ Checked.Fit
   takes = run-fit (c .table) (c .count) (h .state) (c .scans) (length (c .output)) (length (c .verdicts)) unrefused
 
 pub demand-two : DemandTwo

@@ -14,14 +14,14 @@ use Rattle.reading.specs.File.{accepted, refused, ruleOf}
 use Rattle.reading.proofs.Outcomes.{found, never-refused, refused-by}
 use Rattle.reading.proofs.Accepted.{reading-accepts}
 use Rattle.reading.proofs.FaultsRefused.{answer-refused, refuses-at-the-fault}
-use Rattle.synthesis.specs.Answering.{hopeless}
-use Rattle.synthesis.specs.Building.{equationsOf, synthesized, synthesisOf, buildingOf, countedOf}
+use Rattle.synthesis.specs.Answering.{unsatisfiable}
+use Rattle.synthesis.specs.Building.{equationsOf, synthesisOfRule, synthesisOf, buildingOf, countedOf}
 use Rattle.synthesis.specs.declared.Counted.the-variants as Counted
 use Rattle.synthesis.proofs.Synthesized.{building-enough, building-short, synthesis-of, counted-refuses}
 use Rattle.synthesis.proofs.Equations.{refuses-too-many}
 use Rattle.models.specs.Model.{Model, Finite, Satisfies}
 use Rattle.models.proofs.Acceptance.{satisfiable, refuses-unsatisfiable}
-use Rattle.demands.specs.Refusals.{CountRefused, in-file, unsatisfiable, too-many, BuildRefused, short-table, in-rule}
+use Rattle.demands.specs.Refusals.{CountRefused, in-file, unsatisfiable as no-model, too-many, BuildRefused, short-table, in-rule}
 
 module _ (s : List ℕ) (bytes : Bytes s) where
   abbrev Counts : ℕ → ℕ → Type 0
@@ -33,12 +33,12 @@ module _ (s : List ℕ) (bytes : Bytes s) where
   eight r read = rw (building-enough 128 s 32768 (omega arith)) at (refuses-unsatisfiable 128 s 32768 r bytes (omega arith) read .no-finite)
 
   -- a rule that was read
-  rule-found : (r : Rule) → ruleOf s ≡ accepted r → (number place : ℕ) → synthesized 128 r ≡ refused number place → CountRefused s number place
+  rule-found : (r : Rule) → ruleOf s ≡ accepted r → (number place : ℕ) → synthesisOfRule 128 r ≡ refused number place → CountRefused s number place
   rule-found r read number place e =
       let (w, is) = reading-accepts s bytes r .0 read in
-      let outcome : synthesisOf 128 s ≡ synthesized 128 r = synthesis-of 128 s r read in
-      found (CountRefused s) (hopeless r) 8 0 _ e
-      (λ t. unsatisfiable r w is (eight r read .0 (rw (outcome, t))))
+      let outcome : synthesisOf 128 s ≡ synthesisOfRule 128 r = synthesis-of 128 s r read in
+      found (CountRefused s) (unsatisfiable r) 8 0 _ e
+      (λ t. no-model r w is (eight r read .0 (rw (outcome, t))))
       (λ f e′.
       found (CountRefused s) (ltb 128 (length (equationsOf 128 r))) 9 0 _ e′
       (λ t.
@@ -51,7 +51,7 @@ module _ (s : List ℕ) (bytes : Bytes s) where
   count-found : (number place : ℕ) → Counts number place → CountRefused s number place
   unfolding synthesisOf
   count-found number place e =
-      refused-by (ruleOf s) (synthesized 128) (counted-refuses (synthesisOf 128 s) number place e)
+      refused-by (ruleOf s) (synthesisOfRule 128) (counted-refuses (synthesisOf 128 s) number place e)
       (λ e′. in-file (refuses-at-the-fault s bytes number place .0 (answer-refused (ruleOf s) number place .0 e′)))
       (λ r read e′. rule-found r read number place e′)
 
@@ -59,7 +59,7 @@ module _ (s : List ℕ) (bytes : Bytes s) where
   unfolding synthesisOf
   count-refuses {number} {place} (in-file fault) =
       rw (answer-refused (ruleOf s) number place .1 (refuses-at-the-fault s bytes number place .1 fault))
-  count-refuses (unsatisfiable r w is none) = eight r (reading-accepts s bytes r .1 (w, is)) .1 none
+  count-refuses (no-model r w is none) = eight r (reading-accepts s bytes r .1 (w, is)) .1 none
   count-refuses (too-many r w is m finite satisfies over) =
       let read = reading-accepts s bytes r .1 (w, is) in
       refuses-too-many 128 s r read (λ e. eight r read .0 e m finite satisfies) .1 over

@@ -11,7 +11,7 @@ use Rattle.reading.specs.File.{Outcome, accepted, refused}
 use Rattle.reading.proofs.Outcomes.{found, never-refused, refused-by}
 use Rattle.synthesis.specs.Building.{buildingOf, countedOf}
 use Rattle.synthesis.proofs.Synthesized.{building-accepts, counted-accepts, counted-refuses}
-use Rattle.running.specs.Running.{roomy, fits, Run, runOf, checkedOf, ranOf}
+use Rattle.running.specs.Running.{hasRoom, fits, Run, runOf, checkedOf, resultOf}
 use Rattle.running.specs.declared.State.{State}
 use Rattle.running.specs.declared.Checked.the-variants as Checked
 use Rattle.running.proofs.Refusals.{runs-on-tables}
@@ -27,7 +27,7 @@ use Rattle.demands.proofs.UnfitTables.{unfit-not-well, found-unfit}
 
 -- ---- running
 
-checked-alike : (s : State) (o : Outcome Run) → ranOf s o .checked ≡ checkedOf o
+checked-alike : (s : State) (o : Outcome Run) → resultOf s o .checked ≡ checkedOf o
 checked-alike s (accepted y) = refl
 checked-alike s (refused number place) = refl
 
@@ -43,7 +43,7 @@ module _ (table : List ℕ) (count : ℕ) (s : State) (scans : List ℕ) (output
   unfolding runOf
   run-found number place e =
       let runs = runs-on-tables 128 255 table count s scans output verdicts in
-      found Refuses (not (roomy scans output verdicts)) 15 0 _ (checked-refuses (runOf 128 255 table count s scans output verdicts) number place e)
+      found Refuses (not (hasRoom scans output verdicts)) 15 0 _ (checked-refuses (runOf 128 255 table count s scans output verdicts) number place e)
       (λ t. short-buffer (runs .short .0 (rw t)))
       (λ f e′.
       found Refuses (not (fits 128 255 table count s)) 16 0 _ e′
@@ -56,15 +56,15 @@ module _ (table : List ℕ) (count : ℕ) (s : State) (scans : List ℕ) (output
       runs-on-tables 128 255 table count s scans output verdicts .unfit .1 (room, room′, unfit-not-well bad)
 
   pub run-refused : (number place : ℕ)
-      → (ranOf s (runOf 128 255 table count s scans output verdicts) .checked ≡ Checked.Refused number place) ↔ Refuses number place
+      → (resultOf s (runOf 128 255 table count s scans output verdicts) .checked ≡ Checked.Refused number place) ↔ Refuses number place
   run-refused number place =
       rw (checked-alike s (runOf 128 255 table count s scans output verdicts)) (run-found number place, run-refuses)
 
   -- where no clause holds, the run isn't refused
-  pub run-fit : ((number place : ℕ) → Refuses number place → ⊥) → ranOf s (runOf 128 255 table count s scans output verdicts) .checked ≡ Checked.Fit
+  pub run-fit : ((number place : ℕ) → Refuses number place → ⊥) → resultOf s (runOf 128 255 table count s scans output verdicts) .checked ≡ Checked.Fit
   run-fit none = on (runOf 128 255 table count s scans output verdicts) refl
     where
-      on : (o : Outcome Run) → runOf 128 255 table count s scans output verdicts ≡ o → ranOf s o .checked ≡ Checked.Fit
+      on : (o : Outcome Run) → runOf 128 255 table count s scans output verdicts ≡ o → resultOf s o .checked ≡ Checked.Fit
       on (accepted y) e = refl
       on (refused number place) e = absurd (none number place (run-found number place (ap checkedOf e)))
 
@@ -88,7 +88,7 @@ module _ (s table f : List ℕ) (bytes : Bytes s) (bytes′ : Bytes f) where
       refused-by (buildingOf 128 s (length table)) _ (judged-refuses (judgingOf 128 s (length table) f) number place judged)
       (λ e. in-building (build-refused s bytes (length table) number place .0 (ap countedOf e)))
       (λ y built e.
-      let (room, made) = building-accepts 128 s (length table) y built in
+      let (room, enough) = building-accepts 128 s (length table) y built in
       refused-by (phoneOf f) _ e
       (λ e′.
       in-model room (accepts-exactly 128 s table bytes room .0 (length (y .equations), ap countedOf built))

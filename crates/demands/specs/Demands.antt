@@ -10,12 +10,12 @@ use Rattle.reading.specs.Rule.{Rule, RuleWithinLimits, encode, Bytes}
 use Rattle.reading.specs.File.{ruleOf}
 use Rattle.reading.specs.Faults.{Fault as RuleFault}
 use Rattle.reading.specs.Numbered.{numbered, readingOf}
-use Rattle.reading.specs.declared.Answer.the-variants as Reading
-use Rattle.synthesis.specs.Monitor.{entry}
+use Rattle.reading.specs.declared.Acceptance.the-variants as Reading
+use Rattle.synthesis.specs.Monitor.{lookup}
 use Rattle.synthesis.specs.Building.{synthesisOf, buildingOf, countedOf, tableAfter}
 use Rattle.synthesis.specs.Promises.{SameAfterRows}
 use Rattle.synthesis.specs.declared.Counted.the-variants as Counted
-use Rattle.running.specs.Running.{runOf, ranOf}
+use Rattle.running.specs.Running.{runOf, resultOf}
 use Rattle.running.specs.Calls.{Call, History, outcomeOf, Calls, OnTable, OnTableOrRefused}
 use Rattle.running.specs.Promises.{Sifted, Unchanged, OnlyFronts}
 use Rattle.running.specs.declared.State.{State}
@@ -37,7 +37,7 @@ pub record RefusesExactly : Type 1 where
   pub build : (s table : List ℕ) → Bytes s → (number place : ℕ)
       → (countedOf (buildingOf 128 s (length table)) ≡ Counted.Refused number place) ↔ BuildRefused s (length table) number place
   pub run : (table : List ℕ) (count : ℕ) (s : State) (scans output verdicts : List ℕ) (number place : ℕ)
-      → (ranOf s (runOf 128 255 table count s scans (length output) (length verdicts)) .checked ≡ Checked.Refused number place)
+      → (resultOf s (runOf 128 255 table count s scans (length output) (length verdicts)) .checked ≡ Checked.Refused number place)
       ↔ RunRefused table count s scans (length output) (length verdicts) number place
   pub read-model : (f : List ℕ) → Bytes f → (number place : ℕ)
       → (modelReadingOf (phoneOf f) .answer ≡ Reading.Refused number place) ↔ ModelFault f number place
@@ -50,7 +50,7 @@ pub record LeavesUnchanged : Type 0 where
       → tableAfter 255 (buildingOf 128 s (length table)) table ≡ table
   pub run : (table : List ℕ) (count : ℕ) (s : State) (scans output verdicts : List ℕ) (number place : ℕ) →
       let outcome = runOf 128 255 table count s scans (length output) (length verdicts) in
-      ranOf s outcome .checked ≡ Checked.Refused number place → Unchanged s output verdicts number place outcome
+      resultOf s outcome .checked ≡ Checked.Refused number place → Unchanged s output verdicts number place outcome
   pub judge : (s table f : List ℕ) (answer : Judged) (number place : ℕ) →
       let outcome = judgingOf 128 s (length table) f in
       JudgedAs outcome answer → answer ≡ Judged′.Refused number place
@@ -63,7 +63,7 @@ pub record LeavesTheRest : Type 0 where
       → SameAfterRows n table (tableAfter 255 (buildingOf 128 s (length table)) table)
   pub run : (table : List ℕ) (count : ℕ) (s : State) (scans output verdicts : List ℕ) →
       let outcome = runOf 128 255 table count s scans (length output) (length verdicts) in
-      ranOf s outcome .checked ≡ Checked.Fit → OnlyFronts s scans output verdicts outcome
+      resultOf s outcome .checked ≡ Checked.Fit → OnlyFronts s scans output verdicts outcome
   pub judge : (s table f : List ℕ) (answer : Judged) →
       let outcome = judgingOf 128 s (length table) f in
       let built = tableAfter 255 (buildingOf 128 s (length table)) table in
@@ -85,7 +85,7 @@ pub record DemandTwo : Type 1 where
   pub takes : (s table : List ℕ) (n : ℕ) → countedOf (buildingOf 128 s (length table)) ≡ Counted.Equations n → (h : History)
       → Calls 128 255 (OnTableOrRefused 128 255 (tableAfter 255 (buildingOf 128 s (length table)) table) n) h → (c : Call)
       → OnTable (tableAfter 255 (buildingOf 128 s (length table)) table) n c → length (c .scans) ≤ length (c .output)
-      → length (c .scans) ≤ length (c .verdicts) → ranOf (h .state) (outcomeOf 128 255 h c) .checked ≡ Checked.Fit
+      → length (c .scans) ≤ length (c .verdicts) → resultOf (h .state) (outcomeOf 128 255 h c) .checked ≡ Checked.Fit
   pub reads-rule : (s : List ℕ) → Bytes s → (readingOf (ruleOf s) .answer ≡ Reading.Accepted)
       ↔ ((r : Rule) × RuleWithinLimits r × (s ≡ encode r) × (readingOf (ruleOf s) .rule ≡ numbered r))
   pub reads-model : (f : List ℕ) → Bytes f → (modelReadingOf (phoneOf f) .answer ≡ Reading.Accepted)
@@ -102,5 +102,5 @@ pub record DemandTwo : Type 1 where
 pub record DemandThree : Type 1 where
   pub enforces : (r : Rule) (y : Phone) (table : List ℕ) (n : ℕ) → RuleWithinLimits r → PhoneWithinLimits y
       → countedOf (buildingOf 128 (encode r) (length table)) ≡ Counted.Equations n →
-      let answer = entry 256 255 (tableAfter 255 (buildingOf 128 (encode r) (length table)) table) in
+      let answer = lookup 256 255 (tableAfter 255 (buildingOf 128 (encode r) (length table)) table) in
       Enforces r (suppressing answer) 0 (modelOf y) × WalksBehind answer 0 (modelOf y)

@@ -3,9 +3,9 @@ use Prim.Native.Nat.{ℕ, _<_}
 use mathlib.Core.Path.{_≡_, sym, subst}
 use mathlib.Core.List.{List}
 use native.Mathlib.Omega.{arith}
-use Rattle.synthesis.specs.Monitor.{entry}
+use Rattle.synthesis.specs.Monitor.{lookup}
 use Rattle.models.specs.Model.{Label, silent, code, Model, Bisimilar}
-use Rattle.models.specs.Model.{Response, passed, silenced, suppressing, Behind, silent-step, passed-step, silenced-step, monitored}
+use Rattle.models.specs.Model.{Response, passed, suppressed, suppressing, Behind, silent-step, passed-step, suppressed-step, monitored}
 use Rattle.models.specs.Phone.{StepIn, modelOf}
 use Rattle.examples.specs.Examples.{PoolRows}
 use Rattle.examples.specs.ModelExamples.{breakingPhone, drawnPhone}
@@ -54,7 +54,7 @@ data Drawn : ℕ × ℕ → ℕ → Type 0 where
 
 module _ (table : List ℕ) (rows : PoolRows table) where
   abbrev respond : ℕ → ℕ → Response ℕ
-  respond = suppressing (entry 256 255 table)
+  respond = suppressing (lookup 256 255 table)
 
   abbrev behind : Model
   behind = monitored respond 0 (modelOf breakingPhone)
@@ -70,7 +70,7 @@ module _ (table : List ℕ) (rows : PoolRows table) where
   later-cancel : respond 1 37 ≡ passed 1
   later-cancel = rw (rows .row-1)
 
-  first-issue : respond 2 5 ≡ silenced
+  first-issue : respond 2 5 ≡ suppressed
   first-issue = rw (rows .row-2)
 
   later-issue : respond 1 5 ≡ passed 1
@@ -84,7 +84,7 @@ module _ (table : List ℕ) (rows : PoolRows table) where
   -- with the code c to the state t, by what becomes of the code in the equation e
   abbrev CodeDrawn : (d e c t : ℕ) → Response ℕ → Type 0
   CodeDrawn d e c t (passed e′) = DrawnTo d (code c) (t, e′)
-  CodeDrawn d e c t silenced = DrawnTo d silent (t, e)
+  CodeDrawn d e c t suppressed = DrawnTo d silent (t, e)
 
   code-drawn : {s c t e d : ℕ} → BreakingStep s (code c) t → Drawn (s, e) d → CodeDrawn d e c t (respond e c)
   code-drawn cancels is-0 = subst (CodeDrawn 0 0 37 1) (sym first-cancel) (1, drawn-at 0 (omega arith), is-1)
@@ -100,14 +100,14 @@ module _ (table : List ℕ) (rows : PoolRows table) where
   forth : (x x′ : ℕ × ℕ) (d : ℕ) (a : Label) → Drawn x d → Behind respond (modelOf breakingPhone) x a x′ → DrawnTo d a x′
   forth x x′ d a r (silent-step h) = silent-drawn (breaking-step h) r
   forth x x′ d a r (passed-step {t = t} {c} {e} h q) = subst (CodeDrawn d e c t) q (code-drawn (breaking-step h) r)
-  forth x x′ d a r (silenced-step {t = t} {c} {e} h q) = subst (CodeDrawn d e c t) q (code-drawn (breaking-step h) r)
+  forth x x′ d a r (suppressed-step {t = t} {c} {e} h q) = subst (CodeDrawn d e c t) q (code-drawn (breaking-step h) r)
 
   -- ---- a drawn step is there behind the monitor
 
   back : {x : ℕ × ℕ} {d d′ : ℕ} {a : Label} → Drawn x d → DrawnStep d a d′ → (x′ : ℕ × ℕ) × behind .Step x a x′ × Drawn x′ d′
   back is-0 from-0 = ((1, 2), passed-step (breaking-at 0 (omega arith)) first-cancel, is-1)
   back is-1 from-1 = ((2, 2), silent-step (breaking-at 1 (omega arith)), is-2)
-  back is-2 from-2 = ((0, 2), silenced-step (breaking-at 2 (omega arith)) first-issue, is-3)
+  back is-2 from-2 = ((0, 2), suppressed-step (breaking-at 2 (omega arith)) first-issue, is-3)
   back is-3 from-3 = ((1, 1), passed-step (breaking-at 0 (omega arith)) second-cancel, is-4)
   back is-4 from-4 = ((2, 1), silent-step (breaking-at 1 (omega arith)), is-5)
   back is-5 from-5 = ((0, 1), passed-step (breaking-at 2 (omega arith)) later-issue, is-6)

@@ -7,14 +7,14 @@ use native.Mathlib.Omega.{arith}
 use lib.ListN.{length, getD}
 use Rattle.reading.specs.Rule.{Rule}
 use Rattle.reading.specs.File.{accepted, refused, ruleOf}
-use Rattle.synthesis.specs.Answering.{answerOf, hopeless}
+use Rattle.synthesis.specs.Answering.{answerOf, unsatisfiable}
 use Rattle.synthesis.specs.Monitor.{rowOf}
-use Rattle.synthesis.specs.Table.{entries}
+use Rattle.synthesis.specs.Table.{entriesOf}
 use Rattle.synthesis.specs.Building.{equationsOf, synthesisOf, countedOf}
 use Rattle.synthesis.specs.declared.Counted.{Counted}
 use Rattle.synthesis.specs.declared.Counted.the-variants.{Equations, Refused}
 use Rattle.synthesis.proofs.Rows.{filled-row}
-use Rattle.synthesis.proofs.Synthesized.{made, accepts-made, refuses-eight, building-enough}
+use Rattle.synthesis.proofs.Synthesized.{withEquations, accepts-with-equations, refuses-eight, building-enough}
 use Rattle.examples.specs.Examples.{tableLeft, Answers, Refuses, Reads}
 
 module _ (s : List ℕ) where
@@ -27,18 +27,18 @@ module _ (s : List ℕ) where
   refuses number place read = record { reading = read; answers = answers (Refused number place) (rw read) }
 
   module _ (r : Rule) (read : ruleOf s ≡ accepted r) where
-    pub reads-hopeless : hopeless r ≡ true → Reads s r (Refused 8 0)
-    reads-hopeless h = record { reading = read; answers = answers (Refused 8 0) (rw (refuses-eight 128 s r read h)) }
+    pub reads-unsatisfiable : unsatisfiable r ≡ true → Reads s r (Refused 8 0)
+    reads-unsatisfiable h = record { reading = read; answers = answers (Refused 8 0) (rw (refuses-eight 128 s r read h)) }
 
-    module _ (hopeful : hopeless r ≡ false) (l : List ℕ) (equations : equationsOf 128 r ≡ l) (few : length l ≤ 128) where
-      synthesis : synthesisOf 128 s ≡ accepted (made 128 r)
-      synthesis = accepts-made 128 s r read hopeful (rw equations few)
+    module _ (hopeful : unsatisfiable r ≡ false) (l : List ℕ) (equations : equationsOf 128 r ≡ l) (few : length l ≤ 128) where
+      synthesis : synthesisOf 128 s ≡ accepted (withEquations 128 r)
+      synthesis = accepts-with-equations 128 s r read hopeful (rw equations few)
 
       pub reads : Reads s r (Equations (length l))
       reads = record { reading = read; answers = answers (Equations (length l)) (rw (synthesis, equations)) }
 
       pub row-left : (table : List ℕ) → 32768 ≤ length table → (k : ℕ) → k < length l
-          → rowOf 256 (tableLeft s table) k ≡ entries 255 (answerOf r) l (getD l k 0) 256
+          → rowOf 256 (tableLeft s table) k ≡ entriesOf 255 (answerOf r) l (getD l k 0) 256
       row-left table room k h =
           rw (building-enough 128 s (length table) room, synthesis, equations)
           (filled-row 255 (answerOf r) l 256 table (omega arith) k h)

@@ -16,38 +16,38 @@ use Rattle.examples.specs.ModelExamples.{step}
 use Rattle.examples.specs.RefusalExamples.{times}
 
 -- n steps from state 0 to itself
-abbrev turns : ℕ → List Step
-turns n = replicate n (step 0 0 0)
+abbrev selfLoops : ℕ → List Step
+selfLoops n = replicate n (step 0 0 0)
 
-turns-well-formed : (n : ℕ) → All (WellFormedStep 1) (turns n)
-turns-well-formed zero = tt
-turns-well-formed (suc n) = (record { from = omega arith; label = omega arith; to = omega arith }, turns-well-formed n)
+self-loops-well-formed : (n : ℕ) → All (WellFormedStep 1) (selfLoops n)
+self-loops-well-formed zero = tt
+self-loops-well-formed (suc n) = (record { from = omega arith; label = omega arith; to = omega arith }, self-loops-well-formed n)
 
-turns-length : (n : ℕ) → length (encodeSteps (turns n)) ≡ 4 * n
-turns-length zero = refl
-turns-length (suc n) = omega (arith, turns-length n)
+self-loops-length : (n : ℕ) → length (encodeSteps (selfLoops n)) ≡ 4 * n
+self-loops-length zero = refl
+self-loops-length (suc n) = omega (arith, self-loops-length n)
 
-turns-bytes : (n : ℕ) (rest : List ℕ) → times n (17 ∷ 0 ∷ 0 ∷ 0 ∷ []) rest ≡ encodeSteps (turns n) ++ rest
+self-loops-bytes : (n : ℕ) (rest : List ℕ) → times n (17 ∷ 0 ∷ 0 ∷ 0 ∷ []) rest ≡ encodeSteps (selfLoops n) ++ rest
 unfolding times
-turns-bytes zero rest = refl
-turns-bytes (suc n) rest = rw (turns-bytes n rest)
+self-loops-bytes zero rest = refl
+self-loops-bytes (suc n) rest = rw (self-loops-bytes n rest)
 
 -- the number is a variable, so that no list of so many steps is written out
-after-turns : (n : ℕ) → n ≡ 512 → (kind : ℕ) (rest : List ℕ)
+after-self-loops : (n : ℕ) → n ≡ 512 → (kind : ℕ) (rest : List ℕ)
     → phoneOf (16 ∷ 1 ∷ times n (17 ∷ 0 ∷ 0 ∷ 0 ∷ []) (kind ∷ rest)) ≡ refused (cond (eqb kind 17 || eqb kind 18) 14 12) 2050
 unfolding phoneOf
-after-turns n e kind rest =
+after-self-loops n e kind rest =
     let f : List ℕ = 16 ∷ 1 ∷ times n (17 ∷ 0 ∷ 0 ∷ 0 ∷ []) (kind ∷ rest) in
     let states : statesOf f ≡ accepted 1 = states-read 1 _ (omega arith) (omega arith) in
-    let place : 2 + length (encodeSteps (turns n)) ≡ 2050 = omega (arith, turns-length n) in
-    let full : length (turns n) ≡ 512 = length-replicate n (step 0 0 0) ∙ e in
-    rw (states, steps-full f 1 (turns n) 2 512 kind rest (turns-well-formed n) full (turns-bytes n (kind ∷ rest)), place)
+    let place : 2 + length (encodeSteps (selfLoops n)) ≡ 2050 = omega (arith, self-loops-length n) in
+    let full : length (selfLoops n) ≡ 512 = length-replicate n (step 0 0 0) ∙ e in
+    rw (states, steps-full f 1 (selfLoops n) 2 512 kind rest (self-loops-well-formed n) full (self-loops-bytes n (kind ∷ rest)), place)
 
 pub step-513 : (rest : List ℕ) → phoneOf (16 ∷ 1 ∷ times 512 (17 ∷ 0 ∷ 0 ∷ 0 ∷ []) (17 ∷ rest)) ≡ refused 14 2050
-step-513 = after-turns 512 refl 17
+step-513 = after-self-loops 512 refl 17
 
 pub silent-513 : (rest : List ℕ) → phoneOf (16 ∷ 1 ∷ times 512 (17 ∷ 0 ∷ 0 ∷ 0 ∷ []) (18 ∷ rest)) ≡ refused 14 2050
-silent-513 = after-turns 512 refl 18
+silent-513 = after-self-loops 512 refl 18
 
 pub kind-19-late : (rest : List ℕ) → phoneOf (16 ∷ 1 ∷ times 512 (17 ∷ 0 ∷ 0 ∷ 0 ∷ []) (19 ∷ rest)) ≡ refused 12 2050
-kind-19-late = after-turns 512 refl 19
+kind-19-late = after-self-loops 512 refl 19

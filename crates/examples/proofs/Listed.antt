@@ -8,8 +8,8 @@ use lib.ListN.{length, getD}
 use Rattle.reading.specs.Pattern.{extentOf}
 use Rattle.reading.specs.Rule.{Rule}
 use Rattle.reading.specs.File.{accepted, ruleOf}
-use Rattle.synthesis.specs.Answering.{answerOf, hopeless}
-use Rattle.synthesis.specs.Table.{entries}
+use Rattle.synthesis.specs.Answering.{answerOf, unsatisfiable}
+use Rattle.synthesis.specs.Table.{entriesOf}
 use Rattle.synthesis.specs.Building.{equationsOf}
 use Rattle.listing.specs.Runs.{runs}
 use Rattle.listing.specs.Lines.{patternsLine, patternLines, equationsLine, runLines, rowLines, listing}
@@ -20,7 +20,7 @@ use Rattle.examples.proofs.FileAnswers.{reads, row-left}
 -- the lines of some equations of a rule, numbered from k on, by their answers and without a table
 abbrev pub linesOf : Rule → (sets : List ℕ) → (k many : ℕ) → List ℕ
 linesOf r sets k zero = []
-linesOf r sets k (suc many) = runLines k (runs (entries 255 (answerOf r) sets (getD sets k 0) 256)) ++ linesOf r sets (suc k) many
+linesOf r sets k (suc many) = runLines k (runs (entriesOf 255 (answerOf r) sets (getD sets k 0) 256)) ++ linesOf r sets (suc k) many
 
 abbrev pub listingOf : Rule → (sets : List ℕ) → List ℕ
 listingOf r sets =
@@ -28,7 +28,7 @@ listingOf r sets =
     patternsLine (length extents) ++ (patternLines 0 extents ++ (equationsLine (length sets) ++ linesOf r sets 0 (length sets)))
 
 module _ (s : List ℕ) (r : Rule) (sets lines : List ℕ)
-    (read : ruleOf s ≡ accepted r) (hopeful : hopeless r ≡ false) (equations : equationsOf 128 r ≡ sets) (few : length sets ≤ 128) where
+    (read : ruleOf s ≡ accepted r) (hopeful : unsatisfiable r ≡ false) (equations : equationsOf 128 r ≡ sets) (few : length sets ≤ 128) where
   row-lines : (table : List ℕ) → 32768 ≤ length table → (k many : ℕ) → k + many ≤ length sets
       → rowLines (tableLeft s table) k many ≡ linesOf r sets k many
   unfolding rowLines

@@ -5,14 +5,14 @@ use mathlib.Core.Bool.{false}
 use mathlib.Core.List.{List, [], _∷_, map}
 use native.Mathlib.Omega.{arith}
 use lib.ListN.{length, getD}
-use Rattle.reading.specs.Pattern.{bit, covers, least, howMany, extentOf}
+use Rattle.reading.specs.Pattern.{bit, covers, least, countBelow, extentOf}
 use Rattle.reading.specs.File.{Outcome, accepted, patternsAt, formulaAt, formulaOf, ruleOf}
-use Rattle.synthesis.specs.Answering.{firstOf, answerOf, hopeless}
-use Rattle.synthesis.specs.Search.{noted, found}
+use Rattle.synthesis.specs.Answering.{firstOf, answerOf, unsatisfiable}
+use Rattle.synthesis.specs.Search.{explored, found}
 use Rattle.synthesis.specs.Monitor.{rowOf}
-use Rattle.synthesis.specs.Table.{entries}
+use Rattle.synthesis.specs.Table.{entriesOf}
 use Rattle.synthesis.specs.Building.{equationsOf}
-use Rattle.running.specs.Running.{start, Run, followed, runOf, occurrences}
+use Rattle.running.specs.Running.{start, Run, runFrom, runOf, occurrences}
 use Rattle.running.proofs.Refusals.{runs-on-tables}
 use Rattle.listing.specs.Text.{decimalIn, decimal}
 use Rattle.listing.specs.Lines.{rowLines, listing}
@@ -31,16 +31,16 @@ pool-read : ruleOf poolFile ≡ accepted poolRule
 unfolding ruleOf patternsAt formulaOf formulaAt
 pool-read = refl
 
-pool-hopeful : hopeless poolRule ≡ false
-unfolding hopeless firstOf
+pool-hopeful : unsatisfiable poolRule ≡ false
+unfolding unsatisfiable firstOf
 pool-hopeful = refl
 
 pool-equations : equationsOf 128 poolRule ≡ poolEquations
-unfolding equationsOf found noted firstOf answerOf bit covers
+unfolding equationsOf found explored firstOf answerOf bit covers
 pool-equations = refl
 
 pub number-pool : NumberPool
-unfolding bit covers least howMany
+unfolding bit covers least countBelow
 number-pool = record {
   file = reads poolFile poolRule pool-read pool-hopeful poolEquations pool-equations (omega arith);
   extents = refl;
@@ -49,15 +49,15 @@ number-pool = record {
 -- ---- its table
 
 pool-rows : (table : List ℕ) → 32768 ≤ length table → PoolRows (tableLeft poolFile table)
-unfolding entries answerOf bit covers
+unfolding entriesOf answerOf bit covers
 pool-rows table room = record { row-0 = row 0 (omega arith); row-1 = row 1 (omega arith); row-2 = row 2 (omega arith) }
   where
     row : (k : ℕ) → k < 3
-        → rowOf 256 (tableLeft poolFile table) k ≡ entries 255 (answerOf poolRule) poolEquations (getD poolEquations k 0) 256
+        → rowOf 256 (tableLeft poolFile table) k ≡ entriesOf 255 (answerOf poolRule) poolEquations (getD poolEquations k 0) 256
     row = row-left poolFile poolRule pool-read pool-hopeful poolEquations pool-equations (omega arith) table room
 
 pool-listed : (table : List ℕ) → PoolRows table → listing (map extentOf (poolRule .patterns)) 3 table ≡ poolListing
-unfolding decimal decimalIn listing rowLines bit covers least howMany
+unfolding decimal decimalIn listing rowLines bit covers least countBelow
 pool-listed table rows = rw (rows .row-0, rows .row-1, rows .row-2)
 
 pub pool-table : (table : List ℕ) → 32768 ≤ length table → PoolTable (tableLeft poolFile table)
@@ -66,7 +66,7 @@ pool-table table room = let rows = pool-rows table room in record { rows = rows;
 -- ---- the paper's scans
 
 -- a row for each scan that is kept, in order
-pool-followed : (table : List ℕ) → PoolRows table → followed 255 table start poolScans ≡ poolRun
+pool-followed : (table : List ℕ) → PoolRows table → runFrom 255 table start poolScans ≡ poolRun
 pool-followed table rows = rw (rows .row-0, rows .row-2, rows .row-0, rows .row-1, rows .row-1)
 
 runs-pool : (outcome : Outcome Run) → outcome ≡ accepted poolRun → RunsPool outcome
@@ -80,5 +80,5 @@ pool-scans table room = record {
   short = λ output verdicts. runs-on-tables 128 255 (tableLeft poolFile table) 3 start poolScans output verdicts .short .1;
 }
   where
-    followed-so : followed 255 (tableLeft poolFile table) start poolScans ≡ poolRun
+    followed-so : runFrom 255 (tableLeft poolFile table) start poolScans ≡ poolRun
     followed-so = pool-followed (tableLeft poolFile table) (pool-rows table room)

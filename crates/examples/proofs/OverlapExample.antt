@@ -5,13 +5,13 @@ use mathlib.Core.Bool.{false}
 use mathlib.Core.List.{List}
 use native.Mathlib.Omega.{arith}
 use lib.ListN.{length}
-use Rattle.reading.specs.Pattern.{bit, covers, least, howMany}
+use Rattle.reading.specs.Pattern.{bit, covers, least, countBelow}
 use Rattle.reading.specs.File.{accepted, patternsAt, formulaAt, formulaOf, ruleOf}
-use Rattle.synthesis.specs.Answering.{firstOf, answerOf, hopeless}
-use Rattle.synthesis.specs.Search.{noted, found}
-use Rattle.synthesis.specs.Table.{entries}
+use Rattle.synthesis.specs.Answering.{firstOf, answerOf, unsatisfiable}
+use Rattle.synthesis.specs.Search.{explored, found}
+use Rattle.synthesis.specs.Table.{entriesOf}
 use Rattle.synthesis.specs.Building.{equationsOf}
-use Rattle.running.specs.Running.{start, followed}
+use Rattle.running.specs.Running.{start, runFrom}
 use Rattle.listing.specs.Text.{decimalIn, decimal}
 use Rattle.examples.specs.Examples.{tableLeft}
 use Rattle.examples.specs.NumberingExamples.{Numbers}
@@ -24,21 +24,21 @@ overlap-read : ruleOf overlapFile ≡ accepted overlapRule
 unfolding ruleOf patternsAt formulaOf formulaAt
 overlap-read = refl
 
-overlap-hopeful : hopeless overlapRule ≡ false
-unfolding hopeless firstOf
+overlap-hopeful : unsatisfiable overlapRule ≡ false
+unfolding unsatisfiable firstOf
 overlap-hopeful = refl
 
 overlap-equations : equationsOf 128 overlapRule ≡ overlapSets
-unfolding equationsOf found noted firstOf answerOf bit covers
+unfolding equationsOf found explored firstOf answerOf bit covers
 overlap-equations = refl
 
 overlap-numbers : Numbers overlapFile overlapRule overlapSets overlapListing
-unfolding entries answerOf bit covers least howMany decimal decimalIn
+unfolding entriesOf answerOf bit covers least countBelow decimal decimalIn
 overlap-numbers = numbers overlapFile overlapRule overlapSets overlapListing overlap-read overlap-hopeful overlap-equations (omega arith) refl
 
 -- a row for each equation that the run comes to, in order
-overlap-followed : (table : List ℕ) → 32768 ≤ length table → followed 255 (tableLeft overlapFile table) start overlapScans ≡ overlapRun
-unfolding entries answerOf bit covers
+overlap-followed : (table : List ℕ) → 32768 ≤ length table → runFrom 255 (tableLeft overlapFile table) start overlapScans ≡ overlapRun
+unfolding entriesOf answerOf bit covers
 overlap-followed table room =
     let row = row-left overlapFile overlapRule overlap-read overlap-hopeful overlapSets overlap-equations (omega arith) table room in
     let fresh = row 0 (omega arith) in

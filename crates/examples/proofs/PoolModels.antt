@@ -10,7 +10,7 @@ use Rattle.reading.specs.Pattern.{bit, covers}
 use Rattle.reading.specs.Rule.{Formula, falsity, both, necessity, variable, Bytes}
 use Rattle.reading.specs.File.{accepted}
 use Rattle.synthesis.specs.Violation.{coveredBy, ViolatesRule, by-falsity, by-first, by-code, by-body}
-use Rattle.synthesis.specs.Monitor.{entry}
+use Rattle.synthesis.specs.Monitor.{lookup}
 use Rattle.models.specs.Model.{Label, silent, code, Walk, stay, silent-first, code-first, Weak, SatisfiesWith, Satisfies, SatisfiesDecided}
 use Rattle.models.specs.Model.{suppressing}
 use Rattle.models.specs.Phone.{Phone, StepIn, modelOf, statesOf, stepsAt, phoneOf}
@@ -35,7 +35,7 @@ use Rattle.examples.proofs.Distinctions.{distinctions}
 
 module _ (f : List ℕ) (y : Phone) (read : phoneOf f ≡ accepted y) where
   pool-enforces : Bytes f → (table : List ℕ) → 32768 ≤ length table
-      → Enforces poolRule (suppressing (entry 256 255 (tableLeft poolFile table))) 0 (modelOf y)
+      → Enforces poolRule (suppressing (lookup 256 255 (tableLeft poolFile table))) 0 (modelOf y)
   pool-enforces bytes table room =
       tables-enforce 128 255 poolFile table f poolRule 3 y (omega arith) (search arith) bytes (number-pool .file .reading)
       (number-pool .file .answers .building table room) read .0

@@ -7,8 +7,8 @@ use lib.ListN.{length}
 use Rattle.reading.specs.Pattern.{bit, covers}
 use Rattle.reading.specs.Rule.{necessity, max, variable, Rule}
 use Rattle.reading.specs.File.{refused, patternsAt, formulaAt, formulaOf, ruleOf}
-use Rattle.synthesis.specs.Answering.{firstOf, answerOf, hopeless}
-use Rattle.synthesis.specs.Search.{noted, found}
+use Rattle.synthesis.specs.Answering.{firstOf, answerOf, unsatisfiable}
+use Rattle.synthesis.specs.Search.{explored, found}
 use Rattle.synthesis.specs.Building.{equationsOf, buildingOf}
 use Rattle.synthesis.specs.declared.Counted.the-variants.{Equations}
 use Rattle.synthesis.proofs.Synthesized.{counted-accepts}
@@ -25,7 +25,7 @@ below-both = rule (pattern 255 0 31 ∷ []) (max (max (necessity 0 (variable 1))
 
 -- node 2 alone, which every code leads back to
 guards-both : Reads (1 ∷ 255 ∷ 0 ∷ 31 ∷ 6 ∷ 6 ∷ 5 ∷ 0 ∷ 7 ∷ 1 ∷ []) below-both (Equations 1)
-unfolding below-both ruleOf patternsAt formulaOf formulaAt hopeless equationsOf found noted firstOf answerOf bit covers
+unfolding below-both ruleOf patternsAt formulaOf formulaAt unsatisfiable equationsOf found explored firstOf answerOf bit covers
 guards-both = reads _ _ refl refl (4 ∷ []) refl (omega arith)
 
 between : Rule
@@ -33,7 +33,7 @@ between = rule (pattern 255 0 31 ∷ []) (max (necessity 0 (max (variable 1))))
 
 -- node 1 alone, likewise
 guards-outer : Reads (1 ∷ 255 ∷ 0 ∷ 31 ∷ 6 ∷ 5 ∷ 0 ∷ 6 ∷ 7 ∷ 1 ∷ []) between (Equations 1)
-unfolding between ruleOf patternsAt formulaOf formulaAt hopeless equationsOf found noted firstOf answerOf bit covers
+unfolding between ruleOf patternsAt formulaOf formulaAt unsatisfiable equationsOf found explored firstOf answerOf bit covers
 guards-outer = reads _ _ refl refl (2 ∷ []) refl (omega arith)
 
 rule-refusals : RuleRefusals

@@ -8,13 +8,13 @@ use lib.ListN.{length, replicate}
 use Rattle.reading.specs.Pattern.{bit, covers}
 use Rattle.reading.specs.File.{accepted, patternsAt, formulaAt, formulaOf, ruleOf}
 use Rattle.synthesis.specs.Violation.{ViolatesRule, by-falsity, by-code}
-use Rattle.synthesis.specs.Answering.{firstOf, answerOf, hopeless}
-use Rattle.synthesis.specs.Search.{noted, found}
-use Rattle.synthesis.specs.Monitor.{rowOf, entry}
-use Rattle.synthesis.specs.Table.{entries}
+use Rattle.synthesis.specs.Answering.{firstOf, answerOf, unsatisfiable}
+use Rattle.synthesis.specs.Search.{explored, found}
+use Rattle.synthesis.specs.Monitor.{rowOf, lookup}
+use Rattle.synthesis.specs.Table.{entriesOf}
 use Rattle.synthesis.specs.Building.{equationsOf}
 use Rattle.models.specs.Model.{Label, silent, code, Walk, stay, silent-first, code-first}
-use Rattle.models.specs.Model.{Response, passed, silenced, suppressing, passed-step, silenced-step}
+use Rattle.models.specs.Model.{Response, passed, suppressed, suppressing, passed-step, suppressed-step}
 use Rattle.models.specs.Phone.{StepIn, modelOf, statesOf, stepsAt, phoneOf}
 use Rattle.examples.specs.Examples.{tableLeft}
 use Rattle.examples.specs.ModelExamples.{behind, neverFile, neverRule, shorteningFile, shorteningPhone, Shortening}
@@ -27,17 +27,17 @@ never-read : ruleOf neverFile ≡ accepted neverRule
 unfolding ruleOf patternsAt formulaOf formulaAt
 never-read = refl
 
-never-hopeful : hopeless neverRule ≡ false
-unfolding hopeless firstOf
+never-hopeful : unsatisfiable neverRule ≡ false
+unfolding unsatisfiable firstOf
 never-hopeful = refl
 
 -- {0} and the empty set
 never-equations : equationsOf 128 neverRule ≡ 1 ∷ 0 ∷ []
-unfolding equationsOf found noted firstOf answerOf bit covers
+unfolding equationsOf found explored firstOf answerOf bit covers
 never-equations = refl
 
 never-row : (table : List ℕ) → 32768 ≤ length table → rowOf 256 (tableLeft neverFile table) 0 ≡ replicate 5 1 ++ 255 ∷ replicate 250 1
-unfolding entries answerOf bit covers
+unfolding entriesOf answerOf bit covers
 never-row table room =
     row-left neverFile neverRule never-read never-hopeful (1 ∷ 0 ∷ []) never-equations (omega arith) table room 0 (omega arith)
 
@@ -81,10 +81,10 @@ not-bare t (code-first h k) = six-not-first (shortening-step h)
 
 module _ (table : List ℕ) (room : 32768 ≤ length table) where
   abbrev respond : ℕ → ℕ → Response ℕ
-  respond = suppressing (entry 256 255 (tableLeft neverFile table))
+  respond = suppressing (lookup 256 255 (tableLeft neverFile table))
 
-  five-silenced : respond 0 5 ≡ silenced
-  five-silenced = rw (never-row table room)
+  five-suppressed : respond 0 5 ≡ suppressed
+  five-suppressed = rw (never-row table room)
 
   six-passed : respond 0 6 ≡ passed 1
   six-passed = rw (never-row table room)
@@ -93,7 +93,7 @@ module _ (table : List ℕ) (room : 32768 ≤ length table) where
   shown : Walk (behind neverFile table (modelOf shorteningPhone)) (0, 0) (6 ∷ []) (2, 1)
   shown =
       let steps = shorteningPhone .steps in
-      silent-first (silenced-step (step-at steps 0 (omega arith)) five-silenced)
+      silent-first (suppressed-step (step-at steps 0 (omega arith)) five-suppressed)
       (code-first (passed-step (step-at steps 1 (omega arith)) six-passed) stay)
 
 pub shortening : Shortening

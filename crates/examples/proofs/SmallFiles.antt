@@ -5,20 +5,20 @@ use native.Mathlib.Omega.{arith}
 use Rattle.reading.specs.Pattern.{bit, covers, least}
 use Rattle.reading.specs.Rule.{truth, falsity}
 use Rattle.reading.specs.File.{patternsAt, formulaAt, formulaOf, ruleOf}
-use Rattle.synthesis.specs.Answering.{firstOf, answerOf, hopeless}
-use Rattle.synthesis.specs.Search.{noted, found}
-use Rattle.synthesis.specs.Table.{entries}
+use Rattle.synthesis.specs.Answering.{firstOf, answerOf, unsatisfiable}
+use Rattle.synthesis.specs.Search.{explored, found}
+use Rattle.synthesis.specs.Table.{entriesOf}
 use Rattle.synthesis.specs.Building.{equationsOf}
 use Rattle.examples.specs.Examples.{pattern, rule, SmallFiles}
-use Rattle.examples.proofs.FileAnswers.{refuses, reads-hopeless, reads, row-left}
+use Rattle.examples.proofs.FileAnswers.{refuses, reads-unsatisfiable, reads, row-left}
 
 pub small-files : SmallFiles
-unfolding ruleOf patternsAt formulaOf formulaAt hopeless equationsOf found noted entries firstOf answerOf bit covers least
+unfolding ruleOf patternsAt formulaOf formulaAt unsatisfiable equationsOf found explored entriesOf firstOf answerOf bit covers least
 small-files = record {
   empty = refuses [] 1 0 refl;
   truth-alone = reads (2 ∷ []) (rule [] truth) refl refl (0 ∷ []) refl (omega arith);
   truth-entries = λ table room. row-left (2 ∷ []) (rule [] truth) refl refl (0 ∷ []) refl (omega arith) table room 0 (omega arith);
-  falsity-alone = reads-hopeless (3 ∷ []) (rule [] falsity) refl refl;
+  falsity-alone = reads-unsatisfiable (3 ∷ []) (rule [] falsity) refl refl;
   byte-after = refuses (2 ∷ 2 ∷ []) 3 1 refl;
   no-kind = refuses (0 ∷ []) 2 0 refl;
   no-max = refuses (7 ∷ 0 ∷ []) 6 0 refl;

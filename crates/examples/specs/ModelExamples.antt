@@ -8,7 +8,7 @@ use lib.ListN.{length}
 use Rattle.reading.specs.Rule.{falsity, necessity, Rule}
 use Rattle.reading.specs.File.{accepted}
 use Rattle.synthesis.specs.Violation.{ViolatesRule}
-use Rattle.synthesis.specs.Monitor.{entry}
+use Rattle.synthesis.specs.Monitor.{lookup}
 use Rattle.synthesis.specs.declared.Counted.the-variants.{Equations}
 use Rattle.models.specs.Model.{code, Model, Walk, Finite, Satisfies, Bisimilar, suppressing, monitored}
 use Rattle.models.specs.Phone.{Phone, modelOf, phoneOf}
@@ -24,7 +24,7 @@ step from label to = record { from = from; label = label; to = to }
 
 -- a model behind the table that building leaves of a rule file
 abbrev pub behind : (s table : List ℕ) → Model → Model
-behind s table = monitored (suppressing (entry 256 255 (tableLeft s table))) 0
+behind s table = monitored (suppressing (lookup 256 255 (tableLeft s table))) 0
 
 -- With every table of at least 32,768 bytes this is an answer of judging, and it is the only one.
 abbrev pub JudgesPool : (model : List ℕ) → Judged → Type 0

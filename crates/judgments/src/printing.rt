@@ -4,7 +4,7 @@ use models::Judged;
 use models::ModelReading;
 use models::PhoneModel;
 use models::Step;
-use reading::Answer;
+use reading::Acceptance;
 use testing::digest;
 use testing::print_field;
 use testing::print_refusal;
@@ -28,12 +28,12 @@ fn steps_digest(model: PhoneModel) -> u64 {
     sum
 }
 
-fn print_answer(answer: Answer) {
+fn print_answer(answer: Acceptance) {
     match answer {
-        Answer::Accepted => {
+        Acceptance::Accepted => {
             io::write_all(STDOUT_FILENO, b"accepted");
         }
-        Answer::Refused(number, place) => {
+        Acceptance::Refused(number, place) => {
             print_refusal(number, place);
         }
     }

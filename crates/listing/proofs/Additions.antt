@@ -55,18 +55,18 @@ prints t e =
 -- ---- a line field by field
 
 -- a line that has these fields so far, and room for n more bytes
-pub record Begun (fields : List (List ℕ)) (n : ℕ) (l : Line) : Type 0 where
+pub record LineBegun (fields : List (List ℕ)) (n : ℕ) (l : Line) : Type 0 where
   pub is : l ≡ lineOf (spaced fields)
   pub fits : length (spaced fields) + n ≤ 64
 
-pub empty-line : {l : Line} → l ≡ lineOf [] → Begun [] 64 l
+pub empty-line : {l : Line} → l ≡ lineOf [] → LineBegun [] 64 l
 empty-line e = record { is = e; fits = omega arith }
 
-pub has-room : {l : Line} {fields : List (List ℕ)} {n : ℕ} (m : ℕ) → Begun fields n l → m ≤ n → Room l m
+pub has-room : {l : Line} {fields : List (List ℕ)} {n : ℕ} (m : ℕ) → LineBegun fields n l → m ≤ n → Room l m
 has-room {fields = fields} m b h = record { so-far = spaced fields; is = b .is; room = omega (arith, b .fits) }
 
 -- the first field, and one more
-pub first-field : {l r : Line} {n : ℕ} (m : ℕ) (f : List ℕ) → Begun [] n l → Adds l f r → length f + m ≤ n → Begun (f ∷ []) m r
+pub first-field : {l r : Line} {n : ℕ} (m : ℕ) (f : List ℕ) → LineBegun [] n l → Adds l f r → length f + m ≤ n → LineBegun (f ∷ []) m r
 first-field m f b adds h = record { is = adds [] (b .is); fits = omega (arith, b .fits) }
 
 spaced-more : (f : List ℕ) (fs : List (List ℕ)) (g : List ℕ) → spaced ((f ∷ fs) ++ (g ∷ [])) ≡ spaced (f ∷ fs) ++ (text " " ++ g)
@@ -74,12 +74,12 @@ spaced-more f [] g = refl
 spaced-more f (e ∷ fs) g =
     ap (λ (t : List ℕ). f ++ (text " " ++ t)) (spaced-more e fs g) ∙ sym (append-assoc f (text " " ++ spaced (e ∷ fs)) (text " " ++ g))
 
-pub next-field : {l r : Line} {n : ℕ} {f : List ℕ} {fs : List (List ℕ)} (m : ℕ) (g : List ℕ) → Begun (f ∷ fs) n l → Adds l (text " " ++ g) r
-    → suc (length g) + m ≤ n → Begun ((f ∷ fs) ++ (g ∷ [])) m r
+pub next-field : {l r : Line} {n : ℕ} {f : List ℕ} {fs : List (List ℕ)} (m : ℕ) (g : List ℕ) → LineBegun (f ∷ fs) n l → Adds l (text " " ++ g) r
+    → suc (length g) + m ≤ n → LineBegun ((f ∷ fs) ++ (g ∷ [])) m r
 next-field {f = f} {fs} m g b adds h = record {
   is = adds (spaced (f ∷ fs)) (b .is) ∙ ap lineOf (sym (spaced-more f fs g));
   fits = rw (spaced-more f fs g, length-append (spaced (f ∷ fs)) (text " " ++ g)) (omega (arith, b .fits));
 }
 
-pub line-ended : {l r : Line} {n : ℕ} {fields : List (List ℕ)} → Begun fields n l → Adds l (text "\n") r → Prints (line fields) r
+pub line-ended : {l r : Line} {n : ℕ} {fields : List (List ℕ)} → LineBegun fields n l → Adds l (text "\n") r → Prints (line fields) r
 line-ended {fields = fields} b adds = prints (line fields) (adds (spaced fields) (b .is))

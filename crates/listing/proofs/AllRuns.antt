@@ -11,8 +11,8 @@ use Rattle.reading.specs.Rule.{All}
 use Rattle.reading.proofs.AllLaws.{all-map}
 use Rattle.reading.proofs.ListLaws.{getD-inside}
 use Rattle.synthesis.specs.Monitor.{rowOf, meaning}
-use Rattle.listing.specs.Runs.{Run, run, runsFrom, runs, RunTo}
-use Rattle.listing.specs.Promises.{Longest, InOrder, Groups, ShowsAnswers}
+use Rattle.listing.specs.Runs.{CodeRun, codeRun, runsFrom, runs, RunTo}
+use Rattle.listing.specs.Promises.{Longest, Consecutive, Groups, ShowsAnswers}
 use Rattle.listing.proofs.RunLaws.{first-run, no-runs, some-run}
 
 module _ (row : List ℕ) where
@@ -21,14 +21,14 @@ module _ (row : List ℕ) where
   Begins c = (d : ℕ) → suc d ≡ c → c < length row → getD row d 0 ≡ getD row c 0 → ⊥
 
   -- what is to be shown of the runs from code c on
-  record Good (c : ℕ) (rs : List Run) : Type 0 where
+  record Good (c : ℕ) (rs : List CodeRun) : Type 0 where
     longest : All (Longest row) rs
-    in-order : InOrder c (length row) rs
+    consecutive : Consecutive c (length row) rs
 
-  one-more : (c last : ℕ) → Begins c → RunTo row c last → (rs : List Run) → Good (suc last) rs → Good c (run c last (getD row c 0) ∷ rs)
+  one-more : (c last : ℕ) → Begins c → RunTo row c last → (rs : List CodeRun) → Good (suc last) rs → Good c (codeRun c last (getD row c 0) ∷ rs)
   one-more c last b r rs g = record {
     longest = (record { entry = refl; reaches = r; begins = λ d e same. b d e (omega (arith, r .some, r .inside)) same }, g .longest);
-    in-order = (refl, g .in-order);
+    consecutive = (refl, g .consecutive);
   }
 
   next-begins : (c last : ℕ) → RunTo row c last → Begins (suc last)
@@ -38,7 +38,7 @@ module _ (row : List ℕ) where
 
   -- at most `more` codes follow
   good-from : (more c : ℕ) → c ≤ length row → length row ≤ c + more → Begins c → Good c (runsFrom c (drop c row))
-  good-from zero c h l b = rw (no-runs row c (omega arith)) (record { longest = tt; in-order = omega arith })
+  good-from zero c h l b = rw (no-runs row c (omega arith)) (record { longest = tt; consecutive = omega arith })
   good-from (suc more) c h l b = on (ltb c (length row)) refl
       (λ last r. good-from more (suc last) (r .inside) (omega (arith, r .some)) (next-begins c last r))
     where
@@ -48,13 +48,13 @@ module _ (row : List ℕ) where
           let (last, r) = some-run row c (ltb-true c (length row) e) in
           rw (first-run row c last r) (one-more c last b r _ (rest last r))
       on false e rest =
-          let ended = ltb-false c (length row) e in
-          rw (no-runs row c ended) (record { longest = tt; in-order = omega arith })
+          let newline = ltb-false c (length row) e in
+          rw (no-runs row c newline) (record { longest = tt; consecutive = omega arith })
 
   pub groups : Groups row
   groups =
       let g = good-from (length row) 0 (omega arith) (omega arith) (λ d e. absurd (omega arith)) in
-      record { longest = g .longest; in-order = g .in-order }
+      record { longest = g .longest; consecutive = g .consecutive }
 
 -- ---- what the table answers
 

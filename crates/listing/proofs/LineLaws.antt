@@ -9,7 +9,7 @@ use Rattle.reading.specs.Numbered.{noExtent}
 use Rattle.reading.specs.declared.Extent.{Extent}
 use Rattle.reading.specs.declared.NumberedRule.{NumberedRule}
 use Rattle.synthesis.specs.Monitor.{rowOf}
-use Rattle.listing.specs.Runs.{run, RunTo}
+use Rattle.listing.specs.Runs.{codeRun, RunTo}
 use Rattle.listing.specs.Lines.{patternsLine, patternLine, equationsLine, runLine}
 use Rattle.listing.specs.Positions.{Within, lineThen, noLine, rowLineAt, lineAt, patternCount, listingLineAt}
 use Rattle.listing.specs.LineParts.{Prints, Gives}
@@ -28,7 +28,7 @@ module _ (table : List ℕ) (count start k c at : ℕ) where
 
   pub at-run : (last : ℕ) → k < count → RunTo (rowOf 256 table k) c last
       → rowLineAt table count start k c at
-      ≡ lineThen (runLine k (run c last (getD (rowOf 256 table k) c 0))) (start + 256 * k + suc last)
+      ≡ lineThen (runLine k (codeRun c last (getD (rowOf 256 table k) c 0))) (start + 256 * k + suc last)
   at-run last l r = rw (lt-ltb k count l, first-run (rowOf 256 table k) c last r)
 
 -- ---- all positions

@@ -9,7 +9,7 @@ use lib.Dec.{eqb, leb, ltb}
 use lib.ListN.{length, getD, drop, drop-of-length-le}
 use lib.Seq.{drop-cons}
 use borrow.Author.Tests.{eq-eqb, ne-eqb, eqb-true, eqb-false, leb-true, leb-false, ltb-true, ltb-false}
-use Rattle.listing.specs.Runs.{Run, run, joined, runsFrom, RunTo}
+use Rattle.listing.specs.Runs.{CodeRun, codeRun, joined, runsFrom, RunTo}
 
 -- ---- equal entries
 
@@ -41,21 +41,21 @@ module _ (row : List ℕ) (c : ℕ) where
 -- ---- joining
 
 -- a code before runs that begin with another entry
-apart : (d x c y : ℕ) (rs : List Run) → eqb x y ≡ false → joined d x (joined c y rs) ≡ run d d x ∷ joined c y rs
+apart : (d x c y : ℕ) (rs : List CodeRun) → eqb x y ≡ false → joined d x (joined c y rs) ≡ codeRun d d x ∷ joined c y rs
 apart d x c y [] e = rw e
 apart d x c y (r ∷ rs) e = on (eqb y (r .entry)) refl
   where
-    on : (b : Bool) → eqb y (r .entry) ≡ b → joined d x (joined c y (r ∷ rs)) ≡ run d d x ∷ joined c y (r ∷ rs)
+    on : (b : Bool) → eqb y (r .entry) ≡ b → joined d x (joined c y (r ∷ rs)) ≡ codeRun d d x ∷ joined c y (r ∷ rs)
     on true f = rw (f, e)
     on false f = rw (f, e)
 
 module _ (row : List ℕ) where
   -- the run of one code
-  alone : (c : ℕ) → RunTo row c c → runsFrom c (drop c row) ≡ run c c (getD row c 0) ∷ runsFrom (suc c) (drop (suc c) row)
+  alone : (c : ℕ) → RunTo row c c → runsFrom c (drop c row) ≡ codeRun c c (getD row c 0) ∷ runsFrom (suc c) (drop (suc c) row)
   alone c r = rw (drop-cons row c 0 (r .inside)) (on (ltb (suc c) (length row)) refl)
     where
       on : (b : Bool) → ltb (suc c) (length row) ≡ b
-          → joined c (getD row c 0) (runsFrom (suc c) (drop (suc c) row)) ≡ run c c (getD row c 0) ∷ runsFrom (suc c) (drop (suc c) row)
+          → joined c (getD row c 0) (runsFrom (suc c) (drop (suc c) row)) ≡ codeRun c c (getD row c 0) ∷ runsFrom (suc c) (drop (suc c) row)
       on true e =
           let more = ltb-true (suc c) (length row) e in
           rw (drop-cons row (suc c) 0 more)
@@ -74,7 +74,7 @@ module _ (row : List ℕ) where
       }
 
   longer : (m c last : ℕ) → last ≡ c + m → RunTo row c last
-      → runsFrom c (drop c row) ≡ run c last (getD row c 0) ∷ runsFrom (suc last) (drop (suc last) row)
+      → runsFrom c (drop c row) ≡ codeRun c last (getD row c 0) ∷ runsFrom (suc last) (drop (suc last) row)
   longer zero c last e r =
       let is : last ≡ c = omega arith in
       rw is (alone c (rw is at r))
@@ -84,7 +84,7 @@ module _ (row : List ℕ) where
       rw (drop-cons row c 0 here, longer m (suc c) last (omega arith) (shorter c last (omega arith) r), eq-eqb _ _ (sym next))
 
   pub first-run : (c last : ℕ) → RunTo row c last
-      → runsFrom c (drop c row) ≡ run c last (getD row c 0) ∷ runsFrom (suc last) (drop (suc last) row)
+      → runsFrom c (drop c row) ≡ codeRun c last (getD row c 0) ∷ runsFrom (suc last) (drop (suc last) row)
   first-run c last r = longer (last - c) c last (omega (arith, r .some)) r
 
   pub no-runs : (c : ℕ) → length row ≤ c → runsFrom c (drop c row) ≡ []

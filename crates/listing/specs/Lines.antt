@@ -6,7 +6,7 @@ use lib.ListN.{length}
 use Rattle.reading.specs.declared.Extent.{Extent}
 use Rattle.synthesis.specs.Monitor.{Answer, cases, rowOf, meaning}
 use Rattle.listing.specs.Text.{text, decimal}
-use Rattle.listing.specs.Runs.{Run, runs}
+use Rattle.listing.specs.Runs.{CodeRun, runs}
 
 -- ---- one line
 
@@ -41,7 +41,7 @@ equationsLine count = line (text "equations" ∷ decimal count ∷ [])
 abbrev pub answerText : Answer ℕ → List ℕ
 answerText a = cases a (text "drop") decimal
 
-abbrev pub runLine : (equation : ℕ) → Run → List ℕ
+abbrev pub runLine : (equation : ℕ) → CodeRun → List ℕ
 runLine k r = line (decimal k ∷ decimal (r .first) ∷ decimal (r .last) ∷ answerText (meaning 255 (r .entry)) ∷ [])
 
 -- ---- the listing
@@ -52,7 +52,7 @@ patternLines i [] = []
 patternLines i (e ∷ es) = patternLine i e ++ patternLines (suc i) es
 
 -- some runs of equation k
-abbrev pub runLines : (k : ℕ) → List Run → List ℕ
+abbrev pub runLines : (k : ℕ) → List CodeRun → List ℕ
 runLines k [] = []
 runLines k (r ∷ rs) = runLine k r ++ runLines k rs
 

@@ -10,7 +10,7 @@ use Rattle.reading.specs.Numbered.{padded, noExtent}
 use Rattle.reading.specs.declared.Extent.{Extent}
 use Rattle.reading.specs.declared.NumberedRule.{NumberedRule}
 use Rattle.synthesis.specs.Monitor.{rowOf}
-use Rattle.listing.specs.Runs.{Run, runsFrom}
+use Rattle.listing.specs.Runs.{CodeRun, runsFrom}
 use Rattle.listing.specs.Lines.{patternsLine, patternLine, equationsLine, runLine}
 use Rattle.listing.specs.declared.Line.{Line}
 use Rattle.listing.specs.declared.ListingLine.{ListingLine}
@@ -45,7 +45,7 @@ abbrev pub noLine : (at : ℕ) → ListingLine
 noLine at = lineThen [] at
 
 -- the first of some runs of equation k, whose code 0 has the position `start`
-abbrev pub runLineAt : (start k at : ℕ) → List Run → ListingLine
+abbrev pub runLineAt : (start k at : ℕ) → List CodeRun → ListingLine
 runLineAt start k at [] = noLine at
 runLineAt start k at (r ∷ rs) = lineThen (runLine k r) (start + suc (r .last))
 

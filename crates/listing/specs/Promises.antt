@@ -7,9 +7,9 @@ use Rattle.reading.specs.Pattern.{extentOf}
 use Rattle.reading.specs.Rule.{Rule, RuleWithinLimits, All}
 use Rattle.reading.specs.Numbered.{numbered}
 use Rattle.reading.specs.declared.NumberedRule.{NumberedRule}
-use Rattle.synthesis.specs.Monitor.{rowOf, meaning, tabled}
+use Rattle.synthesis.specs.Monitor.{rowOf, meaning, lookup}
 use Rattle.listing.specs.Text.{digit, decimal}
-use Rattle.listing.specs.Runs.{Run, runs, RunTo}
+use Rattle.listing.specs.Runs.{CodeRun, runs, RunTo}
 use Rattle.listing.specs.Lines.{listing}
 use Rattle.listing.specs.Positions.{extentsOf, linesFrom}
 
@@ -27,25 +27,25 @@ ListsRule =
     → linesFrom (numbered r) table count most 0 ≡ listing (map extentOf (r .patterns)) count table
 
 -- 2. Each run is a longest run of codes with one entry: no code before it or after it can join it.
-pub record Longest (row : List ℕ) (r : Run) : Type 0 where
+pub record Longest (row : List ℕ) (r : CodeRun) : Type 0 where
   pub entry : r .entry ≡ getD row (r .first) 0
   pub reaches : RunTo row (r .first) (r .last)
   pub begins : (c : ℕ) → suc c ≡ r .first → getD row c 0 ≡ r .entry → ⊥
 
 -- some runs, one after the other, of the codes from c up to the end
-abbrev pub InOrder : (c end : ℕ) → List Run → Type 0
-InOrder c end [] = c ≡ end
-InOrder c end (r ∷ rs) = (r .first ≡ c) × InOrder (suc (r .last)) end rs
+abbrev pub Consecutive : (c end : ℕ) → List CodeRun → Type 0
+Consecutive c end [] = c ≡ end
+Consecutive c end (r ∷ rs) = (r .first ≡ c) × Consecutive (suc (r .last)) end rs
 
 -- The runs of a row are such, and cover its codes in order.
 pub record Groups (row : List ℕ) : Type 0 where
   pub longest : All (Longest row) (runs row)
-  pub in-order : InOrder 0 (length row) (runs row)
+  pub consecutive : Consecutive 0 (length row) (runs row)
 
 -- 3. The entry in the line of a run is what the table answers to each of its codes.
 abbrev pub ShowsAnswers : Type 0
 ShowsAnswers =
-    (table : List ℕ) (k : ℕ) → All (λ (r : Run). (c : ℕ) → r .first ≤ c → c ≤ r .last → tabled table k c ≡ meaning 255 (r .entry))
+    (table : List ℕ) (k : ℕ) → All (λ (r : CodeRun). (c : ℕ) → r .first ≤ c → c ≤ r .last → lookup 256 255 table k c ≡ meaning 255 (r .entry))
     (runs (rowOf 256 table k))
 
 -- 4. A number below 10 is one digit. Any other has the digits of n / 10, followed by the digit of n % 10.

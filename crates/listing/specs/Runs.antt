@@ -7,26 +7,26 @@ use lib.Dec.{eqb}
 use lib.ListN.{length, getD}
 
 -- the codes from first to last, with the entry of each
-pub record Run : Type 0 where
+pub record CodeRun : Type 0 where
   pub first : ℕ
   pub last : ℕ
   pub entry : ℕ
 
 -- a run, shorter to write
-abbrev pub run : (first last entry : ℕ) → Run
-run first last entry = record { first = first; last = last; entry = entry }
+abbrev pub codeRun : (first last entry : ℕ) → CodeRun
+codeRun first last entry = record { first = first; last = last; entry = entry }
 
 -- the code c with its entry x before some runs: it joins the first of them if that has the same entry
-abbrev pub joined : (c x : ℕ) → List Run → List Run
-joined c x [] = run c c x ∷ []
-joined c x (r ∷ rs) = cond (eqb x (r .entry)) (run c (r .last) x ∷ rs) (run c c x ∷ (r ∷ rs))
+abbrev pub joined : (c x : ℕ) → List CodeRun → List CodeRun
+joined c x [] = codeRun c c x ∷ []
+joined c x (r ∷ rs) = cond (eqb x (r .entry)) (codeRun c (r .last) x ∷ rs) (codeRun c c x ∷ (r ∷ rs))
 
 -- the runs of the entries of the codes from c on
-abbrev pub runsFrom : (c : ℕ) → List ℕ → List Run
+abbrev pub runsFrom : (c : ℕ) → List ℕ → List CodeRun
 runsFrom c [] = []
 runsFrom c (x ∷ xs) = joined c x (runsFrom (suc c) xs)
 
-abbrev pub runs : List ℕ → List Run
+abbrev pub runs : List ℕ → List CodeRun
 runs row = runsFrom 0 row
 
 -- From `first` on a row has the same entry up to `last`, and no further.

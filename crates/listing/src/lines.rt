@@ -5,7 +5,7 @@ ghost use mathlib.Core.List.{[], _∷_};
 ghost use Prim.Native.Nat.{_≤_};
 ghost use lib.ListN.{length};
 ghost use Rattle.listing.specs.Text.{decimal};
-ghost use Rattle.listing.specs.Runs.{run};
+ghost use Rattle.listing.specs.Runs.{codeRun};
 ghost use Rattle.listing.specs.Lines.{line, refusalLine, patternLine, runLine};
 ghost use Rattle.listing.specs.LineParts.{Prints};
 
@@ -14,7 +14,7 @@ pub(crate) fn counted(word: &[u8], n: usize) -> Line
     requires { ⌜ length (now word) ≤ 16 ⌝ }
     ensures { λ r. ⌜ Prints (line (now (word .entry) ∷ decimal n ∷ [])) r ⌝ }
 {
-    Line::empty().word(word).field(n).ended()
+    Line::empty().word(word).field(n).newline()
 }
 
 // A word alone.
@@ -22,7 +22,7 @@ pub(crate) fn alone(word: &[u8]) -> Line
     requires { ⌜ length (now word) ≤ 16 ⌝ }
     ensures { λ r. ⌜ Prints (line (now (word .entry) ∷ [])) r ⌝ }
 {
-    Line::empty().word(word).ended()
+    Line::empty().word(word).newline()
 }
 
 // Pattern i.
@@ -36,19 +36,19 @@ pub(crate) fn pattern(i: usize, extent: Extent) -> Line
         .field(i)
         .field(lowest)
         .field(count)
-        .ended()
+        .newline()
 }
 
 // A run of equation k.
 pub(crate) fn run(k: usize, first: u8, last: u8, entry: u8) -> Line
-    ensures { λ r. ⌜ Prints (runLine k (run first last entry)) r ⌝ }
+    ensures { λ r. ⌜ Prints (runLine k (codeRun first last entry)) r ⌝ }
 {
     Line::empty()
         .decimal(k)
         .field(first as usize)
         .field(last as usize)
         .entry(entry)
-        .ended()
+        .newline()
 }
 
 // A refusal.
@@ -60,5 +60,5 @@ pub(crate) fn refusal(number: u8, place: usize) -> Line
         .field(number as usize)
         .word(b" at")
         .field(place)
-        .ended()
+        .newline()
 }

@@ -77,7 +77,7 @@ impl Line {
     }
 
     // The line with its end.
-    pub(crate) fn ended(self) -> Self
+    pub(crate) fn newline(self) -> Self
         requires { ⌜ Room self 1 ⌝ }
         ensures { λ r. ⌜ Adds self (text "\n") r ⌝ }
     {

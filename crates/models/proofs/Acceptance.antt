@@ -10,13 +10,13 @@ use Rattle.reading.specs.Rule.{Rule, Bytes}
 use Rattle.reading.specs.File.{Outcome, accepted, refuse, ruleOf}
 use Rattle.reading.proofs.Accepted.{reading-accepts}
 use Rattle.synthesis.specs.Violation.{ViolatesRule}
-use Rattle.synthesis.specs.Answering.{hopeless}
+use Rattle.synthesis.specs.Answering.{unsatisfiable}
 use Rattle.synthesis.specs.Building.{equationsOf, Synthesis, synthesisOf, countedOf}
 use Rattle.synthesis.specs.declared.Counted.the-variants.{Equations, Refused}
-use Rattle.synthesis.proofs.RuleMonitor.{hopeless-iff}
-use Rattle.synthesis.proofs.Synthesized.{made, synthesis-of}
+use Rattle.synthesis.proofs.RuleMonitor.{unsatisfiable-iff}
+use Rattle.synthesis.proofs.Synthesized.{withEquations, synthesis-of}
 use Rattle.synthesis.proofs.Equations.{file-well-formed, answers-count, checks-table, reaches-equations, refuses-too-many}
-use Rattle.synthesis.proofs.Built.{refuses-hopeless}
+use Rattle.synthesis.proofs.Built.{refuses-violated-by-empty}
 use Rattle.models.specs.Model.{Model, Finite, Satisfies}
 use Rattle.models.specs.Phone.{Phone, modelOf, PhoneWithinLimits}
 use Rattle.models.specs.Promises.{Acceptable, AcceptsExactly, RefusesUnsatisfiable}
@@ -52,7 +52,7 @@ unrefused y false false o e eight nine = (length (y .equations), rw e)
 
 module _ (limit : ℕ) (s : List ℕ) (bytes : Bytes s) where
   unrefused-satisfies : (r : Rule) → ruleOf s ≡ accepted r → (countedOf (synthesisOf limit s) ≡ Refused 8 0 → ⊥) → Satisfies still r
-  unrefused-satisfies r read other = still-satisfies r (λ v. other (refuses-hopeless limit s bytes r read .1 v))
+  unrefused-satisfies r read other = still-satisfies r (λ v. other (refuses-violated-by-empty limit s bytes r read .1 v))
 
   -- so some finite model satisfies a rule that isn't refused with 8
   pub satisfiable : (r : Rule) → ruleOf s ≡ accepted r → (countedOf (synthesisOf limit s) ≡ Refused 8 0 → ⊥)
@@ -78,21 +78,21 @@ module _ (limit : ℕ) (s : List ℕ) (bytes : Bytes s) where
 
   module _ (r : Rule) (read : ruleOf s ≡ accepted r) where
     refused-unsatisfiable : countedOf (synthesisOf limit s) ≡ Refused 8 0 → (m : Model) → Satisfies m r → ⊥
-    refused-unsatisfiable e m sat = empty-safe m r sat (refuses-hopeless limit s bytes r read .0 e)
+    refused-unsatisfiable e m sat = empty-safe m r sat (refuses-violated-by-empty limit s bytes r read .0 e)
 
     unsatisfiable-refused : (Satisfies still r → ⊥) → countedOf (synthesisOf limit s) ≡ Refused 8 0
-    unsatisfiable-refused none = refuses-hopeless limit s bytes r read .1 (on (hopeless r) refl)
+    unsatisfiable-refused none = refuses-violated-by-empty limit s bytes r read .1 (on (unsatisfiable r) refl)
       where
-        on : (b : Bool) → hopeless r ≡ b → ViolatesRule r []
-        on true q = hopeless-iff r (file-well-formed s bytes r read) .0 q
-        on false q = absurd (none (still-satisfies r (λ v. true≢false (sym (hopeless-iff r (file-well-formed s bytes r read) .1 v) ∙ q))))
+        on : (b : Bool) → unsatisfiable r ≡ b → ViolatesRule r []
+        on true q = unsatisfiable-iff r (file-well-formed s bytes r read) .0 q
+        on false q = absurd (none (still-satisfies r (λ v. true≢false (sym (unsatisfiable-iff r (file-well-formed s bytes r read) .1 v) ∙ q))))
 
   acceptable-counted : Acceptable limit s → (n : ℕ) × (countedOf (synthesisOf limit s) ≡ Equations n)
   acceptable-counted a =
       let r = a .rule in
       let read : ruleOf s ≡ accepted r = reading-accepts s bytes r .1 (a .within-limits, a .encoded) in
       let eight : countedOf (synthesisOf limit s) ≡ Refused 8 0 → ⊥ = λ e. refused-unsatisfiable r read e (a .model) (a .satisfied) in
-      unrefused (made limit r) (hopeless r) (ltb limit (length (equationsOf limit r))) (synthesisOf limit s) (synthesis-of limit s r read)
+      unrefused (withEquations limit r) (unsatisfiable r) (ltb limit (length (equationsOf limit r))) (synthesisOf limit s) (synthesis-of limit s r read)
       eight (λ e. refuses-too-many limit s r read eight .0 e (a .equations) (a .few) (a .closed))
 
 -- ---- the promises

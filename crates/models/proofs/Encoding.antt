@@ -9,7 +9,7 @@ use lib.Dec.{eqb, ltb}
 use borrow.Author.Tests.{ltb-false, eqb-true, eqb-false, le-ltb, ne-eqb, not-false}
 use Rattle.reading.specs.Rule.{All, Bytes}
 use Rattle.reading.specs.File.{Outcome, accepted, refused}
-use Rattle.reading.specs.declared.Answer.the-variants.{Accepted}
+use Rattle.reading.specs.declared.Acceptance.the-variants.{Accepted}
 use Rattle.reading.proofs.ByteLaws.{bytes-append}
 use Rattle.reading.proofs.Outcomes.{accepted-is, accepted-by, then-accepts, passes}
 use Rattle.reading.proofs.NumberedLaws.{padded-at}

@@ -2,14 +2,14 @@
 use Prim.Native.Nat.{ℕ}
 use mathlib.Core.Path.{_≡_, refl}
 use mathlib.Core.List.{List, _∷_}
-use Rattle.synthesis.specs.Monitor.{Answer, dropped, next, Loses, now, later}
-use Rattle.synthesis.proofs.MonitorLaws.{kept-loses}
+use Rattle.synthesis.specs.Monitor.{Answer, dropped, next, Suppresses, now, later}
+use Rattle.synthesis.proofs.MonitorLaws.{kept-suppresses}
 use Rattle.models.specs.Model.{Label, silent, code, Model, Walk, stay, silent-first, code-first, ByteCodes, Bisimulation}
-use Rattle.models.specs.Model.{Response, PassesKept, silent-step, passed-step, silenced-step, monitored}
+use Rattle.models.specs.Model.{Response, PassesKept, silent-step, passed-step, suppressed-step, monitored}
 use Rattle.models.specs.Promises.{MonitorsEnforce, SoundSatisfies}
 use Rattle.models.proofs.Walks.{walk-bytes}
 use Rattle.models.proofs.SatisfactionLaws.{satisfies-safe}
-use Rattle.models.proofs.Responses.{silenced-dropped}
+use Rattle.models.proofs.Responses.{suppressed-dropped}
 use Rattle.models.proofs.Suppressing.{back}
 use Rattle.models.proofs.Passing.{Passes, passes-silent, passes-code, passes-drop, safe-passes}
 
@@ -20,20 +20,20 @@ module _ {E : Type 0} (answer : E → ℕ → Answer E) (respond : E → ℕ →
 
     -- ---- behind the monitor nothing is dropped
 
-    behind-loses : {x y : behind .State} {w : List ℕ} → Walk behind x w y → Loses answer (x .1) w → ⊥
-    behind-loses {x} k l = let o = back answer respond same first m k in kept-loses answer (x .1) (o .trace) (rw (← o .kept-is) at l)
+    behind-suppresses : {x y : behind .State} {w : List ℕ} → Walk behind x w y → Suppresses answer (x .1) w → ⊥
+    behind-suppresses {x} k l = let o = back answer respond same first m k in kept-suppresses answer (x .1) (o .trace) (rw (← o .kept-is) at l)
 
     behind-codes : ByteCodes m → ByteCodes behind
     behind-codes codes x y c (passed-step {s} {t} h q) = codes s t c h
 
     -- ---- a walk of which nothing is dropped is there behind the monitor
 
-    keeps-walk : {s t : m .State} {e : E} {w : List ℕ} → Walk m s w t → (Loses answer e w → ⊥) → (e′ : E) × Walk behind (s, e) w (t, e′)
+    keeps-walk : {s t : m .State} {e : E} {w : List ℕ} → Walk m s w t → (Suppresses answer e w → ⊥) → (e′ : E) × Walk behind (s, e) w (t, e′)
     keeps-walk {e = e} stay none = (e, stay)
     keeps-walk (silent-first h k) none = let (e′, j) = keeps-walk k none in (e′, silent-first (silent-step h) j)
     keeps-walk {e = e} (code-first {s} {t} {u} {c} {w} h k) none = on (answer e c) refl (λ e′. keeps-walk {e = e′} k)
       where
-        on : (a : Answer E) → answer e c ≡ a → ((e′ : E) → (Loses answer e′ w → ⊥) → (e″ : E) × Walk behind (t, e′) w (u, e″))
+        on : (a : Answer E) → answer e c ≡ a → ((e′ : E) → (Suppresses answer e′ w → ⊥) → (e″ : E) × Walk behind (t, e′) w (u, e″))
             → (e″ : E) × Walk behind (s, e) (c ∷ w) (u, e″)
         on dropped q rest = absurd (none (now q))
         on (next e′) q rest = let (e″, j) = rest e′ (λ l. none (later q l)) in (e″, code-first (passed-step h (same e e′ c .1 q)) j)
@@ -58,8 +58,8 @@ module _ {E : Type 0} (answer : E → ℕ → Answer E) (respond : E → ℕ →
     beside-back s x x′ a (beside passes) (silent-step {t = t} h) = (t, h, beside (passes-silent answer m h passes))
     beside-back s x x′ a (beside passes) (passed-step {t = t} {c} {e} {e′} h q) =
         (t, h, beside (passes-code answer m h (same e e′ c .0 q) passes))
-    beside-back s x x′ a (beside passes) (silenced-step {c = c} {e} h q) =
-        absurd (passes-drop answer m h (silenced-dropped respond answer same e c q) passes)
+    beside-back s x x′ a (beside passes) (suppressed-step {c = c} {e} h q) =
+        absurd (passes-drop answer m h (suppressed-dropped respond answer same e c q) passes)
 
     besides : Bisimulation m behind Beside
     besides = record { forth = beside-forth; back = beside-back }
@@ -68,7 +68,7 @@ pub sound-satisfies : SoundSatisfies
 sound-satisfies E r answer first sound respond same m codes =
     let y = behind answer respond same m first in
     satisfies-safe y r .1 (λ w x k v.
-    behind-loses answer respond same m first k (sound w (walk-bytes y (behind-codes answer respond same m first codes) k) v))
+    behind-suppresses answer respond same m first k (sound w (walk-bytes y (behind-codes answer respond same m first codes) k) v))
 
 pub monitors-enforce : MonitorsEnforce
 monitors-enforce E r answer first monitors respond same m codes = record {

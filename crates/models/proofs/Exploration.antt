@@ -8,13 +8,13 @@ use native.Mathlib.Decide.{decLt}
 use native.Mathlib.Omega.{arith}
 use lib.ListN.{getD, replicate}
 use Rattle.reading.proofs.NumberedLaws.{repeated-at}
-use Rattle.synthesis.specs.Monitor.{entry}
+use Rattle.synthesis.specs.Monitor.{lookup}
 use Rattle.running.specs.Running.{WellFormedTable}
 use Rattle.models.specs.Model.{Label}
 use Rattle.models.specs.Phone.{Phone, noStep, labelOf, StepIn, modelOf, WellFormedStep}
-use Rattle.models.specs.Exploring.{Reached, begin, silently, keeping, NeverDrops}
-use Rattle.models.specs.Exploring.{OnChain, Seen, Noted, Leaves, equationAfter, LeadsOn, Done, ExpandedTo}
-use Rattle.models.specs.Searching.{OfPhone, rowAt, ReachedPair, Complete, Explored, Searched}
+use Rattle.models.specs.Exploring.{PairReached, begin, silently, keeping, NeverDrops}
+use Rattle.models.specs.Exploring.{OnChain, Seen, Enqueued, Leaves, equationAfter, LeadsOn, Done, ExpandedTo}
+use Rattle.models.specs.Searching.{OfPhone, rowAt, NumberReached, Complete, Explored, Searched}
 use Rattle.models.specs.declared.Step.{Step}
 use Rattle.models.specs.declared.links.Links.{Links}
 use Rattle.models.proofs.Chains.{no-chain, step-of, of-step}
@@ -41,8 +41,8 @@ module _ (steps : List Step) (l : Links) (table : List ℕ) (steps-range : (i : 
         (leads-inside (rowAt table pair) (pair / 64) (getD steps (h .step) noStep .label) count
         (row-in-range 128 count table wf (pair / 64) inside count (omega arith)) inside (steps-range (h .step) .label) (h .kept))
 
-    next-reached : (y : Phone) → OfPhone steps l y → ReachedPair table y pair
-        → (p : ℕ) → LeadsOn steps l (rowAt table pair) pair p → ReachedPair table y p
+    next-reached : (y : Phone) → OfPhone steps l y → NumberReached table y pair
+        → (p : ℕ) → LeadsOn steps l (rowAt table pair) pair p → NumberReached table y p
     next-reached y has reached p h =
         rw (leads-to p h .0, leads-to p h .1)
         (reached-on table (modelOf y) (pair % 64) _ (pair / 64) (getD steps (h .step) noStep .label) reached
@@ -50,18 +50,18 @@ module _ (steps : List Step) (l : Links) (table : List ℕ) (steps-range : (i : 
 
   -- ---- the first pair, and one more
 
-  pub explored-none : (seen pairs : List ℕ) (found : ℕ) → Noted 0 (replicate 8192 0) (replicate 8192 0) 0 seen pairs found
+  pub explored-none : (seen pairs : List ℕ) (found : ℕ) → Enqueued 0 (replicate 8192 0) (replicate 8192 0) 0 seen pairs found
       → Explored steps l table seen pairs found 0
-  explored-none seen pairs found noted = record {
-    worklist = noted .grown .worklist;
-    begun = noted .is-seen;
+  explored-none seen pairs found enqueued = record {
+    worklist = enqueued .grown .worklist;
+    begun = enqueued .is-seen;
     inside = λ count wf p h. rw (only p h) (omega (arith, wf .some));
     reached = λ y has p h. rw (only p h) begin;
     complete = λ k h. absurd (omega arith);
   }
     where
       only : (p : ℕ) → Seen seen p → p ≡ 0
-      only p h = first (noted .grown .adds p h)
+      only p h = first (enqueued .grown .adds p h)
         where
           first : Seen (replicate 8192 0) p ⊎ (p ≡ 0) → p ≡ 0
           first (inl z) = absurd (omega (arith, z, repeated-at {A = ℕ} 0 8192 p))
@@ -84,7 +84,7 @@ module _ (steps : List Step) (l : Links) (table : List ℕ) (steps-range : (i : 
       inside count wf p (inr h) =
           next-inside pair count wf (explored .inside count wf pair pair-seen) p h
 
-      reached : (y : Phone) → OfPhone steps l y → (p : ℕ) → Added p → ReachedPair table y p
+      reached : (y : Phone) → OfPhone steps l y → (p : ℕ) → Added p → NumberReached table y p
       reached y has p (inl h) = explored .reached y has p h
       reached y has p (inr h) = next-reached pair y has (explored .reached y has pair pair-seen) p h
 
@@ -156,7 +156,7 @@ module _ (steps : List Step) (l : Links) (table : List ℕ) (steps-range : (i : 
           is-seen = rw (equation, to-is) at (d .is-seen);
         }
 
-    reached-seen : {s e : ℕ} → Reached (entry 256 255 table) 0 (modelOf y) s e → (s < 64) × Seen seen (64 * e + s)
+    reached-seen : {s e : ℕ} → PairReached (lookup 256 255 table) 0 (modelOf y) s e → (s < 64) × Seen seen (64 * e + s)
     reached-seen begin = (omega arith, explored .begun)
     reached-seen (silently {s} {t} {e} r step) =
         let h = reached-seen r in
@@ -167,7 +167,7 @@ module _ (steps : List Step) (l : Links) (table : List ℕ) (steps-range : (i : 
         let f = follow s e (h .0) (h .1) _ t step in
         (f .target, rw (follows table e (f .label) c e′ (f .label-is) answer) at (f .is-seen))
 
-    pub ends-well : (false ≡ false) ↔ NeverDrops (entry 256 255 table) 0 (modelOf y)
+    pub ends-well : (false ≡ false) ↔ NeverDrops (lookup 256 255 table) 0 (modelOf y)
     ends-well = (
       λ _ s t e c r step answer.
           let h = reached-seen r in

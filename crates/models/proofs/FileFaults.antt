@@ -11,7 +11,7 @@ use borrow.Author.Tests.{ltb-true, leb-true, leb-false, eqb-true, eqb-false, le-
 use Rattle.reading.specs.Faults.{KindAt}
 use Rattle.reading.specs.Rule.{Bytes}
 use Rattle.reading.specs.File.{Outcome, accepted, refused, refuse, andThen}
-use Rattle.reading.specs.declared.Answer.the-variants.{Refused}
+use Rattle.reading.specs.declared.Acceptance.the-variants.{Refused}
 use Rattle.models.specs.Phone.{Phone, statesOf, among, endingAt, stepAt, recordLength, stepsAt, phoneOf}
 use Rattle.models.specs.Judging.{modelReadingOf}
 use Rattle.models.specs.Faults.{ModelBefore, BeginsModel, IsCount, IsStep, afterStep}

@@ -7,12 +7,12 @@ use native.Mathlib.Omega.{arith}
 use lib.ListN.{length, set, length-append}
 use Rattle.reading.specs.Rule.{Bytes}
 use Rattle.reading.specs.File.{Outcome, accepted, refused, andThen}
-use Rattle.reading.specs.declared.Answer.{Answer}
-use Rattle.reading.specs.declared.Answer.the-variants.{Accepted, Refused}
+use Rattle.reading.specs.declared.Acceptance.{Acceptance}
+use Rattle.reading.specs.declared.Acceptance.the-variants.{Accepted, Refused}
 use Rattle.reading.proofs.Heads.{set-padded}
 use Rattle.reading.proofs.NumberedLaws.{padded-long}
 use Rattle.models.specs.Phone.{noStep, statesOf, stepAt, recordLength, withStep, stepsAt, phoneOf}
-use Rattle.models.specs.Loading.{prepend, Begun, LoadedAs, NextRead}
+use Rattle.models.specs.Loading.{prepend, StepsBegun, LoadedAs, NextRead}
 use Rattle.models.specs.Judging.{blank, modelReadingOf}
 use Rattle.models.specs.Readings.{statesRead, stepRead, statesAnswer, stepAnswer}
 use Rattle.models.specs.declared.Step.{Step}
@@ -56,16 +56,16 @@ prepend-one done x (refused number place) = refl
 
 -- ---- what is read so far
 
-pub none-begun : (f : List ℕ) (states : ℕ) → Bytes f → Begun f states (blank .steps) 0 2
+pub none-begun : (f : List ℕ) (states : ℕ) → Bytes f → StepsBegun f states (blank .steps) 0 2
 none-begun f states bytes =
     record { done = []; counted = refl; few = omega arith; stored = refl; are-bytes = bytes; rest = prepend-none _ }
 
-module _ {f : List ℕ} {states : ℕ} {steps : List Step} {n at : ℕ} (b : Begun f states steps n at) where
+module _ {f : List ℕ} {states : ℕ} {steps : List Step} {n at : ℕ} (b : StepsBegun f states steps n at) where
   pub begun-length : length steps ≡ 512
   begun-length = rw (b .stored) (padded-long noStep 512 (b .done) (omega (arith, b .few, b .counted)))
 
   one-begun : (x : Step) → at < length f → 0 < 512 - n → stepAt f states at (512 - n) ≡ accepted x
-      → Begun f states (set steps n x) (n + 1) (at + recordLength x)
+      → StepsBegun f states (set steps n x) (n + 1) (at + recordLength x)
   one-begun x inside some-left e =
       let left : 512 - n ≡ suc (512 - (n + 1)) = omega arith in
       let more = stepsAt (512 - (n + 1)) f states (at + recordLength x) in
@@ -81,10 +81,10 @@ module _ {f : List ℕ} {states : ℕ} {steps : List Step} {n at : ℕ} (b : Beg
 
   -- ---- the ways out of `next_step`
 
-  ends : (answer : Answer) → LoadedAs (stepsAt 512 f states 2) steps answer n
+  ends : (answer : Acceptance) → LoadedAs (stepsAt 512 f states 2) steps answer n
       → (next : Next) → next ≡ record { more = false; answer = answer; step = noStep; n = n; at = 0 } → NextRead f states steps n next
   ends answer loaded next is =
-      rw is record { number-is = refl; one-more = λ e. absurd (let z : _≡_ {A = ℕ} 0 1 = cc in omega arith); ended = λ _. loaded }
+      rw is record { number-is = refl; one-more = λ e. absurd (let z : _≡_ {A = ℕ} 0 1 = cc in omega arith); at-end = λ _. loaded }
 
   pub all-read : length f ≤ at → (next : Next) → next ≡ record { more = false; answer = Accepted; step = noStep; n = n; at = 0 }
       → NextRead f states steps n next
@@ -93,7 +93,7 @@ module _ {f : List ℕ} {states : ℕ} {steps : List Step} {n at : ℕ} (b : Beg
       ends Accepted (rw whole (refl, b .stored, sym (b .counted)))
 
   pub step-refused : at < length f → (found : StepRead) → found ≡ stepRead (stepAt f states at (512 - n))
-      → {number place : ℕ} → found ≡ StepRead′.Refused number place → (a : Answer) → a ≡ stepAnswer found
+      → {number place : ℕ} → found ≡ StepRead′.Refused number place → (a : Acceptance) → a ≡ stepAnswer found
       → (next : Next) → next ≡ record { more = false; answer = a; step = noStep; n = n; at = 0 } → NextRead f states steps n next
   step-refused inside found is {number} {place} e a is-a =
       let here : stepAt f states at (512 - n) ≡ refused number place = no-step-found _ (sym e ∙ is) in
@@ -107,14 +107,14 @@ module _ {f : List ℕ} {states : ℕ} {steps : List Step} {n at : ℕ} (b : Beg
       record {
         number-is = refl;
         one-more = λ _. one-begun x inside some-left e;
-        ended = λ e. absurd (let z : _≡_ {A = ℕ} 0 1 = cc in omega arith);
+        at-end = λ e. absurd (let z : _≡_ {A = ℕ} 0 1 = cc in omega arith);
       }
 
 -- ---- the ways out of `read_model`
 
 module _ (f : List ℕ) (found : StatesRead) (is : found ≡ statesRead (statesOf f)) where
   pub states-refused : {number place : ℕ} → found ≡ StatesRead′.Refused number place
-      → (a : Answer) → a ≡ statesAnswer found → (r : ModelReading) → r ≡ record { answer = a; model = blank } → r ≡ modelReadingOf (phoneOf f)
+      → (a : Acceptance) → a ≡ statesAnswer found → (r : ModelReading) → r ≡ record { answer = a; model = blank } → r ≡ modelReadingOf (phoneOf f)
   unfolding phoneOf
   states-refused e a is-a r is-r = is-r ∙ rw (no-states-found (statesOf f) (sym e ∙ is), is-a, e)
 

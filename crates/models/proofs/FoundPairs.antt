@@ -12,7 +12,7 @@ use lib.Seq.{getD-set-same, getD-set-other}
 use borrow.Author.Tests.{eqb-true, eqb-false}
 use Rattle.reading.proofs.NumberedLaws.{repeated-at}
 use Rattle.running.specs.Running.{occurrences}
-use Rattle.models.specs.Exploring.{Seen, Worklist, Grown, Noted}
+use Rattle.models.specs.Exploring.{Seen, Worklist, Grown, Enqueued}
 use Rattle.models.proofs.Occurrences.{occurrences-few, occurrences-set, occurrences-none}
 
 module _ (seen pairs : List ℕ) (found : ℕ) (w : Worklist seen pairs found) where
@@ -22,8 +22,8 @@ module _ (seen pairs : List ℕ) (found : ℕ) (w : Worklist seen pairs found) w
   pub grown-same : (P : ℕ → Type 0) → Grown P seen pairs found seen pairs found
   grown-same P = record { worklist = w; more = omega arith; keeps = λ p h. h; adds = λ p h. inl h; same = λ i h. refl }
 
-  pub noted-old : (pair : ℕ) → Seen seen pair → Noted pair seen pairs found seen pairs found
-  noted-old pair h = record { grown = grown-same (λ p. p ≡ pair); is-seen = h }
+  pub enqueued-old : (pair : ℕ) → Seen seen pair → Enqueued pair seen pairs found seen pairs found
+  enqueued-old pair h = record { grown = grown-same (λ p. p ≡ pair); is-seen = h }
 
   module _ (pair : ℕ) (inside : pair < 8192) (new : Seen seen pair → ⊥) where
     one-more : occurrences 1 (set seen pair 1) ≡ suc found
@@ -63,8 +63,8 @@ module _ (seen pairs : List ℕ) (found : ℕ) (w : Worklist seen pairs found) w
         on (yes a) = rw (same i a) (keeps (getD pairs i 0) (w .marked i a))
         on (no a) = let e : i ≡ found = omega arith in rw (e, last) seen-now
 
-    pub noted-new : Noted pair seen pairs found (set seen pair 1) (set pairs found pair) (found + 1)
-    noted-new = record {
+    pub enqueued-new : Enqueued pair seen pairs found (set seen pair 1) (set pairs found pair) (found + 1)
+    enqueued-new = record {
       grown = record {
         worklist = record {
           seen-length = length-set seen pair 1 ∙ w .seen-length;

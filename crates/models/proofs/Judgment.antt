@@ -8,8 +8,8 @@ use native.Mathlib.Omega.{arith}
 use lib.ListN.{length}
 use Rattle.reading.specs.Rule.{Rule, Bytes}
 use Rattle.reading.specs.File.{Outcome, accepted, refused, ruleOf}
-use Rattle.reading.specs.declared.Answer as Answer′
-use Rattle.synthesis.specs.Monitor.{entry}
+use Rattle.reading.specs.declared.Acceptance as Acceptance′
+use Rattle.synthesis.specs.Monitor.{lookup}
 use Rattle.synthesis.specs.Building.{Synthesis, buildingOf, countedOf, tableAfter}
 use Rattle.synthesis.specs.declared.Counted.{Counted}
 use Rattle.synthesis.specs.declared.Counted.the-variants.{Equations, Refused}
@@ -58,12 +58,12 @@ module _ (s table f : List ℕ) where
   model-second e q = refused-judges (rw (e, q))
 
   pub judges-model-refused : {reading : ModelReading} {number place : ℕ} {r : Judged} → reading ≡ modelReadingOf (phoneOf f)
-      → reading .answer ≡ Answer′.the-variants.Refused number place
+      → reading .answer ≡ Acceptance′.the-variants.Refused number place
       → r ≡ refusalBefore (countedOf (buildingOf 128 s (length table))) (reading .answer) → Judges r table
   judges-model-refused {reading} {number} {place} {r} read told e = on (buildingOf 128 s (length table)) refl (rw told at e)
     where
       on : (o : Outcome Synthesis) → buildingOf 128 s (length table) ≡ o
-          → r ≡ refusalBefore (countedOf o) (Answer′.the-variants.Refused number place) → Judges r table
+          → r ≡ refusalBefore (countedOf o) (Acceptance′.the-variants.Refused number place) → Judges r table
       on (accepted y) built e =
           rw e (model-second built (model-refused (phoneOf f) number place .1 (sym (ap (λ (x : ModelReading). x .answer) read) ∙ told)))
       on (refused number′ place′) built e = rw e (rule-first built)
@@ -91,7 +91,7 @@ module _ (s table f : List ℕ) where
     pub is-stored : model ≡ stored phone
 
   pub both-accepted : {reading : ModelReading} {built : Counted} {after : List ℕ} (n : ℕ) → Bytes s → Bytes f
-      → reading ≡ modelReadingOf (phoneOf f) → reading .answer ≡ Answer′.the-variants.Accepted
+      → reading ≡ modelReadingOf (phoneOf f) → reading .answer ≡ Acceptance′.the-variants.Accepted
       → built ≡ countedOf (buildingOf 128 s (length table)) → after ≡ tableAfter 255 (buildingOf 128 s (length table)) table
       → built ≡ Equations n → Accepts after (reading .model)
   both-accepted n rule-bytes bytes read told is left counted =
@@ -122,22 +122,22 @@ module _ (s table f : List ℕ) where
 
     -- nothing is dropped exactly where the model satisfies the rule
     never-drops-satisfies :
-        NeverDrops (entry 256 255 after) 0 (modelOf (a .phone)) ↔ SatisfiesDecided (modelOf (a .phone)) (a .rule)
+        NeverDrops (lookup 256 255 after) 0 (modelOf (a .phone)) ↔ SatisfiesDecided (modelOf (a .phone)) (a .rule)
     never-drops-satisfies =
         let m = modelOf (a .phone) in
         let monitors = table-monitors 128 255 s table (a .rule) (a .count) (omega arith) (a .rule-bytes) (a .rule-is) (a .counted) in
-        let safe = never-drops-safe ℕ (a .rule) (entry 256 255 after) 0 (rw (a .left) monitors) m (phone-codes (a .phone) (a .within-limits .well-formed)) in
+        let safe = never-drops-safe ℕ (a .rule) (lookup 256 255 after) 0 (rw (a .left) monitors) m (phone-codes (a .phone) (a .within-limits .well-formed)) in
         let satisfies = satisfies-safe m (a .rule) in
         let decided = decided-satisfies (a .phone) (a .rule) in
         (λ never. decided .1 (satisfies .1 (safe .0 never)), λ sat. safe .1 (satisfies .0 (decided .0 sat)))
 
     module _ {r : Bool}
-        (never : (y : Phone) → model ≡ stored y → (r ≡ true) ↔ NeverDrops (entry 256 255 after) 0 (modelOf y)) where
+        (never : (y : Phone) → model ≡ stored y → (r ≡ true) ↔ NeverDrops (lookup 256 255 after) 0 (modelOf y)) where
       case : judgingOf 128 s (length table) f ≡ accepted (record { rule = a .rule; phone = a .phone })
       case = judging-case 128 s f (length table) (a .rule) (a .count) (a .phone) (a .rule-is) (a .counted) (a .phone-is)
 
       -- the answer of the search
-      searched : (r ≡ true) ↔ NeverDrops (entry 256 255 after) 0 (modelOf (a .phone))
+      searched : (r ≡ true) ↔ NeverDrops (lookup 256 255 after) 0 (modelOf (a .phone))
       searched = never (a .phone) (a .is-stored)
 
       pub judges-meets : r ≡ true → Judges Judged′.the-variants.Meets after

@@ -9,14 +9,14 @@ use lib.Dec.{eqb}
 use lib.ListN.{length, getD, drop, length-take, length-drop}
 use borrow.Author.Tests.{eqb-true, eqb-false, eq-eqb, ne-eqb}
 use Rattle.reading.proofs.ListLaws.{getD-inside}
-use Rattle.synthesis.specs.Monitor.{dropped, next, rowOf, meaning, entry}
+use Rattle.synthesis.specs.Monitor.{dropped, next, rowOf, meaning, lookup}
 use Rattle.synthesis.specs.Promises.{RowInRange}
 use Rattle.synthesis.proofs.Rows.{row-is}
 use Rattle.running.specs.Running.{WellFormedTable}
 use Rattle.synthesis.proofs.Rows.{row-at}
 use Rattle.models.specs.Model.{silent, code, Model}
 use Rattle.models.specs.Phone.{labelOf}
-use Rattle.models.specs.Exploring.{Reached, silently, keeping, NeverDrops, leadsTo}
+use Rattle.models.specs.Exploring.{PairReached, silently, keeping, NeverDrops, leadsTo}
 use Rattle.models.proofs.PhoneCodes.{label-silent, label-code}
 
 -- ---- entries
@@ -89,33 +89,33 @@ module _ (table : List ℕ) where
     by-code : (c : ℕ) → labelOf label ≡ code c → stepsTo e label ≡ getD (rowOf 256 table e) c 255
     by-code c h = let x = label-code label c h in rw (← x .0) (leads-by-code (rowOf 256 table e) e label (x .1))
 
-    pub follows : (c e′ : ℕ) → labelOf label ≡ code c → entry 256 255 table e c ≡ next e′ → stepsTo e label ≡ e′
+    pub follows : (c e′ : ℕ) → labelOf label ≡ code c → lookup 256 255 table e c ≡ next e′ → stepsTo e label ≡ e′
     follows c e′ h q = by-code c h ∙ meaning-next 255 (getD (rowOf 256 table e) c 255) e′ q
 
-    pub is-dropped : (c : ℕ) → labelOf label ≡ code c → entry 256 255 table e c ≡ dropped → stepsTo e label ≡ 255
+    pub is-dropped : (c : ℕ) → labelOf label ≡ code c → lookup 256 255 table e c ≡ dropped → stepsTo e label ≡ 255
     is-dropped c h q = by-code c h ∙ meaning-dropped 255 (getD (rowOf 256 table e) c 255) q
 
   -- ---- from pairs that are reached
 
-  module _ (m : Model) (s t : m .State) (e label : ℕ) (reached : Reached (entry 256 255 table) 0 m s e)
+  module _ (m : Model) (s t : m .State) (e label : ℕ) (reached : PairReached (lookup 256 255 table) 0 m s e)
       (step : m .Step s (labelOf label) t) where
     abbrev x : ℕ
     x = getD (rowOf 256 table e) label 255
 
-    pub reached-on : (stepsTo e label ≡ 255 → ⊥) → Reached (entry 256 255 table) 0 m t (stepsTo e label)
+    pub reached-on : (stepsTo e label ≡ 255 → ⊥) → PairReached (lookup 256 255 table) 0 m t (stepsTo e label)
     reached-on kept = on (eqb label 256) refl
       where
-        on : (b : Bool) → eqb label 256 ≡ b → Reached (entry 256 255 table) 0 m t (stepsTo e label)
+        on : (b : Bool) → eqb label 256 ≡ b → PairReached (lookup 256 255 table) 0 m t (stepsTo e label)
         on true q = rw q (silently reached (rw q at step))
         on false q =
-            let answer : entry 256 255 table e label ≡ next x = rw (ne-eqb x 255 (rw q at kept)) in
+            let answer : lookup 256 255 table e label ≡ next x = rw (ne-eqb x 255 (rw q at kept)) in
             rw q (keeping reached (rw q at step) answer)
 
-    pub drops-one : e < 255 → stepsTo e label ≡ 255 → NeverDrops (entry 256 255 table) 0 m → ⊥
+    pub drops-one : e < 255 → stepsTo e label ≡ 255 → NeverDrops (lookup 256 255 table) 0 m → ⊥
     drops-one inside h never = on (eqb label 256) refl
       where
         on : (b : Bool) → eqb label 256 ≡ b → ⊥
         on true q = let z : e ≡ 255 = rw q at h in omega arith
         on false q =
-            let answer : entry 256 255 table e label ≡ dropped = rw (eq-eqb x 255 (rw q at h)) in
+            let answer : lookup 256 255 table e label ≡ dropped = rw (eq-eqb x 255 (rw q at h)) in
             never s t e label reached (rw q at step) answer

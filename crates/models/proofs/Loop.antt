@@ -35,5 +35,5 @@ pub loops-down : {M : Type 1} {𝓤 : URA M} {H : Heap 𝓤} {A : Atoms 𝓤} {K
     (I : X → List (Item 𝓤)) {E : Env 𝓤 H} {b rest : Body} {P : Val → SProp 𝓤}
     → ((t : X) → Seq K W (I t) (runs (𝓣 .C) (𝓣 .Λ) E b (anyQ (afterTurn 𝓤 H (Below 𝓤 H A (Less m) I t) (AfterLoop 𝓤 H 𝓣 E rest P)))))
     → (t : X) → Seq K W (I t) (runs (𝓣 .C) (𝓣 .Λ) E (seq (block (loop b)) rest) (atRet E P))
-loops-down {M} {𝓤} {H} k 𝓣 m I {E} {b} {rest} {P} turn t =
-    first k $ blocks k $ loops k 𝓣 (Less m) (InvImage·wf m (Nat·lt-wfRel .wf)) I {q = anyQ (AfterLoop 𝓤 H 𝓣 E rest P)} turn t
+loops-down {M} {𝓤} {H} k 𝓣 m I {E} {b} {rest} {P} iteration t =
+    first k $ blocks k $ loops k 𝓣 (Less m) (InvImage·wf m (Nat·lt-wfRel .wf)) I {q = anyQ (AfterLoop 𝓤 H 𝓣 E rest P)} iteration t

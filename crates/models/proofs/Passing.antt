@@ -5,7 +5,7 @@ use mathlib.Core.Path.{_≡_}
 use mathlib.Core.Logic.{_↔_}
 use mathlib.Core.List.{List, [], _∷_}
 use Rattle.reading.specs.Rule.{Rule}
-use Rattle.synthesis.specs.Monitor.{Answer, dropped, next, Loses, now, later, Monitors}
+use Rattle.synthesis.specs.Monitor.{Answer, dropped, next, Suppresses, now, later, Monitors}
 use Rattle.models.specs.Model.{silent, code, Model, Walk, stay, silent-first, code-first, ByteCodes}
 use Rattle.models.specs.Promises.{Safe}
 use Rattle.models.proofs.Walks.{walk-bytes}
@@ -13,7 +13,7 @@ use Rattle.models.proofs.Walks.{walk-bytes}
 module _ {E : Type 0} (answer : E → ℕ → Answer E) (m : Model) where
   -- the monitor, in the equation e, drops nothing of any walk from s
   abbrev pub Passes : E → m .State → Type 0
-  Passes e s = (w : List ℕ) (t : m .State) → Walk m s w t → Loses answer e w → ⊥
+  Passes e s = (w : List ℕ) (t : m .State) → Walk m s w t → Suppresses answer e w → ⊥
 
   pub passes-silent : {s t : m .State} {e : E} → m .Step s silent t → Passes e s → Passes e t
   passes-silent h passes w u k = passes w u (silent-first h k)

@@ -2,7 +2,7 @@
 use Prim.Native.Nat.{ℕ, _≤_, _<_}
 use mathlib.Core.Path.{_≡_}
 use mathlib.Core.List.{List}
-use Rattle.reading.specs.declared.Answer.{Answer}
+use Rattle.reading.specs.declared.Acceptance.{Acceptance}
 use Rattle.synthesis.specs.Building.{synthesisOf, buildingOf, countedOf}
 use Rattle.synthesis.specs.declared.Counted.{Counted}
 use Rattle.synthesis.specs.declared.Counted.the-variants.{Equations, Refused}
@@ -11,7 +11,7 @@ use Rattle.models.specs.Readings.{ruleRefusal, modelRefusal, refusalBefo
 use Rattle.models.specs.declared.Judged.{Judged}
 use Rattle.models.specs.declared.Judged as Judged′
 
-module _ (s : List ℕ) (size : ℕ) (answer : Answer) where
+module _ (s : List ℕ) (size : ℕ) (answer : Acceptance) where
   -- the answer to a model that is refused
   abbrev Refuses : Judged → Type 0
   Refuses r = r ≡ refusalBefore (countedOf (buildingOf 128 s size)) answer

@@ -9,11 +9,11 @@ use native.Mathlib.Omega.{arith}
 use lib.ListN.{length, getD, replicate}
 use borrow.Author.Tests.{not-true}
 use Rattle.synthesis.specs.Promises.{RowInRange}
-use Rattle.synthesis.specs.Monitor.{entry}
+use Rattle.synthesis.specs.Monitor.{lookup}
 use Rattle.running.specs.Running.{WellFormedTable}
 use Rattle.models.specs.Phone.{Phone, noStep, modelOf}
 use Rattle.models.specs.Judging.{stored}
-use Rattle.models.specs.Exploring.{NeverDrops, HasPhone, Linked, LinksInRange, Worklist, Noted, leadsTo, equationAfter, ExpandedTo}
+use Rattle.models.specs.Exploring.{NeverDrops, HasPhone, Linked, LinksInRange, Worklist, Enqueued, leadsTo, equationAfter, ExpandedTo}
 use Rattle.models.specs.Searching.{NextPair, rowAt, Complete, Explored, Expanding, Searchable, Searched, Searching}
 use Rattle.models.specs.declared.Step.{Step}
 use Rattle.models.specs.declared.PhoneModel.{PhoneModel}
@@ -29,25 +29,25 @@ use Rattle.models.proofs.Exploration.{explored-none, pair-seen, explore
 module _ {steps : List Step} {l : Links} {table : List ℕ} (searchable : Searchable steps l table) where
   -- ---- the next pair with a step
 
-  module _ {seen pairs : List ℕ} {found turn : ℕ} (explored : Explored steps l table seen pairs found turn) where
+  module _ {seen pairs : List ℕ} {found index : ℕ} (explored : Explored steps l table seen pairs found index) where
     -- pairs whose states have no step are expanded as they are
-    explored-past : (n : ℕ) → turn ≤ n → ((k : ℕ) → turn ≤ k → k < n → getD (l .last) (getD pairs k 0 % 64) 0 ≡ 0)
+    explored-past : (n : ℕ) → index ≤ n → ((k : ℕ) → index ≤ k → k < n → getD (l .last) (getD pairs k 0 % 64) 0 ≡ 0)
         → Explored steps l table seen pairs found n
     explored-past n more passed = record {
       worklist = explored .worklist;
       begun = explored .begun;
       inside = explored .inside;
       reached = explored .reached;
-      complete = λ k h. on k h (decLt k turn);
+      complete = λ k h. on k h (decLt k index);
     }
       where
-        on : (k : ℕ) → k < n → Dec (k < turn) → Complete steps l table seen (getD pairs k 0)
+        on : (k : ℕ) → k < n → Dec (k < index) → Complete steps l table seen (getD pairs k 0)
         on k h (yes a) = explored .complete k a
         on k h (no a) = λ i leaves. absurd (no-chain (rw (passed k (omega arith) h) at leaves))
 
-    module _ {r : Cursor} (next : NextPair (l .last) pairs turn found r) where
-      past : Explored steps l table seen pairs found (r .turn)
-      past = explored-past (r .turn) (next .not-before) (next .passed)
+    module _ {r : Cursor} (next : NextPair (l .last) pairs index found r) where
+      past : Explored steps l table seen pairs found (r .index)
+      past = explored-past (r .index) (next .not-before) (next .passed)
 
       few : Dec (0 < r .step) → r .step ≤ 512
       few (yes h) = omega (arith, next .begins h .2, searchable .links-range .last-range (r .pair % 64))
@@ -69,8 +69,8 @@ module _ {steps : List Step} {l : Links} {table : List ℕ} (searchable : Search
           expanded = rw (next .same-found, next .begins h .2)
               (none-expanded steps l (rowAt table (r .pair)) (r .pair) seen pairs found (explored .worklist));
         };
-        ended = λ z. rw (next .none-dropped)
-            (ends-well steps l table (searchable .steps-range) seen pairs found (r .turn) past (omega (arith, next .ends z)));
+        finished = λ z. rw (next .none-dropped)
+            (ends-well steps l table (searchable .steps-range) seen pairs found (r .index) past (omega (arith, next .ends z)));
       }
 
 -- ---- following a step
@@ -82,7 +82,7 @@ module _ {steps : List Step} {l : Links} {table seen pairs : List ℕ} {at : Cur
 
   -- the pair whose turn it is, in the list
   abbrev listed : ℕ
-  listed = getD (here .pairs₀) (at .turn) 0
+  listed = getD (here .pairs₀) (at .index) 0
 
   abbrev UpTo : (pair step : ℕ) → (seen pairs : List ℕ) → (found : ℕ) → Type 0
   UpTo pair = ExpandedTo steps l (rowAt table pair) pair (here .seen₀) (here .pairs₀) (here .found₀)
@@ -96,11 +96,11 @@ module _ {steps : List Step} {l : Links} {table seen pairs : List ℕ} {at : Cur
       (here .explored .inside _ (s .searchable .well-formed) _
       (pair-seen steps l table (s .searchable .steps-range) _ _ _ _ (here .explored) (here .more)))
 
-  pub turn-inside : at .turn < 8192
-  turn-inside = omega (arith, here .more, found-few _ _ _ (here .explored .worklist))
+  pub index-inside : at .index < 8192
+  index-inside = omega (arith, here .more, found-few _ _ _ (here .explored .worklist))
 
-  pub turn-before : at .turn < at .found
-  turn-before = omega (arith, here .more, here .expanded .grown .more)
+  pub index-before : at .index < at .found
+  index-before = omega (arith, here .more, here .expanded .grown .more)
 
   pub worklist : Worklist seen pairs (at .found)
   worklist = here .expanded .grown .worklist
@@ -134,31 +134,31 @@ module _ {steps : List Step} {l : Links} {table seen pairs : List ℕ} {at : Cur
           (omega (arith, equation-inside, s .searchable .well-formed .few)) label-inside (λ e. kept (leads ∙ e)))
 
       pub followed-dropped : next ≡ 255
-          → Searching steps l table seen pairs (record { found = at .found; turn = at .turn; pair = at .pair; step = 0; dropped = true })
+          → Searching steps l table seen pairs (record { found = at .found; index = at .index; pair = at .pair; step = 0; dropped = true })
       followed-dropped e = record {
         searchable = s .searchable;
         seen-length = s .seen-length;
         pairs-length = s .pairs-length;
         step-inside = omega arith;
         expanding = λ h. absurd (omega arith);
-        ended = λ z. ends-dropped steps l table (s .searchable .steps-range) _ _ _ _ (here .explored) (here .more) _ (s .searchable .well-formed)
+        finished = λ z. ends-dropped steps l table (s .searchable .steps-range) _ _ _ _ (here .explored) (here .more) _ (s .searchable .well-formed)
             (at .step - 1) (next-leaves steps l _ _ _ _ _ _ (at .step - 1) (omega arith) _ _ _ so-far) (sym leads-from ∙ e);
       }
 
       module _ (kept : next ≡ 255 → ⊥) {seen′ pairs′ : List ℕ} {found′ left : ℕ}
-          (noted : Noted (64 * next + step .to) seen pairs (at .found) seen′ pairs′ found′)
+          (enqueued : Enqueued (64 * next + step .to) seen pairs (at .found) seen′ pairs′ found′)
           (rest : left ≡ getD (l .earlier) (at .step - 1) 0) where
         further : UpTo listed left seen′ pairs′ found′
         further =
             rw rest
-            (one-expanded steps l _ _ _ _ _ _ (at .step - 1) (omega arith) _ _ _ so-far _ _ _ next leads-from kept (rw is at noted))
+            (one-expanded steps l _ _ _ _ _ _ (at .step - 1) (omega arith) _ _ _ so-far _ _ _ next leads-from kept (rw is at enqueued))
 
         pub followed-on : 0 < left
-            → Searching steps l table seen′ pairs′ (record { found = found′; turn = at .turn; pair = at .pair; step = left; dropped = false })
+            → Searching steps l table seen′ pairs′ (record { found = found′; index = at .index; pair = at .pair; step = left; dropped = false })
         followed-on more = record {
           searchable = s .searchable;
-          seen-length = noted .grown .worklist .seen-length;
-          pairs-length = noted .grown .worklist .pairs-length;
+          seen-length = enqueued .grown .worklist .seen-length;
+          pairs-length = enqueued .grown .worklist .pairs-length;
           step-inside = omega (arith, rest, s .searchable .links-range .earlier-range (at .step - 1), s .step-inside);
           expanding = λ h. record {
             seen₀ = here .seen₀;
@@ -169,10 +169,10 @@ module _ {steps : List Step} {l : Links} {table seen pairs : List ℕ} {at : Cur
             pair-is = here .pair-is;
             expanded = subst (λ (p : ℕ). UpTo p left seen′ pairs′ found′) (sym (here .pair-is)) further;
           };
-          ended = λ z. absurd (omega arith);
+          finished = λ z. absurd (omega arith);
         }
 
-        pub followed-next : left ≡ 0 → {r : Cursor} → NextPair (l .last) pairs′ (at .turn + 1) found′ r → Searching steps l table seen′ pairs′ r
+        pub followed-next : left ≡ 0 → {r : Cursor} → NextPair (l .last) pairs′ (at .index + 1) found′ r → Searching steps l table seen′ pairs′ r
         followed-next z next-pair =
             searching-next (s .searchable)
             (explored-more steps l table (s .searchable .steps-range) _ _ _ _ (here .explored) (here .more) _ _ _ (rw z at further)) next-pair
@@ -191,14 +191,14 @@ module _ {model : PhoneModel} {l : Links} {table : List ℕ} (has : HasPhone mod
   }
 
   -- its first cursor
-  pub searching-first : {seen pairs : List ℕ} {found : ℕ} {r : Cursor} → Noted 0 (replicate 8192 0) (replicate 8192 0) 0 seen pairs found
+  pub searching-first : {seen pairs : List ℕ} {found : ℕ} {r : Cursor} → Enqueued 0 (replicate 8192 0) (replicate 8192 0) 0 seen pairs found
       → NextPair (l .last) pairs 0 found r → Searching (model .steps) l table seen pairs r
-  searching-first noted next =
-      searching-next stored-searchable (explored-none (model .steps) l table (stored-step has) _ _ _ noted) next
+  searching-first enqueued next =
+      searching-next stored-searchable (explored-none (model .steps) l table (stored-step has) _ _ _ enqueued) next
 
 -- what the end of a search says of the model
 pub stored-searched : (model : PhoneModel) (l : Links) (table : List ℕ) (dropped : Bool) → Searched (model .steps) l table dropped
-    → (y : Phone) → model ≡ stored y → Linked (y .steps) l → (not dropped ≡ true) ↔ NeverDrops (entry 256 255 table) 0 (modelOf y)
+    → (y : Phone) → model ≡ stored y → Linked (y .steps) l → (not dropped ≡ true) ↔ NeverDrops (lookup 256 255 table) 0 (modelOf y)
 stored-searched model l table dropped searched y is linked =
     let found = searched y (record { alike = stored-alike y is; linked = linked }) in
     (λ e. found .0 (not-true dropped e), λ never. rw (found .1 never) refl)

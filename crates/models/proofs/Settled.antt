@@ -78,18 +78,18 @@ full-refused y w full =
     rw (states, steps-full f (y .states) (y .steps) 2 512 17 [] (w .steps) full refl, place)
 
 -- a step from state 0 to itself
-turn : Step
-turn = record { from = 0; label = 0; to = 0 }
+selfLoop : Step
+selfLoop = record { from = 0; label = 0; to = 0 }
 
-turns-well-formed : (n : ℕ) → All (WellFormedStep 1) (replicate n turn)
-unfolding turn
-turns-well-formed zero = tt
-turns-well-formed (suc n) = (record { from = omega arith; label = omega arith; to = omega arith }, turns-well-formed n)
+self-loops-well-formed : (n : ℕ) → All (WellFormedStep 1) (replicate n selfLoop)
+unfolding selfLoop
+self-loops-well-formed zero = tt
+self-loops-well-formed (suc n) = (record { from = omega arith; label = omega arith; to = omega arith }, self-loops-well-formed n)
 
-turns-length : (n : ℕ) → length (encodeSteps (replicate n turn)) ≡ 4 * n
-unfolding turn
-turns-length zero = refl
-turns-length (suc n) = omega (arith, turns-length n)
+self-loops-length : (n : ℕ) → length (encodeSteps (replicate n selfLoop)) ≡ 4 * n
+unfolding selfLoop
+self-loops-length zero = refl
+self-loops-length (suc n) = omega (arith, self-loops-length n)
 
 -- 512 of them, and the kind of one more
 pub not-by-fewer : NotByFewer
@@ -97,10 +97,10 @@ not-by-fewer = on 512 refl
   where
     on : (n : ℕ) → n ≡ 512 → NotByFewer
     on n e =
-        let y : Phone = record { states = 1; steps = replicate n turn } in
-        let full : length (y .steps) ≡ 512 = length-replicate n turn ∙ e in
-        let w : WellFormedPhone y = record { some-states = omega arith; few-states = omega arith; steps = turns-well-formed n } in
-        let long : length (encodePhone y) ≡ 2050 = omega (arith, turns-length n) in (
+        let y : Phone = record { states = 1; steps = replicate n selfLoop } in
+        let full : length (y .steps) ≡ 512 = length-replicate n selfLoop ∙ e in
+        let w : WellFormedPhone y = record { some-states = omega arith; few-states = omega arith; steps = self-loops-well-formed n } in
+        let long : length (encodePhone y) ≡ 2050 = omega (arith, self-loops-length n) in (
           encodePhone y ++ (17 ∷ []),
           y,
           bytes-append (encodePhone y) (17 ∷ []) (encode-bytes y w) (omega arith, tt),

@@ -4,9 +4,9 @@ use mathlib.Core.Path.{_≡_, refl}
 use mathlib.Core.List.{List, _∷_}
 use Rattle.synthesis.specs.Monitor.{Answer, dropped, next, cases, kept, ended}
 use Rattle.models.specs.Model.{Model, Walk, stay, silent-first, code-first}
-use Rattle.models.specs.Model.{Response, suppressing, PassesKept, silent-step, passed-step, silenced-step, monitored}
+use Rattle.models.specs.Model.{Response, suppressing, PassesKept, silent-step, passed-step, suppressed-step, monitored}
 use Rattle.models.specs.Promises.{CameFrom, RunsBehind}
-use Rattle.models.proofs.Responses.{silenced-dropped, dropped-silenced, suppressing-passes}
+use Rattle.models.proofs.Responses.{suppressed-dropped, dropped-suppressed, suppressing-passes}
 
 -- ---- every walk behind a monitor comes from the model
 
@@ -16,9 +16,9 @@ module _ {E : Type 0} (answer : E → ℕ → Answer E) (respond : E → ℕ →
   back (silent-first (silent-step h) k) =
       let o = back k in
       record { trace = o .trace; walk = silent-first h (o .walk); kept-is = o .kept-is; ended-is = o .ended-is }
-  back (silent-first (silenced-step {c = c} {e} h q) k) =
+  back (silent-first (suppressed-step {c = c} {e} h q) k) =
       let o = back k in
-      let d = silenced-dropped respond answer same e c q in
+      let d = suppressed-dropped respond answer same e c q in
       record { trace = c ∷ o .trace; walk = code-first h (o .walk); kept-is = rw d (o .kept-is); ended-is = rw d (o .ended-is) }
   back (code-first (passed-step {c = c} {e} {e′} h q) k) =
       let o = back k in
@@ -39,7 +39,7 @@ module _ {E : Type 0} (answer : E → ℕ → Answer E) (first : E) (m : Model) 
       on : (a : Answer E) → answer e c ≡ a → Walk behind (t, e) (kept answer e w) (u, ended answer e w)
           → ((e′ : E) → Walk behind (t, e′) (kept answer e′ w) (u, ended answer e′ w))
           → Walk behind (s, e) (cases a (kept answer e w) (λ e′. c ∷ kept answer e′ w)) (u, cases a (ended answer e w) (λ e′. ended answer e′ w))
-      on dropped q stays further = silent-first (silenced-step h (dropped-silenced answer e c q)) stays
+      on dropped q stays further = silent-first (suppressed-step h (dropped-suppressed answer e c q)) stays
       on (next e′) q stays further = code-first (passed-step h (suppressing-passes answer e e′ c .1 q)) (further e′)
 
 pub runs-behind : RunsBehind

@@ -1,7 +1,7 @@
 -- Demand 3: the table that building leaves enforces the rule on the model of every file that isn't refused, and loses no walk.
 use Prim.Native.Nat.{ℕ}
 use lib.ListN.{length}
-use Rattle.synthesis.specs.Monitor.{Answer, entry}
+use Rattle.synthesis.specs.Monitor.{Answer, lookup}
 use Rattle.synthesis.specs.Building.{buildingOf, tableAfter}
 use Rattle.synthesis.proofs.Built.{table-monitors}
 use Rattle.models.specs.Model.{suppressing}
@@ -15,7 +15,7 @@ use Rattle.models.proofs.Encoding.{accepts-phones}
 
 pub tables-enforce : TablesEnforce
 tables-enforce limit mark s table f r n y below bytes bytes′ read e read′ =
-    let answer : ℕ → ℕ → Answer ℕ = entry 256 mark (tableAfter mark (buildingOf limit s (length table)) table) in (
+    let answer : ℕ → ℕ → Answer ℕ = lookup 256 mark (tableAfter mark (buildingOf limit s (length table)) table) in (
       monitors-enforce ℕ r answer 0 (table-monitors limit mark s table r n below bytes read e) (suppressing answer) (suppressing-passes answer)
           (modelOf y) (phone-codes y (accepts-phones f bytes′ y .0 read′ .0 .well-formed)),
       runs-behind ℕ answer 0 (modelOf y),

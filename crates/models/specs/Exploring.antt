@@ -20,14 +20,14 @@ use Rattle.models.specs.declared.links.Links.{Links}
 
 module _ {E : Type 0} (answer : E → ℕ → Answer E) (first : E) (m : Model) where
   -- steps lead from the start to s, and their codes from the first equation to e, and none is dropped
-  pub data Reached : m .State → E → Type 0 where
-    begin : Reached (m .start) first
-    silently : {s t : m .State} {e : E} → Reached s e → m .Step s silent t → Reached t e
-    keeping : {s t : m .State} {e e′ : E} {c : ℕ} → Reached s e → m .Step s (code c) t → answer e c ≡ next e′ → Reached t e′
+  pub data PairReached : m .State → E → Type 0 where
+    begin : PairReached (m .start) first
+    silently : {s t : m .State} {e : E} → PairReached s e → m .Step s silent t → PairReached t e
+    keeping : {s t : m .State} {e e′ : E} {c : ℕ} → PairReached s e → m .Step s (code c) t → answer e c ≡ next e′ → PairReached t e′
 
   -- no such pair has a step that is dropped
   abbrev pub NeverDrops : Type 0
-  NeverDrops = (s t : m .State) (e : E) (c : ℕ) → Reached s e → m .Step s (code c) t → answer e c ≡ dropped → ⊥
+  NeverDrops = (s t : m .State) (e : E) (c : ℕ) → PairReached s e → m .Step s (code c) t → answer e c ≡ dropped → ⊥
 
 -- ---- the links
 
@@ -90,7 +90,7 @@ pub record Grown (P : ℕ → Type 0) (seen pairs : List ℕ) (found : ℕ) (see
   pub same : (i : ℕ) → i < found → getD pairs′ i 0 ≡ getD pairs i 0
 
 -- what noting a pair does
-pub record Noted (pair : ℕ) (seen pairs : List ℕ) (found : ℕ) (seen′ pairs′ : List ℕ) (found′ : ℕ) : Type 0 where
+pub record Enqueued (pair : ℕ) (seen pairs : List ℕ) (found : ℕ) (seen′ pairs′ : List ℕ) (found′ : ℕ) : Type 0 where
   pub grown : Grown (λ p. p ≡ pair) seen pairs found seen′ pairs′ found′
   pub is-seen : Seen seen′ pair
 

@@ -7,8 +7,8 @@ use lib.ListN.{length, set}
 use Rattle.reading.specs.Rule.{Bytes}
 use Rattle.reading.specs.File.{Outcome, accepted, refused, andThen}
 use Rattle.reading.specs.Numbered.{padded}
-use Rattle.reading.specs.declared.Answer.{Answer}
-use Rattle.reading.specs.declared.Answer.the-variants.{Accepted, Refused}
+use Rattle.reading.specs.declared.Acceptance.{Acceptance}
+use Rattle.reading.specs.declared.Acceptance.the-variants.{Accepted, Refused}
 use Rattle.models.specs.Phone.{noStep, stepsAt}
 use Rattle.models.specs.declared.Step.{Step}
 use Rattle.models.specs.declared.loading.Next.{Next}
@@ -18,7 +18,7 @@ abbrev pub prepend : List Step → Outcome (List Step) → Outcome (List Step)
 prepend done o = andThen o (λ more. accepted (done ++ more))
 
 -- n steps are read, up to `at`, and stand in 512 records, of which the others are blank
-pub record Begun (f : List ℕ) (states : ℕ) (steps : List Step) (n at : ℕ) : Type 0 where
+pub record StepsBegun (f : List ℕ) (states : ℕ) (steps : List Step) (n at : ℕ) : Type 0 where
   pub done : List Step
   pub counted : length done ≡ n
   pub few : n ≤ 512
@@ -27,12 +27,12 @@ pub record Begun (f : List ℕ) (states : ℕ) (steps : List Step) (n at : ℕ) 
   pub rest : stepsAt 512 f states 2 ≡ prepend done (stepsAt (512 - n) f states at)
 
 -- the answer to an outcome, with its steps in 512 records and their count; of a refusal the answer alone
-abbrev pub LoadedAs : Outcome (List Step) → (steps : List Step) (answer : Answer) (n : ℕ) → Type 0
+abbrev pub LoadedAs : Outcome (List Step) → (steps : List Step) (answer : Acceptance) (n : ℕ) → Type 0
 LoadedAs (accepted xs) steps answer n = (answer ≡ Accepted) × (steps ≡ padded 512 noStep xs) × (n ≡ length xs)
 LoadedAs (refused number place) steps answer n = answer ≡ Refused number place
 
 -- what comes after n steps: one more, or the end
 pub record NextRead (f : List ℕ) (states : ℕ) (steps : List Step) (n : ℕ) (next : Next) : Type 0 where
   pub number-is : next .n ≡ n
-  pub one-more : next .more ≡ true → Begun f states (set steps n (next .step)) (n + 1) (next .at)
-  pub ended : next .more ≡ false → LoadedAs (stepsAt 512 f states 2) steps (next .answer) n
+  pub one-more : next .more ≡ true → StepsBegun f states (set steps n (next .step)) (n + 1) (next .at)
+  pub at-end : next .more ≡ false → LoadedAs (stepsAt 512 f states 2) steps (next .answer) n

@@ -8,9 +8,9 @@ use lib.ListN.{length, getD, take}
 use Rattle.reading.specs.Rule.{Rule, RuleWithinLimits, encode, Bytes}
 use Rattle.reading.specs.File.{accepted, refused, ruleOf}
 use Rattle.reading.specs.Promises.{OneFault}
-use Rattle.reading.specs.declared.Answer.the-variants.{Accepted, Refused as NotAccepted}
+use Rattle.reading.specs.declared.Acceptance.the-variants.{Accepted, Refused as NotAccepted}
 use Rattle.synthesis.specs.Violation.{ViolatesRule}
-use Rattle.synthesis.specs.Monitor.{Answer, kept, ended, Loses, Monitors, entry}
+use Rattle.synthesis.specs.Monitor.{Answer, kept, ended, Suppresses, Monitors, lookup}
 use Rattle.synthesis.specs.Building.{buildingOf, countedOf, tableAfter}
 use Rattle.synthesis.specs.Promises.{Closed}
 use Rattle.synthesis.specs.declared.Counted.the-variants.{Equations, Refused}
@@ -53,7 +53,7 @@ abbrev pub TablesEnforce : Type 1
 TablesEnforce =
     (limit mark : ℕ) (s table f : List ℕ) (r : Rule) (n : ℕ) (y : Phone) → limit ≤ mark → Bytes s → Bytes f
     → ruleOf s ≡ accepted r → countedOf (buildingOf limit s (length table)) ≡ Equations n → phoneOf f ≡ accepted y →
-    let answer = entry 256 mark (tableAfter mark (buildingOf limit s (length table)) table) in
+    let answer = lookup 256 mark (tableAfter mark (buildingOf limit s (length table)) table) in
     Enforces r (suppressing answer) 0 (modelOf y) × WalksBehind answer 0 (modelOf y)
 
 -- The same for any monitor of a rule, any response that passes exactly what it keeps, and any model whose codes are bytes.
@@ -65,7 +65,7 @@ MonitorsEnforce =
 -- Of a monitor that drops something of each list that violates the rule, and maybe of others too, the first part holds.
 abbrev pub SoundSatisfies : Type 1
 SoundSatisfies =
-    (E : Type 0) (r : Rule) (answer : E → ℕ → Answer E) (first : E) → ((w : List ℕ) → Bytes w → ViolatesRule r w → Loses answer first w)
+    (E : Type 0) (r : Rule) (answer : E → ℕ → Answer E) (first : E) → ((w : List ℕ) → Bytes w → ViolatesRule r w → Suppresses answer first w)
     → (respond : E → ℕ → Response E) → PassesKept respond answer → (m : Model) → ByteCodes m → Satisfies (monitored respond first m) r
 
 -- Bisimilar models satisfy the same rules. So a model that doesn't satisfy the rule isn't bisimilar to itself behind the monitor.

@@ -1,8 +1,8 @@
 -- What the crate's own enums stand for. No public contract cites these.
 use Prim.Native.Nat.{ℕ}
 use Rattle.reading.specs.File.{Outcome, accepted, refused}
-use Rattle.reading.specs.declared.Answer.{Answer}
-use Rattle.reading.specs.declared.Answer as Answer′
+use Rattle.reading.specs.declared.Acceptance.{Acceptance}
+use Rattle.reading.specs.declared.Acceptance as Acceptance′
 use Rattle.synthesis.specs.declared.Counted.{Counted}
 use Rattle.synthesis.specs.declared.Counted as Counted′
 use Rattle.models.specs.declared.Step.{Step}
@@ -25,23 +25,23 @@ stepRead (refused number place) = StepRead′.the-variants.Refused number place
 
 -- ---- refusals passed up
 
-abbrev pub statesAnswer : StatesRead → Answer
-statesAnswer (StatesRead′.the-variants.Read n) = Answer′.the-variants.Accepted
-statesAnswer (StatesRead′.the-variants.Refused number place) = Answer′.the-variants.Refused number place
+abbrev pub statesAnswer : StatesRead → Acceptance
+statesAnswer (StatesRead′.the-variants.Read n) = Acceptance′.the-variants.Accepted
+statesAnswer (StatesRead′.the-variants.Refused number place) = Acceptance′.the-variants.Refused number place
 
-abbrev pub stepAnswer : StepRead → Answer
-stepAnswer (StepRead′.the-variants.Read x) = Answer′.the-variants.Accepted
-stepAnswer (StepRead′.the-variants.Refused number place) = Answer′.the-variants.Refused number place
+abbrev pub stepAnswer : StepRead → Acceptance
+stepAnswer (StepRead′.the-variants.Read x) = Acceptance′.the-variants.Accepted
+stepAnswer (StepRead′.the-variants.Refused number place) = Acceptance′.the-variants.Refused number place
 
 abbrev pub ruleRefusal : Counted → Judged
 ruleRefusal (Counted′.the-variants.Equations n) = Judged′.the-variants.Refused 0 0
 ruleRefusal (Counted′.the-variants.Refused number place) = Judged′.the-variants.Refused number place
 
-abbrev pub modelRefusal : Answer → Judged
-modelRefusal Answer′.the-variants.Accepted = Judged′.the-variants.Refused 0 0
-modelRefusal (Answer′.the-variants.Refused number place) = Judged′.the-variants.Refused number place
+abbrev pub modelRefusal : Acceptance → Judged
+modelRefusal Acceptance′.the-variants.Accepted = Judged′.the-variants.Refused 0 0
+modelRefusal (Acceptance′.the-variants.Refused number place) = Judged′.the-variants.Refused number place
 
 -- that of the rule, or else that of the model
-abbrev pub refusalBefore : Counted → Answer → Judged
+abbrev pub refusalBefore : Counted → Acceptance → Judged
 refusalBefore (Counted′.the-variants.Equations n) answer = modelRefusal answer
 refusalBefore (Counted′.the-variants.Refused number place) answer = Judged′.the-variants.Refused number place

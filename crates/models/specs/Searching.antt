@@ -5,26 +5,26 @@ use mathlib.Core.Logic.{_↔_}
 use mathlib.Core.Bool.{Bool, false}
 use mathlib.Core.List.{List}
 use lib.ListN.{length, getD}
-use Rattle.synthesis.specs.Monitor.{rowOf, entry}
+use Rattle.synthesis.specs.Monitor.{rowOf, lookup}
 use Rattle.running.specs.Running.{WellFormedTable}
 use Rattle.models.specs.Phone.{Phone, noStep, modelOf, WellFormedStep}
-use Rattle.models.specs.Exploring.{Reached, NeverDrops, Linked, LinksInRange, Seen, Worklist, Leaves, Done, ExpandedTo}
+use Rattle.models.specs.Exploring.{PairReached, NeverDrops, Linked, LinksInRange, Seen, Worklist, Leaves, Done, ExpandedTo}
 use Rattle.models.specs.declared.Step.{Step}
 use Rattle.models.specs.declared.links.Links.{Links}
 use Rattle.models.specs.declared.exploring.Cursor.{Cursor}
 
 -- A bound on the steps that may still be followed: those left of the pair whose turn it is, and 512 for it and each that may come after it.
 abbrev pub remaining : Cursor → ℕ
-remaining at = 512 * (8192 - at .turn) + at .step
+remaining at = 512 * (8192 - at .index) + at .step
 
 -- the first of the pairs from `turn` on whose state has a step; the end where none has
-pub record NextPair (last pairs : List ℕ) (turn found : ℕ) (r : Cursor) : Type 0 where
+pub record NextPair (last pairs : List ℕ) (index found : ℕ) (r : Cursor) : Type 0 where
   pub same-found : r .found ≡ found
   pub none-dropped : r .dropped ≡ false
-  pub not-before : turn ≤ r .turn
-  pub passed : (k : ℕ) → turn ≤ k → k < r .turn → getD last (getD pairs k 0 % 64) 0 ≡ 0
-  pub begins : 0 < r .step → (r .turn < found) × (r .pair ≡ getD pairs (r .turn) 0) × (r .step ≡ getD last (r .pair % 64) 0)
-  pub ends : r .step ≡ 0 → r .turn ≡ found
+  pub not-before : index ≤ r .index
+  pub passed : (k : ℕ) → index ≤ k → k < r .index → getD last (getD pairs k 0 % 64) 0 ≡ 0
+  pub begins : 0 < r .step → (r .index < found) × (r .pair ≡ getD pairs (r .index) 0) × (r .step ≡ getD last (r .pair % 64) 0)
+  pub ends : r .step ≡ 0 → r .index ≡ found
 
 -- The records and the links are those of a phone model.
 pub record OfPhone (steps : List Step) (l : Links) (y : Phone) : Type 0 where
@@ -36,8 +36,8 @@ abbrev pub rowAt : (table : List ℕ) → (pair : ℕ) → List ℕ
 rowAt table pair = rowOf 256 table (pair / 64)
 
 -- the pair is one that a phone model reaches
-abbrev pub ReachedPair : (table : List ℕ) → Phone → (pair : ℕ) → Type 0
-ReachedPair table y pair = Reached (entry 256 255 table) 0 (modelOf y) (pair % 64) (pair / 64)
+abbrev pub NumberReached : (table : List ℕ) → Phone → (pair : ℕ) → Type 0
+NumberReached table y pair = PairReached (lookup 256 255 table) 0 (modelOf y) (pair % 64) (pair / 64)
 
 module _ (steps : List Step) (l : Links) (table : List ℕ) where
   -- each step from the pair was kept, and leads to a marked pair
@@ -49,7 +49,7 @@ module _ (steps : List Step) (l : Links) (table : List ℕ) where
     pub worklist : Worklist seen pairs found
     pub begun : Seen seen 0
     pub inside : (count : ℕ) → WellFormedTable 128 255 count table → (p : ℕ) → Seen seen p → p / 64 < count
-    pub reached : (y : Phone) → OfPhone steps l y → (p : ℕ) → Seen seen p → ReachedPair table y p
+    pub reached : (y : Phone) → OfPhone steps l y → (p : ℕ) → Seen seen p → NumberReached table y p
     pub complete : (k : ℕ) → k < n → Complete seen (getD pairs k 0)
 
   -- The pair whose turn it is has been expanded up to a step. The lists and the count with a ₀ are those at the beginning of its turn.
@@ -57,9 +57,9 @@ module _ (steps : List Step) (l : Links) (table : List ℕ) where
     pub seen₀ : List ℕ
     pub pairs₀ : List ℕ
     pub found₀ : ℕ
-    pub explored : Explored seen₀ pairs₀ found₀ (at .turn)
-    pub more : at .turn < found₀
-    pub pair-is : at .pair ≡ getD pairs₀ (at .turn) 0
+    pub explored : Explored seen₀ pairs₀ found₀ (at .index)
+    pub more : at .index < found₀
+    pub pair-is : at .pair ≡ getD pairs₀ (at .index) 0
     pub expanded : ExpandedTo steps l (rowAt table (at .pair)) (at .pair) seen₀ pairs₀ found₀ (at .step) seen pairs (at .found)
 
   -- what is searched
@@ -72,7 +72,7 @@ module _ (steps : List Step) (l : Links) (table : List ℕ) where
 
   -- what the end of a search says of each phone model that has the records and the links
   abbrev pub Searched : (dropped : Bool) → Type 0
-  Searched dropped = (y : Phone) → OfPhone steps l y → (dropped ≡ false) ↔ NeverDrops (entry 256 255 table) 0 (modelOf y)
+  Searched dropped = (y : Phone) → OfPhone steps l y → (dropped ≡ false) ↔ NeverDrops (lookup 256 255 table) 0 (modelOf y)
 
   -- what is known where a search is at a cursor
   pub record Searching (seen pairs : List ℕ) (at : Cursor) : Type 0 where
@@ -81,4 +81,4 @@ module _ (steps : List Step) (l : Links) (table : List ℕ) where
     pub pairs-length : length pairs ≡ 8192
     pub step-inside : at .step ≤ 512
     pub expanding : 0 < at .step → Expanding seen pairs at
-    pub ended : at .step ≡ 0 → Searched (at .dropped)
+    pub finished : at .step ≡ 0 → Searched (at .dropped)

@@ -3,7 +3,7 @@ use crate::PhoneModel;
 use crate::SILENT;
 use crate::Step;
 use crate::links;
-use crate::steps::step_at;
+use crate::steps::nth_step;
 use synthesis::DROPPED;
 ghost use mathlib.Core.Path.{_≡_};
 ghost use mathlib.Core.Logic.{_↔_};
@@ -11,27 +11,27 @@ ghost use mathlib.Core.Bool.{true};
 ghost use mathlib.Core.List.{List};
 ghost use Prim.Native.Nat.{ℕ, _+_, _*_, _-_, _≤_, _<_};
 ghost use lib.ListN.{length, getD};
-ghost use Rattle.synthesis.specs.Monitor.{rowOf, entry};
+ghost use Rattle.synthesis.specs.Monitor.{rowOf, lookup};
 ghost use Rattle.running.specs.Running.{WellFormedTable};
 ghost use Rattle.models.specs.Phone.{Phone, noStep, modelOf};
 ghost use Rattle.models.specs.Judging.{stored};
-ghost use Rattle.models.specs.Exploring.{NeverDrops, HasPhone, linksOf, Worklist, Noted, leadsTo};
+ghost use Rattle.models.specs.Exploring.{NeverDrops, HasPhone, linksOf, Worklist, Enqueued, leadsTo};
 ghost use Rattle.models.specs.Searching.{Searching, Searched, remaining, NextPair};
 
 // Where the search is. found: how many pairs have been found. turn, pair: the index in the list, and the pair, that is being expanded. step:
 // one more than the number of the step that comes next; 0 at the end. dropped: whether a step was dropped.
 pub(crate) struct Cursor {
     found: usize,
-    turn: usize,
+    index: usize,
     pair: usize,
     step: usize,
     dropped: bool,
 }
 
 // Notes a pair as the next one found, unless it was found before, and says how many there are.
-fn note(seen: &mut [u8], pairs: &mut [u16], found: usize, pair: usize) -> usize
+fn enqueue(seen: &mut [u8], pairs: &mut [u16], found: usize, pair: usize) -> usize
     requires { ⌜ Worklist (now seen) (now pairs) found × (pair < 8192) ⌝ }
-    ensures { λ r. ⌜ Noted pair (now (seen .entry)) (now (pairs .entry)) found (now (seen .exit)) (now (pairs .exit)) r ⌝ }
+    ensures { λ r. ⌜ Enqueued pair (now (seen .entry)) (now (pairs .entry)) found (now (seen .exit)) (now (pairs .exit)) r ⌝ }
 {
     if seen[pair] == 1 {
         return found;
@@ -53,28 +53,28 @@ fn equation_after(table: &[u8], equation: usize, label: u16) -> usize
 }
 
 // The first pair from `turn` on that has a step; the end where none has.
-fn next_pair(last: &[u16], pairs: &[u16], turn: usize, found: usize) -> Cursor
-    requires { ⌜ (length (now last) ≡ 64) × (length (now pairs) ≡ 8192) × (turn ≤ found) × (found ≤ 8192) ⌝ }
-    ensures { λ r. ⌜ NextPair (now (last .entry)) (now (pairs .entry)) turn found r ⌝ }
+fn next_pair(last: &[u16], pairs: &[u16], index: usize, found: usize) -> Cursor
+    requires { ⌜ (length (now last) ≡ 64) × (length (now pairs) ≡ 8192) × (index ≤ found) × (found ≤ 8192) ⌝ }
+    ensures { λ r. ⌜ NextPair (now (last .entry)) (now (pairs .entry)) index found r ⌝ }
 {
-    let mut turn = turn;
-    while turn < found {
-        let pair = pairs[turn] as usize;
+    let mut index = index;
+    while index < found {
+        let pair = pairs[index] as usize;
         let step = last[pair % 64] as usize;
         if 0 < step {
             return Cursor {
                 found,
-                turn,
+                index,
                 pair,
                 step,
                 dropped: false,
             };
         }
-        turn += 1;
+        index += 1;
     }
     Cursor {
         found,
-        turn,
+        index,
         pair: 0,
         step: 0,
         dropped: false,
@@ -83,11 +83,11 @@ fn next_pair(last: &[u16], pairs: &[u16], turn: usize, found: usize) -> Cursor
 
 // The end of a search at which a step is dropped.
 fn stopped(at: Cursor) -> Cursor
-    ensures { λ r. ⌜ r ≡ record { found = at .found; turn = at .turn; pair = at .pair; step = 0; dropped = true } ⌝ }
+    ensures { λ r. ⌜ r ≡ record { found = at .found; index = at .index; pair = at .pair; step = 0; dropped = true } ⌝ }
 {
     Cursor {
         found: at.found,
-        turn: at.turn,
+        index: at.index,
         pair: at.pair,
         step: 0,
         dropped: true,
@@ -112,26 +112,26 @@ fn follow(
         → Searching steps (linksOf (now (last .entry)) (now (earlier .entry))) (now (table .entry)) (now (seen .exit)) (now (pairs .exit)) r) ⌝ }
     ensures { λ r. ⌜ remaining r < remaining at ⌝ }
 {
-    let turn = at.turn;
+    let index = at.index;
     let pair = at.pair;
     let equation = pair / 64;
     let next = equation_after(table, equation, step.label);
     if next == DROPPED as usize {
         return stopped(at);
     }
-    let found = note(seen, pairs, at.found, 64 * next + step.to as usize);
+    let found = enqueue(seen, pairs, at.found, 64 * next + step.to as usize);
     let here = at.step - 1;
     let left = earlier[here] as usize;
     if 0 < left {
         return Cursor {
             found,
-            turn,
+            index,
             pair,
             step: left,
             dropped: false,
         };
     }
-    next_pair(last, pairs, turn + 1, found)
+    next_pair(last, pairs, index + 1, found)
 }
 
 // Follows steps until one is dropped or none is left, and says whether one was.
@@ -151,7 +151,7 @@ fn search(
     while 0 < at.step {
         at = follow(
             at,
-            step_at(steps, at.step - 1),
+            nth_step(steps, at.step - 1),
             last,
             earlier,
             table,
@@ -181,7 +181,7 @@ fn search_array(
 // Whether no pair that is reached has a step that is dropped. Each pair is expanded once.
 pub(crate) fn never_drops(model: PhoneModel, table: &[u8]) -> bool
     requires { ⌜ HasPhone model × ((count : ℕ) × WellFormedTable 128 255 count (now table)) ⌝ }
-    ensures { λ r. ⌜ ((y : Phone) → model ≡ stored y → (r ≡ true) ↔ NeverDrops (entry 256 255 (now (table .entry))) 0 (modelOf y)) ⌝ }
+    ensures { λ r. ⌜ ((y : Phone) → model ≡ stored y → (r ≡ true) ↔ NeverDrops (lookup 256 255 (now (table .entry))) 0 (modelOf y)) ⌝ }
 {
     let links = links::of_model(model);
     let steps = model.steps;
@@ -189,7 +189,7 @@ pub(crate) fn never_drops(model: PhoneModel, table: &[u8]) -> bool
     let earlier = links.earlier;
     let mut seen = [0u8; 8192];
     let mut pairs = [0u16; 8192];
-    let found = note(&mut seen, &mut pairs, 0, 0);
+    let found = enqueue(&mut seen, &mut pairs, 0, 0);
     let from = next_pair(&last, &pairs, 0, found);
     !search_array(steps, from, &last, &earlier, table, &mut seen, &mut pairs)
 }

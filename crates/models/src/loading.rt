@@ -4,18 +4,18 @@ use crate::records;
 use crate::records::StepRead;
 use crate::steps::no_step;
 use crate::steps::put_step;
-use reading::Answer;
+use reading::Acceptance;
 ghost use mathlib.Core.Path.{_≡_};
 ghost use mathlib.Core.Bool.{false};
 ghost use mathlib.Core.List.{List};
 ghost use Rattle.models.specs.Phone.{noStep, stepsAt};
-ghost use Rattle.models.specs.Loading.{Begun, NextRead, LoadedAs};
+ghost use Rattle.models.specs.Loading.{StepsBegun, NextRead, LoadedAs};
 
 // What comes next in a file: the step with number n, and where the record after it begins; or, where no more is read, the answer and the
 // count.
 pub(crate) struct Next {
     more: bool,
-    answer: Answer,
+    answer: Acceptance,
     step: Step,
     n: usize,
     at: usize,
@@ -23,13 +23,13 @@ pub(crate) struct Next {
 
 // The steps that are read, the first nsteps of the array. They count only where the answer accepts.
 pub(crate) struct Loaded {
-    pub(crate) answer: Answer,
+    pub(crate) answer: Acceptance,
     pub(crate) steps: [Step; 512],
     pub(crate) nsteps: usize,
 }
 
 // No more is read.
-fn ended(answer: Answer, n: usize) -> Next
+fn no_more(answer: Acceptance, n: usize) -> Next
     ensures { λ r. ⌜ r ≡ record { more = false; answer = answer; step = noStep; n = n; at = 0 } ⌝ }
 {
     let step = no_step();
@@ -44,20 +44,20 @@ fn ended(answer: Answer, n: usize) -> Next
 
 // The record at `at`, after n steps.
 fn next_step(bytes: &[u8], states: usize, n: usize, at: usize) -> Next
-    requires { ⌜ ((steps : List Step) × Begun (now bytes) states steps n at) ⌝ }
-    ensures { λ r. ⌜ ((steps : List Step) → Begun (now (bytes .entry)) states steps n at → NextRead (now (bytes .entry)) states steps n r) ⌝ }
+    requires { ⌜ ((steps : List Step) × StepsBegun (now bytes) states steps n at) ⌝ }
+    ensures { λ r. ⌜ ((steps : List Step) → StepsBegun (now (bytes .entry)) states steps n at → NextRead (now (bytes .entry)) states steps n r) ⌝ }
 {
     if bytes.len() <= at {
-        return ended(Answer::Accepted, n);
+        return no_more(Acceptance::Accepted, n);
     }
     let found = records::read_step(bytes, states, at, 512 - n);
     let StepRead::Read(step) = found else {
-        return ended(records::step_answer(found), n);
+        return no_more(records::step_answer(found), n);
     };
     let size = records::record_length(step);
     Next {
         more: true,
-        answer: Answer::Accepted,
+        answer: Acceptance::Accepted,
         step,
         n,
         at: at + size,
@@ -66,7 +66,7 @@ fn next_step(bytes: &[u8], states: usize, n: usize, at: usize) -> Next
 
 // The steps of a file, put into a slice.
 fn read_steps(bytes: &[u8], states: usize, steps: &mut [Step]) -> Next
-    requires { ⌜ Begun (now bytes) states (now steps) 0 2 ⌝ }
+    requires { ⌜ StepsBegun (now bytes) states (now steps) 0 2 ⌝ }
     ensures { λ r. ⌜ LoadedAs (stepsAt 512 (now (bytes .entry)) states 2) (now (steps .exit)) (r .answer) (r .n) ⌝ }
 {
     let mut next = next_step(bytes, states, 0, 2);
@@ -79,7 +79,7 @@ fn read_steps(bytes: &[u8], states: usize, steps: &mut [Step]) -> Next
 
 // The same into an array of blank records, which is lent once.
 pub(crate) fn read_array(bytes: &[u8], states: usize, blank: [Step; 512]) -> Loaded
-    requires { ⌜ Begun (now bytes) states blank 0 2 ⌝ }
+    requires { ⌜ StepsBegun (now bytes) states blank 0 2 ⌝ }
     ensures { λ r. ⌜ LoadedAs (stepsAt 512 (now (bytes .entry)) states 2) (r .steps) (r .answer) (r .nsteps) ⌝ }
 {
     let mut steps = blank;

@@ -17,7 +17,7 @@ pub(crate) fn no_step() -> Step
 }
 
 // The record at i.
-pub(crate) fn step_at(steps: &[Step], i: usize) -> Step
+pub(crate) fn nth_step(steps: &[Step], i: usize) -> Step
     requires { ⌜ i < length (now steps) ⌝ }
     ensures { λ r. ⌜ r ≡ getD (now (steps .entry)) i noStep ⌝ }
 {

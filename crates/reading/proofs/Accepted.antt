@@ -9,10 +9,10 @@ use lib.Dec.{ltb}
 use borrow.Author.Tests.{ltb-false, le-ltb}
 use Rattle.reading.specs.Rule.{Formula, truth, falsity, both, necessity, max, variable, size}
 use Rattle.reading.specs.Rule.{Rule, RuleWithinLimits, encodePatterns, encodeFormula, encode, Bytes}
-use Rattle.reading.specs.File.{Outcome, accepted, refused, isPattern, patternsAt, Parsed, formulaOf, ended, ruleOf}
+use Rattle.reading.specs.File.{Outcome, accepted, refused, isPattern, patternsAt, Parsed, formulaOf, endOfFile, ruleOf}
 use Rattle.reading.specs.Numbered.{numbered, readingOf}
 use Rattle.reading.specs.Promises.{AcceptsEncodings, OneRule, AnswersAccepted}
-use Rattle.reading.specs.declared.Answer.the-variants.{Accepted}
+use Rattle.reading.specs.declared.Acceptance.the-variants.{Accepted}
 use Rattle.reading.specs.declared.Reading.{Reading}
 use Rattle.reading.proofs.Outcomes.{accepted-is, accepted-by, then-accepts, passes}
 use Rattle.reading.proofs.Places.{first-byte, rest-after}
@@ -26,7 +26,7 @@ unfolding ruleOf
 rule-stands s bytes r e =
     let head = accepted-by (patternsAt 32 s 0) _ e in
     let ps = head .0 in
-    let body = accepted-by (formulaOf s (length (ps .list)) (ps .next) 64 []) (ended s (ps .list)) (head .2) in
+    let body = accepted-by (formulaOf s (length (ps .list)) (ps .next) 64 []) (endOfFile s (ps .list)) (head .2) in
     let f = body .0 in
     let end = passes (ltb (f .next) (length s)) 3 (f .next) _ (body .2) in
     let patterns = patterns-accept s bytes 0 32 ps .0 (head .1) in

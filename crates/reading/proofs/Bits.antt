@@ -6,8 +6,8 @@ use native.Mathlib.Nat.{div-one, div-div-eq-div-mul, div-lt-iff-lt-mul, mul-comm
 use native.Mathlib.Omega.{arith}
 use lib.Dec.{eqb}
 use lib.Count.{ones, trailingZeros, under, ones-step}
-use Rattle.reading.specs.Pattern.{bit, least, howMany}
-use Rattle.reading.proofs.Counting.{howMany-first}
+use Rattle.reading.specs.Pattern.{bit, least, countBelow}
+use Rattle.reading.proofs.Counting.{count-below-first}
 
 -- ---- the lowest bit, and the bits above it
 
@@ -58,12 +58,12 @@ digit-count zero h = refl
 digit-count (suc zero) h = refl
 digit-count (suc (suc d)) h = absurd (omega arith)
 
-pub ones-is-count : (k n : ℕ) → n < 2 ^ k → ones n ≡ howMany k (isSet n)
-unfolding howMany ones
+pub ones-is-count : (k n : ℕ) → n < 2 ^ k → ones n ≡ countBelow k (isSet n)
+unfolding countBelow ones
 ones-is-count zero zero h = refl
 ones-is-count zero (suc n) h = absurd (omega arith)
 ones-is-count (suc k) n h =
     let lowest : cond (isSet n 0) 1 0 ≡ n % 2 = rw bit-zero (digit-count (n % 2) (omega arith)) in
     let rest = ones-is-count k (n / 2) (half-lt k n h) in
-    let above : ones (n / 2) ≡ howMany k (λ i. isSet n (suc i)) = simp bit-suc rest in
-    ones-step n ∙ omega arith ∙ sym (howMany-first k (isSet n))
+    let above : ones (n / 2) ≡ countBelow k (λ i. isSet n (suc i)) = simp bit-suc rest in
+    ones-step n ∙ omega arith ∙ sym (count-below-first k (isSet n))

@@ -8,7 +8,7 @@ use lib.ListN.{length, getD}
 use borrow.Author.Tests.{le-leb, lt-leb, le-ltb, lt-ltb, eq-eqb, ne-eqb}
 use Rattle.reading.specs.Rule.{Guards}
 use Rattle.reading.specs.File.{accepted, patternAt, Necessity, Variable, necessityAt, variableAt, nodeAt}
-use Rattle.reading.specs.Answers.{patternRead, nodeRead, guardsOf}
+use Rattle.reading.specs.Representations.{patternRead, nodeRead, guardsOf}
 use Rattle.reading.specs.declared.patterns.PatternRead.the-variants as PatternRead
 use Rattle.reading.specs.declared.formulas.NodeRead.{NodeRead as NodeRead′}
 use Rattle.reading.specs.declared.formulas.NodeRead.the-variants as NodeRead

@@ -6,7 +6,7 @@ use native.Mathlib.Nat.{add-zero, add-suc}
 use native.Mathlib.Omega.{arith}
 use lib.Dec.{leb}
 use borrow.Author.Tests.{le-leb, lt-leb}
-use Rattle.reading.specs.Pattern.{least, howMany}
+use Rattle.reading.specs.Pattern.{least, countBelow}
 
 -- ---- the least
 
@@ -45,80 +45,80 @@ least-below (suc n) holds i h = on (holds zero) refl i h (least-below n (λ j. h
 -- ---- how many
 
 -- the two equations of the definition, where it doesn't unfold
-pub howMany-zero : (holds : ℕ → Bool) → howMany 0 holds ≡ 0
-unfolding howMany
-howMany-zero holds = refl
+pub count-below-zero : (holds : ℕ → Bool) → countBelow 0 holds ≡ 0
+unfolding countBelow
+count-below-zero holds = refl
 
-pub howMany-last : (n : ℕ) (holds : ℕ → Bool) → howMany (suc n) holds ≡ howMany n holds + cond (holds n) 1 0
-unfolding howMany
-howMany-last n holds = refl
+pub count-below-last : (n : ℕ) (holds : ℕ → Bool) → countBelow (suc n) holds ≡ countBelow n holds + cond (holds n) 1 0
+unfolding countBelow
+count-below-last n holds = refl
 
 -- 0, and the n from 1
-pub howMany-first :
+pub count-below-first :
     (n : ℕ) (holds : ℕ → Bool)
-    → howMany (suc n) holds ≡ cond (holds zero) 1 0 + howMany n (λ i. holds (suc i))
-unfolding howMany
-howMany-first zero holds = omega arith
-howMany-first (suc n) holds = omega (arith, howMany-first n holds)
+    → countBelow (suc n) holds ≡ cond (holds zero) 1 0 + countBelow n (λ i. holds (suc i))
+unfolding countBelow
+count-below-first zero holds = omega arith
+count-below-first (suc n) holds = omega (arith, count-below-first n holds)
 
-pub howMany-le : (n : ℕ) (holds : ℕ → Bool) → howMany n holds ≤ n
-unfolding howMany
-howMany-le zero holds = omega arith
-howMany-le (suc n) holds = on (holds n) (howMany-le n holds)
+pub count-below-le : (n : ℕ) (holds : ℕ → Bool) → countBelow n holds ≤ n
+unfolding countBelow
+count-below-le zero holds = omega arith
+count-below-le (suc n) holds = on (holds n) (count-below-le n holds)
   where
     on : (b : Bool) {m : ℕ} → m ≤ n → m + cond b 1 0 ≤ suc n
     on true h = omega arith
     on false h = omega arith
 
 -- the numbers below a, and the m from there
-pub howMany-split :
-    (a m : ℕ) (holds : ℕ → Bool) → howMany (a + m) holds ≡ howMany a holds + howMany m (λ i. holds (a + i))
-unfolding howMany
-howMany-split a zero holds = rw (add-zero a) (omega arith)
-howMany-split a (suc m) holds = rw (add-suc a m) (omega (arith, howMany-split a m holds))
+pub count-below-split :
+    (a m : ℕ) (holds : ℕ → Bool) → countBelow (a + m) holds ≡ countBelow a holds + countBelow m (λ i. holds (a + i))
+unfolding countBelow
+count-below-split a zero holds = rw (add-zero a) (omega arith)
+count-below-split a (suc m) holds = rw (add-suc a m) (omega (arith, count-below-split a m holds))
 
 -- tests that agree count the same
-pub howMany-same :
-    (n : ℕ) (one other : ℕ → Bool) → ((i : ℕ) → i < n → one i ≡ other i) → howMany n one ≡ howMany n other
-unfolding howMany
-howMany-same zero one other h = refl
-howMany-same (suc n) one other h =
-    rw (h n (omega arith), howMany-same n one other (λ i l. h i (omega arith)))
+pub count-below-same :
+    (n : ℕ) (one other : ℕ → Bool) → ((i : ℕ) → i < n → one i ≡ other i) → countBelow n one ≡ countBelow n other
+unfolding countBelow
+count-below-same zero one other h = refl
+count-below-same (suc n) one other h =
+    rw (h n (omega arith), count-below-same n one other (λ i l. h i (omega arith)))
 
-pub howMany-none : (n : ℕ) (holds : ℕ → Bool) → ((i : ℕ) → i < n → holds i ≡ false) → howMany n holds ≡ 0
-unfolding howMany
-howMany-none zero holds h = refl
-howMany-none (suc n) holds h =
-    rw (h n (omega arith)) (omega (arith, howMany-none n holds (λ i l. h i (omega arith))))
+pub count-below-none : (n : ℕ) (holds : ℕ → Bool) → ((i : ℕ) → i < n → holds i ≡ false) → countBelow n holds ≡ 0
+unfolding countBelow
+count-below-none zero holds h = refl
+count-below-none (suc n) holds h =
+    rw (h n (omega arith)) (omega (arith, count-below-none n holds (λ i l. h i (omega arith))))
 
-pub howMany-all : (n : ℕ) (holds : ℕ → Bool) → ((i : ℕ) → i < n → holds i ≡ true) → howMany n holds ≡ n
-unfolding howMany
-howMany-all zero holds h = refl
-howMany-all (suc n) holds h =
-    rw (h n (omega arith)) (omega (arith, howMany-all n holds (λ i l. h i (omega arith))))
+pub count-below-all : (n : ℕ) (holds : ℕ → Bool) → ((i : ℕ) → i < n → holds i ≡ true) → countBelow n holds ≡ n
+unfolding countBelow
+count-below-all zero holds h = refl
+count-below-all (suc n) holds h =
+    rw (h n (omega arith)) (omega (arith, count-below-all n holds (λ i l. h i (omega arith))))
 
 -- f misses, then w hits, then r misses
-howMany-run :
+count-below-run :
     (f w r : ℕ) (holds : ℕ → Bool)
     → ((i : ℕ) → i < f → holds i ≡ false)
     → ((i : ℕ) → i < w → holds (f + i) ≡ true)
     → ((i : ℕ) → i < r → holds (f + w + i) ≡ false)
-    → howMany (f + w + r) holds ≡ w
-howMany-run f w r holds before hits after =
+    → countBelow (f + w + r) holds ≡ w
+count-below-run f w r holds before hits after =
     omega (
       arith,
-      howMany-split (f + w) r holds,
-      howMany-split f w holds,
-      howMany-none f holds before,
-      howMany-all w (λ i. holds (f + i)) hits,
-      howMany-none r (λ i. holds (f + w + i)) after,
+      count-below-split (f + w) r holds,
+      count-below-split f w holds,
+      count-below-none f holds before,
+      count-below-all w (λ i. holds (f + i)) hits,
+      count-below-none r (λ i. holds (f + w + i)) after,
     )
 
 -- a condition beside the test
-pub howMany-and :
-    (n : ℕ) (b : Bool) (holds : ℕ → Bool) → howMany n (λ i. b && holds i) ≡ cond b 1 0 * howMany n holds
-howMany-and n true holds = omega arith
-howMany-and n false holds = omega (arith, howMany-none n (λ i. false) (λ i l. refl))
+pub count-below-and :
+    (n : ℕ) (b : Bool) (holds : ℕ → Bool) → countBelow n (λ i. b && holds i) ≡ cond b 1 0 * countBelow n holds
+count-below-and n true holds = omega arith
+count-below-and n false holds = omega (arith, count-below-none n (λ i. false) (λ i l. refl))
 
 -- ---- the numbers from one to another
 
@@ -132,13 +132,13 @@ module _ (n first last : ℕ) (in-order : first ≤ last) (inside : last < n) wh
       (rw (le-leb first first (omega arith), le-leb first last in-order))
       (λ i l. rw (lt-leb first i l))
 
-  pub howMany-between : howMany n (between first last) ≡ last - first + 1
-  howMany-between =
+  pub count-below-between : countBelow n (between first last) ≡ last - first + 1
+  count-below-between =
       let width = last - first + 1 in
       let rest = n - last - 1 in
       let whole : first + width + rest ≡ n = omega arith in
       rw whole at
-      (howMany-run first width rest (between first last)
+      (count-below-run first width rest (between first last)
       (λ i l. rw (lt-leb first i l))
       (λ i l. rw (le-leb first (first + i) (omega arith), le-leb (first + i) last (omega arith)))
       (λ i l. rw (lt-leb (first + width + i) last (omega arith)) (and-false (leb first (first + width + i)))))

@@ -9,12 +9,12 @@ use native.Mathlib.Omega.{arith}
 use lib.Dec.{leb}
 use lib.Count.{ones, trailingZeros}
 use borrow.Author.Tests.{eqb-true, leb-true, eq-eqb, le-leb}
-use Rattle.reading.specs.Pattern.{kindOf, slotOf, bit, covers, least, howMany, WellFormedPattern}
+use Rattle.reading.specs.Pattern.{kindOf, slotOf, bit, covers, least, countBelow, WellFormedPattern}
 use Rattle.reading.specs.Promises.{CoversMeans, MeasuresPattern}
 use Rattle.reading.specs.declared.Pattern.{Pattern}
 use Rattle.reading.proofs.Bits.{isSet, trailing-is-least, trailing-lt, ones-is-count}
-use Rattle.reading.proofs.Counting.{least-holds, least-below, howMany-le, between, least-between, howMany-between}
-use Rattle.reading.proofs.Products.{ofBoth, least-of-both, howMany-of-both}
+use Rattle.reading.proofs.Counting.{least-holds, least-below, count-below-le, between, least-between, count-below-between}
+use Rattle.reading.proofs.Products.{ofBoth, least-of-both, count-below-of-both}
 
 pub covers-means : CoversMeans
 unfolding covers
@@ -50,21 +50,21 @@ module _ (p : Pattern) (ok : WellFormedPattern p) where
       rw covers-both (omega (arith, lowest-slot))
 
   -- each kind of the mask has the slots from first to last
-  pub code-count : howMany 256 (covers p) ≡ ones (p .mask) * (p .last - p .first + 1)
+  pub code-count : countBelow 256 (covers p) ≡ ones (p .mask) * (p .last - p .first + 1)
   code-count =
       rw (
         covers-both,
         ones-is-count 8 (p .mask) (omega arith),
-        ← howMany-between 32 (p .first) (p .last) (ok .in-order) (omega arith),
+        ← count-below-between 32 (p .first) (p .last) (ok .in-order) (omega arith),
       )
-      (howMany-of-both (isSet (p .mask)) (between (p .first) (p .last)) 8)
+      (count-below-of-both (isSet (p .mask)) (between (p .first) (p .last)) 8)
 
   -- neither is past the 256 codes
   pub lowest-fits : trailingZeros 8 (p .mask) * 32 + p .first < 256
   lowest-fits = omega (arith, lowest-kind)
 
   pub count-fits : ones (p .mask) * (p .last - p .first + 1) ≤ 256
-  count-fits = rw code-count at (howMany-le 256 (covers p))
+  count-fits = rw code-count at (count-below-le 256 (covers p))
 
   pub measures-pattern : MeasuresPattern p
   measures-pattern = record {

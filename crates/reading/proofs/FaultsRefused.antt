@@ -16,9 +16,9 @@ use Rattle.reading.specs.Faults.{file-ended, pattern-cut, node-cut, no-k
 use Rattle.reading.specs.Faults.{unguarded}
 use Rattle.reading.specs.Numbered.{readingOf}
 use Rattle.reading.specs.Promises.{RefusesAtTheFault, HasOneFault}
-use Rattle.reading.specs.Answers.{patternRead, nodeRead}
+use Rattle.reading.specs.Representations.{patternRead, nodeRead}
 use Rattle.reading.specs.declared.Pattern.{Pattern}
-use Rattle.reading.specs.declared.Answer.the-variants.{Refused}
+use Rattle.reading.specs.declared.Acceptance.the-variants.{Refused}
 use Rattle.reading.specs.declared.patterns.PatternRead.the-variants as PatternRead
 use Rattle.reading.specs.declared.formulas.NodeRead.the-variants as NodeRead
 use Rattle.reading.proofs.ByteLaws.{byte-at}

@@ -9,10 +9,10 @@ use lib.Seq.{set-at}
 use Rattle.reading.specs.Pattern.{extentOf}
 use Rattle.reading.specs.File.{Outcome, accepted, refused, andThen, Patterns, isPattern, patternAt, patternsAt, withPattern}
 use Rattle.reading.specs.Numbered.{padded, noPattern, noExtent}
-use Rattle.reading.specs.Answers.{patternRead, HeadOf}
+use Rattle.reading.specs.Representations.{patternRead, HeadOf}
 use Rattle.reading.specs.declared.Pattern.{Pattern}
 use Rattle.reading.specs.declared.Extent.{Extent}
-use Rattle.reading.specs.declared.Answer as Answer′
+use Rattle.reading.specs.declared.Acceptance as Acceptance′
 use Rattle.reading.specs.declared.patterns.PatternRead.the-variants as PatternRead
 use Rattle.reading.specs.declared.patterns.Head.{Head}
 use Rattle.reading.proofs.PatternBytes.{none-read}
@@ -62,7 +62,7 @@ no-pattern-found (refused number place) e = cc
 -- ---- the loop
 
 -- n patterns are read, up to `at`, and the arrays have them
-pub record Begun (s : List ℕ) (list : List Pattern) (extents : List Extent) (at n : ℕ) : Type 0 where
+pub record PatternsBegun (s : List ℕ) (list : List Pattern) (extents : List Extent) (at n : ℕ) : Type 0 where
   pub ps : List Pattern
   pub read : length ps ≡ n
   pub few : n ≤ 32
@@ -70,12 +70,12 @@ pub record Begun (s : List ℕ) (list : List Pattern) (extents : List Extent) (a
   pub measured : extents ≡ padded 32 noExtent (map extentOf ps)
   pub rest : patternsAt 32 s 0 ≡ prepend ps (patternsAt (32 - n) s at)
 
-pub none-begun : (s : List ℕ) → Begun s (replicate 32 noPattern) (replicate 32 noExtent) 0 0
+pub none-begun : (s : List ℕ) → PatternsBegun s (replicate 32 noPattern) (replicate 32 noExtent) 0 0
 none-begun s = record { ps = []; read = refl; few = omega arith; patterns = refl; measured = refl; rest = prepend-none _ }
 
-module _ (s : List ℕ) (list : List Pattern) (extents : List Extent) (at n : ℕ) (b : Begun s list extents at n) where
+module _ (s : List ℕ) (list : List Pattern) (extents : List Extent) (at n : ℕ) (b : PatternsBegun s list extents at n) where
   pub one-begun : (p : Pattern) → isPattern s at ≡ true → 0 < 32 - n → patternAt s at (32 - n) ≡ accepted p
-      → Begun s (set list n p) (set extents n (extentOf p)) (at + 4) (n + 1)
+      → PatternsBegun s (set list n p) (set extents n (extentOf p)) (at + 4) (n + 1)
   one-begun p e pos h =
       let left : 32 - n ≡ suc (32 - (n + 1)) = omega arith in
       let more = patternsAt (32 - (n + 1)) s (at + 4) in
@@ -91,13 +91,13 @@ module _ (s : List ℕ) (list : List Pattern) (extents : List Extent) (at n : �
       }
 
   pub all-begun : isPattern s at ≡ false
-      → HeadOf (patternsAt 32 s 0) (record { answer = Answer′.the-variants.Accepted; next = at; count = n; list = list; extents = extents })
+      → HeadOf (patternsAt 32 s 0) (record { answer = Acceptance′.the-variants.Accepted; next = at; count = n; list = list; extents = extents })
   all-begun e =
       let r : patternsAt 32 s 0 ≡ accepted (record { list = b .ps; next = at }) = b .rest ∙ rw (none-read s at (32 - n) e, append-nil (b .ps)) in
       rw r (cc)
 
   pub begun-refused : (number place : ℕ) (h : Head) → isPattern s at ≡ true → patternAt s at (32 - n) ≡ refused number place
-      → h .answer ≡ Answer′.the-variants.Refused number place → HeadOf (patternsAt 32 s 0) h
+      → h .answer ≡ Acceptance′.the-variants.Refused number place → HeadOf (patternsAt 32 s 0) h
   begun-refused number place h e r a =
       let f : patternsAt 32 s 0 ≡ refused number place = b .rest ∙ rw (one-refused s at (32 - n) e r) in
       rw f a

@@ -10,7 +10,7 @@ use lib.ListN.{length}
 use lib.Dec.{ltb}
 use Rattle.reading.specs.Rule.{Guards, guarded, Rule}
 use Rattle.reading.specs.File.{Outcome, accepted, refused, refuse, andThen, patternAt, isPattern, Patterns, withPattern, patternsAt}
-use Rattle.reading.specs.File.{Symbol, Truth, Falsity, Both, Max, Necessity, Variable, nodeAt, Parsed, partsBy, formulaOf, ended, ruleOf}
+use Rattle.reading.specs.File.{Symbol, Truth, Falsity, Both, Max, Necessity, Variable, nodeAt, Parsed, partsBy, formulaOf, endOfFile, ruleOf}
 use Rattle.reading.specs.declared.Pattern.{Pattern}
 use Rattle.reading.proofs.Outcomes.{then-agree}
 use Rattle.reading.proofs.NodeBytes.{node-accepts}
@@ -139,9 +139,9 @@ module _ (s : List ℕ) where
   ends-alike true at r = refl
   ends-alike false at r = refl
 
-  formula-ends : (ps : List Pattern) (n at : ℕ) → refusal (andThen (formulaOf s n at 64 []) (ended s ps)) ≡ dueAt 64 n at ([] ∷ [])
+  formula-ends : (ps : List Pattern) (n at : ℕ) → refusal (andThen (formulaOf s n at 64 []) (endOfFile s ps)) ≡ dueAt 64 n at ([] ∷ [])
   formula-ends ps n at =
-      refusal-then (formulaOf s n at 64 []) (ended s ps)
+      refusal-then (formulaOf s n at 64 []) (endOfFile s ps)
       ∙ (then-agree (formulaOf s n at 64 []) _ (then-due n []) (λ f e.
       ends-alike (ltb (f .next) (length s)) (f .next) _ ∙ sym (due-over (f .left) n (f .next)))
       ∙ formula-due n 65 at 64 [] [] (omega arith))

@@ -7,7 +7,7 @@ use native.Mathlib.Omega.{arith}
 use lib.ListN.{length, getD, length-append, List·getD-append}
 use lib.Seq.{getD-append-add}
 use Rattle.reading.specs.Rule.{Formula, truth, falsity, both, necessity, max, variable, size}
-use Rattle.reading.specs.Nodes.{EnclosingMax, Node, whole, first, second, after, body, inOrder}
+use Rattle.reading.specs.Nodes.{EnclosingMax, Node, whole, first, second, after, body, preorder}
 
 pub size-positive : (f : Formula) → 0 < size f
 size-positive truth = omega arith
@@ -19,7 +19,7 @@ size-positive (variable d) = omega arith
 
 module _ {M A : Type 0} (keep : EnclosingMax → M) (own : ℕ → List M → Formula → A) where
   abbrev listed : ℕ → List M → Formula → List A
-  listed = inOrder keep own
+  listed = preorder keep own
 
   pub listed-size : (k : ℕ) (ms : List M) (f : Formula) → length (listed k ms f) ≡ size f
   listed-size k ms truth = refl
@@ -68,7 +68,7 @@ named k ms f = (ms, f)
 
 -- the list of the nodes so named has a node at its number
 node-found : {root : Formula} {k : ℕ} {ms : List EnclosingMax} {f : Formula} → Node root k ms f
-    → getD (inOrder (λ (m : EnclosingMax). m) named 0 [] root) k (named 0 [] truth) ≡ named k ms f
+    → getD (preorder (λ (m : EnclosingMax). m) named 0 [] root) k (named 0 [] truth) ≡ named k ms f
 node-found {root} {ms = ms} n = rw map-id at (listed-at (λ (m : EnclosingMax). m) named root (named 0 [] truth) n)
 
 pub node-unique : {root : Formula} {k : ℕ} {ms ms′ : List EnclosingMax} {f f′ : Formula} → Node root k ms f → Node root k ms′ f′

@@ -11,7 +11,7 @@ use borrow.Author.Tests.{ltb-false, leb-false, eqb-false, lt-leb, ne-eqb, not-fa
 use Rattle.reading.specs.Rule.{Guards}
 use Rattle.reading.specs.File.{Outcome, accepted}
 use Rattle.reading.specs.File.{Symbol, Truth, Falsity, Both, Necessity, Max, Variable, NodeRecord, necessityAt, variableAt, bareAt, nodeAt}
-use Rattle.reading.specs.Answers.{kindByte, nodeRead}
+use Rattle.reading.specs.Representations.{kindByte, nodeRead}
 use Rattle.reading.specs.declared.formulas.NodeRead.the-variants as NodeRead
 use Rattle.reading.proofs.Outcomes.{accepted-is, passes, neither}
 use Rattle.reading.proofs.Places.{Byte}

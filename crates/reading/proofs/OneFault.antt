@@ -4,17 +4,17 @@ use mathlib.Core.Logic.{_↔_}
 use Prim.Native.Nat.{ℕ}
 use native.Mathlib.Omega.{arith}
 use Rattle.reading.specs.Promises.{OneFault}
-use Rattle.reading.specs.declared.Answer.{Answer}
-use Rattle.reading.specs.declared.Answer.the-variants.{Accepted, Refused}
+use Rattle.reading.specs.declared.Acceptance.{Acceptance}
+use Rattle.reading.specs.declared.Acceptance.the-variants.{Accepted, Refused}
 
 never-both : {number place : ℕ} → Accepted ≡ Refused number place → ⊥
 never-both e = let z : _≡_ {A = ℕ} 0 1 = cc in omega arith
 
-one-refusal : {answer : Answer} {number place number′ place′ : ℕ} → answer ≡ Refused number place → answer ≡ Refused number′ place′
+one-refusal : {answer : Acceptance} {number place number′ place′ : ℕ} → answer ≡ Refused number place → answer ≡ Refused number′ place′
     → (number ≡ number′) × (place ≡ place′)
 one-refusal e e′ = (cc, cc)
 
-pub one-fault : {Holds : (number place : ℕ) → Type 0} (answer : Answer)
+pub one-fault : {Holds : (number place : ℕ) → Type 0} (answer : Acceptance)
     → ((number place : ℕ) → (answer ≡ Refused number place) ↔ Holds number place) → OneFault answer Holds
 one-fault Accepted exactly = record {
   one = λ {number} {place} fault other. absurd (never-both (exactly number place .1 fault));

@@ -11,7 +11,7 @@ use Rattle.reading.specs.Rule.{Formula, both, necessity, max, size, Guar
 use Rattle.reading.specs.File.{Outcome, accepted, refused, andThen}
 use Rattle.reading.specs.File.{Symbol, Truth, Falsity, Both, Necessity, Max, Variable, NodeRecord, nodeAt, Parsed, under, partsBy, formulaOf}
 use Rattle.reading.specs.Numbered.{kinds, args}
-use Rattle.reading.specs.Answers.{kindByte, bodyByte, nodeRead, formulaRead, passedUp, Reads}
+use Rattle.reading.specs.Representations.{kindByte, bodyByte, nodeRead, formulaRead, passedUp, Reads}
 use Rattle.reading.specs.declared.formulas.Record.{Record}
 use Rattle.reading.specs.declared.formulas.Rest.{Rest}
 use Rattle.reading.specs.declared.formulas.NodeRead.{NodeRead}
@@ -177,16 +177,16 @@ module _ (s : List ℕ) (n at left : ℕ) (g : Guards) (ms ks gs : List ℕ) whe
       (record { answer = e ∙ ap passedUp is; written = tt })
 
   module _ (node : Record) (found : Found s n at left g node) where
-    abbrev ended : FormulaRead
-    ended = FormulaRead′.Read (record { next = node .next; left = left - 1 })
+    abbrev one-node : FormulaRead
+    one-node = FormulaRead′.Read (record { next = node .next; left = left - 1 })
 
     pub is-leaf : (node .kind ≡ 4 → ⊥) → (node .kind ≡ 5 → ⊥) → (node .kind ≡ 6 → ⊥) → (node .kind ≡ 7 → ⊥)
-        → Whole (set ks (64 - left) (node .kind)) (set gs (64 - left) (node .body)) ended
+        → Whole (set ks (64 - left) (node .kind)) (set gs (64 - left) (node .body)) one-node
     is-leaf h4 h5 h6 h7 = on (found .symbol) (found .kind-is) (found .body-is) (found .step)
       where
         on : (x : Symbol) → node .kind ≡ kindByte x → node .body ≡ bodyByte x
             → formulaOf s n at left g ≡ partsBy (formulaOf s n) x (node .next) (left - 1) g
-            → Whole (set ks (64 - left) (node .kind)) (set gs (64 - left) (node .body)) ended
+            → Whole (set ks (64 - left) (node .kind)) (set gs (64 - left) (node .body)) one-node
         on Truth k b e = whole e (record { answer = refl; written = (rw k, rw b) })
         on Falsity k b e = whole e (record { answer = refl; written = (rw k, rw b) })
         on Both k b e = absurd (h4 k)
@@ -195,7 +195,7 @@ module _ (s : List ℕ) (n at left : ℕ) (g : Guards) (ms ks gs : List ℕ) whe
         on (Variable d) k b e = absurd (h7 k)
 
     pub is-variable : node .kind ≡ 7 → (x : ℕ) → x ≡ getD ms (node .body) 0
-        → Whole (set ks (64 - left) (node .kind)) (set (set gs (64 - left) (node .body)) (64 - left) x) ended
+        → Whole (set ks (64 - left) (node .kind)) (set (set gs (64 - left) (node .body)) (64 - left) x) one-node
     is-variable k x e =
         whole (step-as found (Variable (node .body)) (rw k))
         (record { answer = refl; written = (rw k, set-set gs (64 - left) (node .body) x ∙ rw e) })

@@ -8,7 +8,7 @@ use lib.ListN.{length}
 use borrow.Author.Tests.{lt-ltb}
 use Rattle.reading.specs.Rule.{Guards, Bytes}
 use Rattle.reading.specs.File.{Outcome, accepted, andThen, patternAt, isPattern, Patterns, patternsAt}
-use Rattle.reading.specs.File.{NodeRecord, necessityAt, variableAt, nodeAt, Parsed, formulaAt, formulaOf, ended, ruleOf}
+use Rattle.reading.specs.File.{NodeRecord, necessityAt, variableAt, nodeAt, Parsed, formulaAt, formulaOf, endOfFile, ruleOf}
 use Rattle.reading.specs.Promises.{SettledByFirstBytes, NotByFewer}
 use Rattle.reading.specs.declared.Pattern.{Pattern}
 use Rattle.reading.proofs.Agreement.{Agree, inside, settled}
@@ -100,16 +100,16 @@ module _ (s t : List ℕ) (a : Agree 257 s t) where
   patterns-agree (suc left) at h =
       rw (is-pattern-agrees at (omega arith), pattern-agrees at (suc left) (omega arith), patterns-agree left (at + 4) (omega arith))
 
-  ended-agrees : (ps : List Pattern) (f : Parsed) → f .next < 257 → ended s ps f ≡ ended t ps f
-  ended-agrees ps f h = rw (lt-ltb (f .next) (length s) (omega (arith, a .long)), lt-ltb (f .next) (length t) (omega (arith, a .long′)))
+  end-of-file-agrees : (ps : List Pattern) (f : Parsed) → f .next < 257 → endOfFile s ps f ≡ endOfFile t ps f
+  end-of-file-agrees ps f h = rw (lt-ltb (f .next) (length s) (omega (arith, a .long)), lt-ltb (f .next) (length t) (omega (arith, a .long′)))
 
   formula-ends : (ps : List Pattern) (n at : ℕ) → at ≤ 128
-      → andThen (formulaOf s n at 64 []) (ended s ps) ≡ andThen (formulaOf t n at 64 []) (ended t ps)
+      → andThen (formulaOf s n at 64 []) (endOfFile s ps) ≡ andThen (formulaOf t n at 64 []) (endOfFile t ps)
   formula-ends ps n at h =
       let room : Room 65 at 64 = (omega arith, omega arith) in
       both-agree (formulaOf s n at 64 []) (formulaOf t n at 64 []) _ _ (formula-agrees 65 n at 64 [] room) (λ f e.
       let (fewer, fits) = after-formula 65 s n at 64 [] f room (formula-sound s n at 64 [] f e) in
-      ended-agrees ps f (omega arith))
+      end-of-file-agrees ps f (omega arith))
 
   rule-agrees : ruleOf s ≡ ruleOf t
   unfolding ruleOf

@@ -5,9 +5,9 @@ use Prim.Native.Nat.{ℕ, zero, suc, _+_, _*_, _≤_, _<_}
 use native.Mathlib.Nat.{add-mul, lt-of-not-le}
 use native.Mathlib.Decide.{decLe}
 use native.Mathlib.Omega.{arith}
-use Rattle.reading.specs.Pattern.{codeOf, kindOf, slotOf, least, howMany}
+use Rattle.reading.specs.Pattern.{codeOf, kindOf, slotOf, least, countBelow}
 use Rattle.reading.proofs.Codes.{kind-of-code, slot-of-code}
-use Rattle.reading.proofs.Counting.{least-is, least-holds, least-below, howMany-zero, howMany-last, howMany-split, howMany-same, howMany-and}
+use Rattle.reading.proofs.Counting.{least-is, least-holds, least-below, count-below-zero, count-below-last, count-below-split, count-below-same, count-below-and}
 
 abbrev pub ofBoth : (ℕ → Bool) → (ℕ → Bool) → ℕ → Bool
 ofBoth kinds slots code = kinds (kindOf code) && slots (slotOf code)
@@ -31,13 +31,13 @@ module _ (kinds slots : ℕ → Bool) where
       below i l (yes y) = rw (least-below 32 slots (slotOf i) (omega arith)) (and-false (kinds (kindOf i)))
       below i l (no m) = rw (least-below n kinds (kindOf i) (lt-of-not-le m))
 
-  of-kind : (kind : ℕ) → howMany 32 (λ i. ofBoth kinds slots (codeOf kind i)) ≡ cond (kinds kind) 1 0 * howMany 32 slots
-  of-kind kind = howMany-same 32 _ (λ i. kinds kind && slots i) (at-code kind) ∙ howMany-and 32 (kinds kind) slots
+  of-kind : (kind : ℕ) → countBelow 32 (λ i. ofBoth kinds slots (codeOf kind i)) ≡ cond (kinds kind) 1 0 * countBelow 32 slots
+  of-kind kind = count-below-same 32 _ (λ i. kinds kind && slots i) (at-code kind) ∙ count-below-and 32 (kinds kind) slots
 
   -- as many slots for each kind
-  pub howMany-of-both : (n : ℕ) → howMany (32 * n) (ofBoth kinds slots) ≡ howMany n kinds * howMany 32 slots
-  howMany-of-both zero = simp howMany-zero (omega arith)
-  howMany-of-both (suc n) =
+  pub count-below-of-both : (n : ℕ) → countBelow (32 * n) (ofBoth kinds slots) ≡ countBelow n kinds * countBelow 32 slots
+  count-below-of-both zero = simp count-below-zero (omega arith)
+  count-below-of-both (suc n) =
       let more : 32 * suc n ≡ 32 * n + 32 = omega arith in
-      rw (more, howMany-split, howMany-of-both n, of-kind n, howMany-last n kinds)
-      (sym (add-mul (howMany n kinds) (cond (kinds n) 1 0) (howMany 32 slots)))
+      rw (more, count-below-split, count-below-of-both n, of-kind n, count-below-last n kinds)
+      (sym (add-mul (countBelow n kinds) (cond (kinds n) 1 0) (countBelow 32 slots)))

@@ -8,7 +8,7 @@ use native.Mathlib.Numerals.{add-one}
 use lib.ListN.{length, getD, set, replicate, length-append, length-replicate, getD-replicate, List·getD-append}
 use lib.Seq.{getD-set-same, getD-set-other}
 use Rattle.reading.specs.Rule.{Guards, guarded}
-use Rattle.reading.specs.Answers.{lastFirst, guardsOf}
+use Rattle.reading.specs.Representations.{lastFirst, guardsOf}
 
 -- ---- numbers
 

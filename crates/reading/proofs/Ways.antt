@@ -7,11 +7,11 @@ use lib.ListN.{length, drop, replicate, length-replicate}
 use lib.Seq.{sets, sets-eq}
 use borrow.Author.Tests.{le-ltb, lt-ltb}
 use Rattle.reading.specs.Rule.{size}
-use Rattle.reading.specs.File.{Outcome, accepted, refused, andThen, Patterns, patternsAt, Parsed, formulaOf, ended, ruleOf}
+use Rattle.reading.specs.File.{Outcome, accepted, refused, andThen, Patterns, patternsAt, Parsed, formulaOf, endOfFile, ruleOf}
 use Rattle.reading.specs.Numbered.{kinds, args, padded, blank, readingOf}
-use Rattle.reading.specs.Answers.{HeadOf, headOf, IsScope, enclosing, guardsOf, Reads, formulaAnswer}
-use Rattle.reading.specs.declared.Answer.{Answer}
-use Rattle.reading.specs.declared.Answer as Answer′
+use Rattle.reading.specs.Representations.{HeadOf, headOf, IsScope, enclosing, guardsOf, Reads, formulaAnswer}
+use Rattle.reading.specs.declared.Acceptance.{Acceptance}
+use Rattle.reading.specs.declared.Acceptance as Acceptance′
 use Rattle.reading.specs.declared.Reading.{Reading}
 use Rattle.reading.specs.declared.patterns.Head.{Head}
 use Rattle.reading.specs.declared.formulas.Scope.{Scope}
@@ -36,18 +36,18 @@ sets-blank m x vs h =
 
 -- ---- the patterns
 
-answer-head : (o : Outcome Patterns) (h : Head) → HeadOf o h → {number place : ℕ} → h .answer ≡ Answer′.the-variants.Refused number place
+answer-head : (o : Outcome Patterns) (h : Head) → HeadOf o h → {number place : ℕ} → h .answer ≡ Acceptance′.the-variants.Refused number place
     → o ≡ refused number place
 answer-head (accepted ps) h e a = let z : _≡_ {A = ℕ} 0 1 = cc (ap (λ (x : Head). x .answer) e) in absurd (omega arith)
 answer-head (refused number place) h e a = cc
 
-accepted-head : (o : Outcome Patterns) (h : Head) → HeadOf o h → h .answer ≡ Answer′.the-variants.Accepted
+accepted-head : (o : Outcome Patterns) (h : Head) → HeadOf o h → h .answer ≡ Acceptance′.the-variants.Accepted
     → (ps : Patterns) × (o ≡ accepted ps) × (h ≡ headOf ps)
 accepted-head (accepted ps) h e a = (ps, refl, e)
 accepted-head (refused number place) h e a = let z : _≡_ {A = ℕ} 0 1 = cc in absurd (omega arith)
 
 pub head-refused : (s : List ℕ) (h : Head) (r : Reading) → HeadOf (patternsAt 32 s 0) h → {number place : ℕ}
-    → h .answer ≡ Answer′.the-variants.Refused number place → r ≡ record { answer = h .answer; rule = blank } → r ≡ readingOf (ruleOf s)
+    → h .answer ≡ Acceptance′.the-variants.Refused number place → r ≡ record { answer = h .answer; rule = blank } → r ≡ readingOf (ruleOf s)
 unfolding ruleOf
 head-refused s h r is e a = a ∙ rw (answer-head (patternsAt 32 s 0) h is e, e)
 
@@ -64,7 +64,7 @@ pub record AfterPatterns (s : List ℕ) (h : Head) (ks gs : List ℕ) (found : F
 pub record AfterFormula (s : List ℕ) (h : Head) (ks gs : List ℕ) (rest : Rest) : Type 0 where
   pub ps : Patterns
   pub f : Parsed
-  pub says : ruleOf s ≡ ended s (ps .list) f
+  pub says : ruleOf s ≡ endOfFile s (ps .list) f
   pub is : h ≡ headOf ps
   pub is-rest : rest ≡ record { next = f .next; left = f .left }
   pub nodes : size (f .formula) + f .left ≡ 64
@@ -82,14 +82,14 @@ module _ {s : List ℕ} {h : Head} {ks gs : List ℕ} {rest : Rest} (x : AfterFo
   pub few-left : rest .left ≤ 64
   few-left = omega (arith, left-is, x .nodes)
 
-  pub bytes-follow : rest .next < length s → (r : Reading) → r ≡ record { answer = Answer′.the-variants.Refused 3 (rest .next); rule = blank }
+  pub bytes-follow : rest .next < length s → (r : Reading) → r ≡ record { answer = Acceptance′.the-variants.Refused 3 (rest .next); rule = blank }
       → r ≡ readingOf (ruleOf s)
   bytes-follow more r a =
       let inside : x .f .next < length s = omega (arith, next-is) in
-      a ∙ rw (x .says, lt-ltb _ _ inside) (ap (λ (n : ℕ). record { answer = Answer′.the-variants.Refused 3 n; rule = blank }) next-is)
+      a ∙ rw (x .says, lt-ltb _ _ inside) (ap (λ (n : ℕ). record { answer = Acceptance′.the-variants.Refused 3 n; rule = blank }) next-is)
 
   pub file-accepted : length s ≤ rest .next → record {
-    answer = Answer′.the-variants.Accepted;
+    answer = Acceptance′.the-variants.Accepted;
     rule = record { patterns = h .list; extents = h .extents; npatterns = h .count; kinds = ks; args = gs; nnodes = 64 - rest .left };
   } ≡ readingOf (ruleOf s)
   file-accepted ends =
@@ -101,11 +101,11 @@ module _ {s : List ℕ} {h : Head} {ks gs : List ℕ} {rest : Rest} (x : AfterFo
       rw (x .says, le-ltb _ _ over) (cc)
 
 then-formula : (s : List ℕ) (ps : Patterns) → patternsAt 32 s 0 ≡ accepted ps
-    → ruleOf s ≡ andThen (formulaOf s (length (ps .list)) (ps .next) 64 []) (ended s (ps .list))
+    → ruleOf s ≡ andThen (formulaOf s (length (ps .list)) (ps .next) 64 []) (endOfFile s (ps .list))
 unfolding ruleOf
 then-formula s ps e = rw e
 
-module _ (s : List ℕ) (h : Head) (is : HeadOf (patternsAt 32 s 0) h) (ok : h .answer ≡ Answer′.the-variants.Accepted)
+module _ (s : List ℕ) (h : Head) (is : HeadOf (patternsAt 32 s 0) h) (ok : h .answer ≡ Acceptance′.the-variants.Accepted)
     (sc : Scope) (outer : IsScope sc 0 [] []) (ks gs : List ℕ) (found : FormulaRead)
     (reads : Reads (formulaOf s (h .count) (h .next) 64 (guardsOf (sc .count) (sc .unguarded))) 64 (enclosing sc)
     (replicate 64 0) (replicate 64 0) ks gs found) where
@@ -119,7 +119,7 @@ module _ (s : List ℕ) (h : Head) (is : HeadOf (patternsAt 32 s 0) h) (ok : h .
           record { ps = ps; read = read; is = e; reads = rw (outer .numbers, outer .guards, next, count) at reads }
 
   pub formula-refused : {number place : ℕ} → found ≡ FormulaRead′.the-variants.Refused number place
-      → (a : Answer) → a ≡ formulaAnswer found → (r : Reading) → r ≡ record { answer = a; rule = blank } → r ≡ readingOf (ruleOf s)
+      → (a : Acceptance) → a ≡ formulaAnswer found → (r : Reading) → r ≡ record { answer = a; rule = blank } → r ≡ readingOf (ruleOf s)
   formula-refused {number} {place} e a is-a r is-r =
       let p = after-patterns in
       let refusal : formulaOf s (length (p .ps .list)) (p .ps .next) 64 [] ≡ refused number place = not-read _ (sym (p .reads .answer) ∙ e) in

@@ -145,8 +145,8 @@ formulaOf s n at left g = formulaAt (suc left) s n at left g
 -- ---- the whole file
 
 -- after the formula the file ends
-abbrev pub ended : List ℕ → List Pattern → Parsed → Outcome Rule
-ended s ps f = refuse (ltb (f .next) (length s)) 3 (f .next) (accepted (record { patterns = ps; formula = f .formula }))
+abbrev pub endOfFile : List ℕ → List Pattern → Parsed → Outcome Rule
+endOfFile s ps f = refuse (ltb (f .next) (length s)) 3 (f .next) (accepted (record { patterns = ps; formula = f .formula }))
 
 unfoldable pub ruleOf : List ℕ → Outcome Rule
-ruleOf s = andThen (patternsAt 32 s 0) (λ ps. andThen (formulaOf s (length (ps .list)) (ps .next) 64 []) (ended s (ps .list)))
+ruleOf s = andThen (patternsAt 32 s 0) (λ ps. andThen (formulaOf s (length (ps .list)) (ps .next) 64 []) (endOfFile s (ps .list)))

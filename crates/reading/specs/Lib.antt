@@ -6,4 +6,4 @@ pub mod Faults
 pub mod Nodes
 pub mod Numbered
 pub mod Promises
-pub mod Answers
+pub mod Representations

@@ -33,13 +33,13 @@ guardsAt (body n) = false ∷ guardsAt n
 
 -- One element for each node of a formula that begins at node k, in reading order: `own` of its number, of the maxes around it, of each
 -- of which `keep` says what is kept, and of its formula.
-abbrev pub inOrder : {M A : Type 0} → (keep : EnclosingMax → M) → (own : ℕ → List M → Formula → A) → ℕ → List M → Formula → List A
-inOrder keep own k ms truth = own k ms truth ∷ []
-inOrder keep own k ms falsity = own k ms falsity ∷ []
-inOrder keep own k ms (both f g) = own k ms (both f g) ∷ (inOrder keep own (suc k) ms f ++ inOrder keep own (k + suc (size f)) ms g)
-inOrder keep own k ms (necessity p f) = own k ms (necessity p f) ∷ inOrder keep own (suc k) ms f
-inOrder keep own k ms (max f) = own k ms (max f) ∷ inOrder keep own (suc k) (keep (record { number = k; body = f }) ∷ ms) f
-inOrder keep own k ms (variable d) = own k ms (variable d) ∷ []
+abbrev pub preorder : {M A : Type 0} → (keep : EnclosingMax → M) → (own : ℕ → List M → Formula → A) → ℕ → List M → Formula → List A
+preorder keep own k ms truth = own k ms truth ∷ []
+preorder keep own k ms falsity = own k ms falsity ∷ []
+preorder keep own k ms (both f g) = own k ms (both f g) ∷ (preorder keep own (suc k) ms f ++ preorder keep own (k + suc (size f)) ms g)
+preorder keep own k ms (necessity p f) = own k ms (necessity p f) ∷ preorder keep own (suc k) ms f
+preorder keep own k ms (max f) = own k ms (max f) ∷ preorder keep own (suc k) (keep (record { number = k; body = f }) ∷ ms) f
+preorder keep own k ms (variable d) = own k ms (variable d) ∷ []
 
 -- What the kind and the argument of node k say: its formula, its parts by their numbers, and the max of a variable.
 pub data Resolves (root : Formula) (k : ℕ) (ms : List EnclosingMax) : (kind argument : ℕ) → Formula → Type 0 where

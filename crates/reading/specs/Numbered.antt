@@ -5,11 +5,11 @@ use lib.ListN.{length, getD, replicate}
 use Rattle.reading.specs.Pattern.{extentOf}
 use Rattle.reading.specs.Rule.{Formula, truth, falsity, both, necessity, max, variable, size, Rule}
 use Rattle.reading.specs.File.{Outcome, accepted, refused}
-use Rattle.reading.specs.Nodes.{EnclosingMax, inOrder}
+use Rattle.reading.specs.Nodes.{EnclosingMax, preorder}
 use Rattle.reading.specs.declared.Pattern.{Pattern}
 use Rattle.reading.specs.declared.Extent.{Extent}
 use Rattle.reading.specs.declared.NumberedRule.{NumberedRule}
-use Rattle.reading.specs.declared.Answer.the-variants.{Accepted, Refused}
+use Rattle.reading.specs.declared.Acceptance.the-variants.{Accepted, Refused}
 use Rattle.reading.specs.declared.Reading.{Reading}
 
 -- the kind of a node
@@ -36,10 +36,10 @@ numberOf m = m .number
 
 -- the kinds and the arguments of the nodes of a formula that begins at node k
 abbrev pub kinds : ℕ → List ℕ → Formula → List ℕ
-kinds = inOrder numberOf (λ k ms f. kind f)
+kinds = preorder numberOf (λ k ms f. kind f)
 
 abbrev pub args : ℕ → List ℕ → Formula → List ℕ
-args = inOrder numberOf argument
+args = preorder numberOf argument
 
 -- a list filled up to n elements
 abbrev pub padded : {A : Type 0} → ℕ → A → List A → List A

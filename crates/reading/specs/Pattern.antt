@@ -57,13 +57,13 @@ least zero holds = zero
 least (suc n) holds = cond (holds zero) zero (suc (least n (λ i. holds (suc i))))
 
 -- how many numbers below n a test holds of
-unfoldable pub howMany : ℕ → (ℕ → Bool) → ℕ
-howMany zero holds = zero
-howMany (suc n) holds = howMany n holds + cond (holds n) 1 0
+unfoldable pub countBelow : ℕ → (ℕ → Bool) → ℕ
+countBelow zero holds = zero
+countBelow (suc n) holds = countBelow n holds + cond (holds n) 1 0
 
 -- the lowest of the 256 codes that a pattern covers, and how many it covers
 abbrev pub extentOf : Pattern → Extent
-extentOf p = record { lowest = least 256 (covers p); count = howMany 256 (covers p) }
+extentOf p = record { lowest = least 256 (covers p); count = countBelow 256 (covers p) }
 
 -- what refusal 5 lets through; a mask is a byte
 pub record WellFormedPattern (p : Pattern) : Type 0 where

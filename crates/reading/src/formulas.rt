@@ -1,5 +1,5 @@
 // Node records, and a formula in prefix order.
-use crate::Answer;
+use crate::Acceptance;
 use crate::kinds::BOTH;
 use crate::kinds::MAX;
 use crate::kinds::NECESSITY;
@@ -12,7 +12,7 @@ ghost use mathlib.Core.Bool.{false};
 ghost use lib.ListN.{length, getD};
 ghost use Rattle.reading.specs.Rule.{guarded};
 ghost use Rattle.reading.specs.File.{necessityAt, variableAt, nodeAt, formulaOf};
-ghost use Rattle.reading.specs.Answers.{nodeRead, passedUp, formulaAnswer, enclosing, guardsOf, IsScope, Fit, Reads};
+ghost use Rattle.reading.specs.Representations.{nodeRead, passedUp, formulaAnswer, enclosing, guardsOf, IsScope, Fit, Reads};
 
 // The max nodes around a record, outermost first. The innermost `unguarded` of them have no necessity below them yet.
 pub(crate) struct Scope {
@@ -234,11 +234,11 @@ pub(crate) fn read_formula(
 }
 
 // The answer to a file whose formula was found so.
-pub(crate) fn answer(found: FormulaRead) -> Answer
+pub(crate) fn answer(found: FormulaRead) -> Acceptance
     ensures { λ r. ⌜ r ≡ formulaAnswer found ⌝ }
 {
     match found {
-        FormulaRead::Read(_) => Answer::Accepted,
-        FormulaRead::Refused(number, place) => Answer::Refused(number, place),
+        FormulaRead::Read(_) => Acceptance::Accepted,
+        FormulaRead::Refused(number, place) => Acceptance::Refused(number, place),
     }
 }

@@ -1,5 +1,5 @@
 // Pattern records: reading one, its lowest code and count, and all that a file begins with.
-use crate::Answer;
+use crate::Acceptance;
 use crate::Extent;
 use crate::Pattern;
 use crate::blank_rule;
@@ -9,7 +9,7 @@ ghost use Prim.Native.Nat.{_<_};
 ghost use lib.ListN.{length};
 ghost use Rattle.reading.specs.Pattern.{extentOf, WellFormedPattern};
 ghost use Rattle.reading.specs.File.{patternAt, isPattern, patternsAt};
-ghost use Rattle.reading.specs.Answers.{patternRead, patternAnswer, HeadOf};
+ghost use Rattle.reading.specs.Representations.{patternRead, patternAnswer, HeadOf};
 
 // What reading a pattern record finds: the pattern, or the number and place of a refusal.
 pub(crate) enum PatternRead {
@@ -19,7 +19,7 @@ pub(crate) enum PatternRead {
 
 // The patterns that a file begins with, and the place after them.
 pub(crate) struct Head {
-    pub(crate) answer: Answer,
+    pub(crate) answer: Acceptance,
     pub(crate) next: usize,
     pub(crate) count: usize,
     pub(crate) list: [Pattern; 32],
@@ -83,12 +83,12 @@ fn is_pattern(bytes: &[u8], at: usize) -> bool
 }
 
 // The answer to a file one of whose patterns was found so.
-fn answer(found: PatternRead) -> Answer
+fn answer(found: PatternRead) -> Acceptance
     ensures { λ r. ⌜ r ≡ patternAnswer found ⌝ }
 {
     match found {
-        PatternRead::Read(_) => Answer::Accepted,
-        PatternRead::Refused(number, place) => Answer::Refused(number, place),
+        PatternRead::Read(_) => Acceptance::Accepted,
+        PatternRead::Refused(number, place) => Acceptance::Refused(number, place),
     }
 }
 
@@ -119,7 +119,7 @@ pub(crate) fn read_patterns(bytes: &[u8]) -> Head
         at = at + 4;
     }
     Head {
-        answer: Answer::Accepted,
+        answer: Acceptance::Accepted,
         next: at,
         count: n,
         list,

@@ -16,10 +16,10 @@ use Rattle.running.proofs.Histories.{one-run}
 pub built-well-formed : BuiltWellFormed
 built-well-formed limit mark s table n e =
     let y = counted-accepts (buildingOf limit s (length table)) n e in
-    let made = building-accepts limit s (length table) (y .0) (y .1) in
-    let counts = answers-count limit s n (sym (ap countedOf (building-enough limit s (length table) (made .0))) ∙ e) in
+    let enough = building-accepts limit s (length table) (y .0) (y .1) in
+    let counts = answers-count limit s n (sym (ap countedOf (building-enough limit s (length table) (enough .0))) ∙ e) in
     let t = left limit mark s table in
-    let room : 256 * n ≤ length t = omega (arith, counts .few, made .0, table-rest limit mark s table n e .long) in
+    let room : 256 * n ≤ length t = omega (arith, counts .few, enough .0, table-rest limit mark s table n e .long) in
     record {
       some = counts .some;
       few = counts .few;

@@ -7,7 +7,7 @@ use lib.ListN.{length, length-append}
 use Rattle.reading.specs.File.{refused}
 use Rattle.synthesis.specs.Monitor.{Answer, kept, verdicts}
 use Rattle.synthesis.proofs.Runs.{run-induction, verdicts-length}
-use Rattle.running.specs.Running.{following, occurrences}
+use Rattle.running.specs.Running.{answerIn, occurrences}
 use Rattle.running.specs.Calls.{Call, History, withVerdict}
 use Rattle.running.specs.Promises.{Conserved, Conserves, CallsConserve}
 use Rattle.running.specs.declared.State.{State}
@@ -46,7 +46,7 @@ refused-conserved s scans number place = record { codes = λ c. refl; one-each =
 
 pub conserves : Conserves
 conserves limit mark table count s scans output verdicts =
-    let F = following mark table in
+    let F = answerIn mark table in
     run-cases limit mark table count s scans output verdicts (Conserved s scans)
     (λ r. refused-conserved s scans 15 0) (λ r f. refused-conserved s scans 16 0)
     (λ r f. record {
@@ -65,7 +65,7 @@ record Conserving (h : History) : Type 0 where
 
 more-conserving : (mark : ℕ) (h : History) (c : Call) → Conserving h → Conserving (withRun mark h c)
 more-conserving mark h c before =
-    let F = following mark (c .table) in
+    let F = answerIn mark (c .table) in
     let w = c .scans in
     let k = kept F (h .state) w in
     let v = verdicts F (h .state) w in

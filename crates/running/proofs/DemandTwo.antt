@@ -10,13 +10,13 @@ use Rattle.reading.specs.Rule.{Rule, Bytes}
 use Rattle.reading.proofs.AllLaws.{all-getD, all-of}
 use Rattle.reading.proofs.ByteLaws.{byte-at}
 use Rattle.synthesis.specs.Violation.{ViolatesRule}
-use Rattle.synthesis.specs.Monitor.{Answer, verdicts, Monitors, entry}
+use Rattle.synthesis.specs.Monitor.{Answer, verdicts, Monitors, lookup}
 use Rattle.synthesis.proofs.Runs.{verdicts-length}
 use Rattle.synthesis.proofs.Verdicts.{verdicts-range, verdicts-take, dropped-at}
 use Rattle.synthesis.proofs.MonitorLaws.{drops-violations, kept-safe}
 use Rattle.synthesis.proofs.Renaming.{renamed-monitors}
 use Rattle.synthesis.proofs.Built.{left, table-monitors}
-use Rattle.running.specs.Running.{start, moved, following, WellFormedTable}
+use Rattle.running.specs.Running.{start, moved, answerIn, WellFormedTable}
 use Rattle.running.specs.Calls.{History, Calls, OnTableOrRefused, withVerdict}
 use Rattle.running.specs.Promises.{Sifted, DropsExactly}
 use Rattle.running.proofs.WithVerdicts.{kept-with}
@@ -42,15 +42,15 @@ module _ {E : Type 0} (r : Rule) (answer : E → ℕ → Answer E) (first : E) (
 -- ---- a table
 
 -- the states of a run are the equations under a new name
-following-monitors : (r : Rule) (mark : ℕ) (table : List ℕ) → Monitors r (entry 256 mark table) 0 → Monitors r (following mark table) start
-following-monitors r mark table =
-    renamed-monitors r (λ e. Unit) (entry 256 mark table) (following mark table) (moved start)
+answer-in-monitors : (r : Rule) (mark : ℕ) (table : List ℕ) → Monitors r (lookup 256 mark table) 0 → Monitors r (answerIn mark table) start
+answer-in-monitors r mark table =
+    renamed-monitors r (λ e. Unit) (lookup 256 mark table) (answerIn mark table) (moved start)
     (record { stays = λ e e′ c ok b q. tt; drops = λ e c ok b q. rw q; follows = λ e e′ c ok b q. rw q }) 0 tt
 
 sifted : (r : Rule) (mark : ℕ) (table : List ℕ) (count : ℕ) (h : History)
-    → Monitors r (following mark table) start → OneRun mark table count h → Sifted r h
+    → Monitors r (answerIn mark table) start → OneRun mark table count h → Sifted r h
 sifted r mark table count h monitors run =
-    let F = following mark table in
+    let F = answerIn mark table in
     let w = h .scans in
     record {
       one-each = rw (run .verdicts) (verdicts-length F start w);
@@ -62,9 +62,9 @@ sifted r mark table count h monitors run =
 
 -- On any well-formed table that monitors a rule, calls sift by the rule.
 pub monitors-sift : (limit mark count : ℕ) (table : List ℕ) (r : Rule) → WellFormedTable limit mark count table
-    → Monitors r (entry 256 mark table) 0 → (h : History) → Calls limit mark (OnTableOrRefused limit mark table count) h → Sifted r h
+    → Monitors r (lookup 256 mark table) 0 → (h : History) → Calls limit mark (OnTableOrRefused limit mark table count) h → Sifted r h
 monitors-sift limit mark count table r wf monitors h calls =
-    sifted r mark table count h (following-monitors r mark table monitors) (one-run limit mark count table wf h calls)
+    sifted r mark table count h (answer-in-monitors r mark table monitors) (one-run limit mark count table wf h calls)
 
 pub drops-exactly : DropsExactly
 drops-exactly limit mark s table r n below bytes read e =

@@ -12,29 +12,29 @@ use Rattle.reading.proofs.Outcomes.{never-accepted}
 use Rattle.synthesis.specs.Monitor.{kept, verdicts, ended}
 use Rattle.synthesis.proofs.Renaming.{Renames, renamed-runs}
 use Rattle.synthesis.proofs.Runs.{kept-append, verdicts-append, ended-append, verdicts-length}
-use Rattle.running.specs.Running.{start, following, WellFormedTable, Run, followed}
+use Rattle.running.specs.Running.{start, answerIn, WellFormedTable, Run, runFrom}
 use Rattle.running.specs.Calls.{Call, History, noCalls, outcomeOf, withOutcome, withCall, Calls, none, call, OnTable, OnTableOrRefused}
 use Rattle.running.specs.declared.State.{State}
 use Rattle.running.proofs.RunCases.{run-cases}
-use Rattle.running.proofs.Tables.{next-inside, ends-inside, same-following}
+use Rattle.running.proofs.Tables.{next-inside, ends-inside, same-answer-in}
 
 -- ---- one more call
 
 -- what the caller has after a run over the call's scans
 abbrev pub withRun : (mark : ℕ) → History → Call → History
 withRun mark h c = record {
-  state = ended (following mark (c .table)) (h .state) (c .scans);
+  state = ended (answerIn mark (c .table)) (h .state) (c .scans);
   scans = h .scans ++ c .scans;
-  kept = h .kept ++ kept (following mark (c .table)) (h .state) (c .scans);
-  verdicts = h .verdicts ++ verdicts (following mark (c .table)) (h .state) (c .scans);
+  kept = h .kept ++ kept (answerIn mark (c .table)) (h .state) (c .scans);
+  verdicts = h .verdicts ++ verdicts (answerIn mark (c .table)) (h .state) (c .scans);
 }
 
 with-refused : (h : History) (c : Call) (number place : ℕ) → withOutcome h c (refused number place) ≡ h
 with-refused h c number place = rw (append-nil (h .scans), append-nil (h .kept), append-nil (h .verdicts))
 
-with-fit : (mark : ℕ) (h : History) (c : Call) → withOutcome h c (accepted (followed mark (c .table) (h .state) (c .scans))) ≡ withRun mark h c
+with-fit : (mark : ℕ) (h : History) (c : Call) → withOutcome h c (accepted (runFrom mark (c .table) (h .state) (c .scans))) ≡ withRun mark h c
 with-fit mark h c =
-    let F = following mark (c .table) in
+    let F = answerIn mark (c .table) in
     let k = kept F (h .state) (c .scans) in
     let v = verdicts F (h .state) (c .scans) in
     rw (
@@ -45,7 +45,7 @@ with-fit mark h c =
 -- What holds before the first call, and after each run that may be made, holds after any number of calls.
 pub calls-induction : (limit mark : ℕ) (May : History → Call → Type 0) (P : History → Type 0) → P noCalls
     → ((h : History) (c : Call) → P h → Bytes (c .scans) → May h c
-    → outcomeOf limit mark h c ≡ accepted (followed mark (c .table) (h .state) (c .scans)) → P (withRun mark h c))
+    → outcomeOf limit mark h c ≡ accepted (runFrom mark (c .table) (h .state) (c .scans)) → P (withRun mark h c))
     → (h : History) → Calls limit mark May h → P h
 calls-induction limit mark May P first more h none = first
 calls-induction limit mark May P first more h (call before c calls bytes may) =
@@ -72,28 +72,28 @@ calls-weaken limit mark weaker h (call before c calls bytes may) =
 -- They are one run from the start over all their scans, and end in an equation of the table.
 pub record OneRun (mark : ℕ) (table : List ℕ) (count : ℕ) (h : History) : Type 0 where
   pub bytes : Bytes (h .scans)
-  pub state : h .state ≡ ended (following mark table) start (h .scans)
-  pub kept : h .kept ≡ kept (following mark table) start (h .scans)
-  pub verdicts : h .verdicts ≡ verdicts (following mark table) start (h .scans)
+  pub state : h .state ≡ ended (answerIn mark table) start (h .scans)
+  pub kept : h .kept ≡ kept (answerIn mark table) start (h .scans)
+  pub verdicts : h .verdicts ≡ verdicts (answerIn mark table) start (h .scans)
   pub inside : h .state .equation < count
 
 module _ (limit mark count : ℕ) (table : List ℕ) (wf : WellFormedTable limit mark count table) where
   -- The states of a run on the table go by the same names on any other with these rows.
   renames : (t : List ℕ) → take (256 * count) t ≡ take (256 * count) table
-      → Renames 256 (λ s. s .equation < count) (following mark table) (following mark t) (λ s. s)
+      → Renames 256 (λ s. s .equation < count) (answerIn mark table) (answerIn mark t) (λ s. s)
   renames t same = record {
     stays = λ s s′ c inside b q. next-inside limit mark count table wf s s′ c inside q;
-    drops = λ s c inside b q. same-following limit mark count table wf t same s c inside b ∙ q;
-    follows = λ s s′ c inside b q. same-following limit mark count table wf t same s c inside b ∙ q;
+    drops = λ s c inside b q. same-answer-in limit mark count table wf t same s c inside b ∙ q;
+    follows = λ s s′ c inside b q. same-answer-in limit mark count table wf t same s c inside b ∙ q;
   }
 
   one-more : (h : History) (c : Call) → OneRun mark table count h → Bytes (c .scans) → OnTable table count c
       → OneRun mark table count (withRun mark h c)
   one-more h c before bytes on =
-      let F = following mark table in
+      let F = answerIn mark table in
       let w = c .scans in
       let run =
-      renamed-runs 256 (λ s. s .equation < count) F (following mark (c .table)) (λ s. s) (renames (c .table) (on .same-rows)) (h .state) w
+      renamed-runs 256 (λ s. s .equation < count) F (answerIn mark (c .table)) (λ s. s) (renames (c .table) (on .same-rows)) (h .state) w
       (before .inside) bytes in
       rw (run .keeps, run .judges, run .ends)
       (record {

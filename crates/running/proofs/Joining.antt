@@ -7,7 +7,7 @@ use lib.ListN.{length-append}
 use Rattle.reading.specs.File.{accepted}
 use Rattle.synthesis.specs.Monitor.{kept, verdicts, ended}
 use Rattle.synthesis.proofs.Runs.{kept-append, verdicts-append, ended-append}
-use Rattle.running.specs.Running.{following, fits, followed, runOf, ranOf}
+use Rattle.running.specs.Running.{answerIn, fits, runFrom, runOf, resultOf}
 use Rattle.running.specs.Promises.{Together, TwoCalls}
 use Rattle.running.specs.declared.State.{State}
 use Rattle.running.proofs.WithVerdicts.{occurrences-append}
@@ -16,10 +16,10 @@ use Rattle.running.proofs.Tables.{fits-well, well-fits, ends-inside}
 
 -- two runs, the second from where the first ended
 followed-together : (mark : ℕ) (table : List ℕ) (s : State) (v w : List ℕ)
-    → Together s (accepted (followed mark table s v)) (accepted (followed mark table (ended (following mark table) s v) w))
-    (accepted (followed mark table s (v ++ w)))
+    → Together s (accepted (runFrom mark table s v)) (accepted (runFrom mark table (ended (answerIn mark table) s v) w))
+    (accepted (runFrom mark table s (v ++ w)))
 followed-together mark table s v w =
-    let F = following mark table in
+    let F = answerIn mark table in
     let e = ended F s v in
     record {
       checked = refl;
@@ -39,10 +39,10 @@ two-calls limit mark table count s v w o₁ v₁ o₂ v₂ o₃ v₃ r₁ r₂ r
   where
     on : (b : Bool) → fits limit mark table count s ≡ b
         → let one = runOf limit mark table count s v o₁ v₁ in
-        Together s one (runOf limit mark table count (ranOf s one .state) w o₂ v₂) (runOf limit mark table count s (v ++ w) o₃ v₃)
+        Together s one (runOf limit mark table count (resultOf s one .state) w o₂ v₂) (runOf limit mark table count s (v ++ w) o₃ v₃)
     on true f =
         let well = fits-well limit mark table count s f in
-        let e = ended (following mark table) s v in
+        let e = ended (answerIn mark table) s v in
         let f′ = well-fits limit mark table count e (well .0) (ends-inside limit mark count table (well .0) s v (well .1)) in
         rw (
           run-fit limit mark table count s v o₁ v₁ r₁ f,

@@ -11,19 +11,19 @@ use Rattle.reading.proofs.AllLaws.{all-getD}
 use Rattle.synthesis.specs.Monitor.{kept, verdicts}
 use Rattle.synthesis.proofs.Runs.{verdicts-length}
 use Rattle.synthesis.proofs.Verdicts.{verdicts-range}
-use Rattle.running.specs.Running.{following, followed, ranOf, overlay}
+use Rattle.running.specs.Running.{answerIn, runFrom, resultOf, overlay}
 use Rattle.running.specs.Promises.{Unchanged, RefusedUnchanged, OnlyFronts, RestUnchanged}
 use Rattle.running.specs.declared.State.{State}
 use Rattle.running.specs.declared.Checked.the-variants.{Fit, Refused}
 use Rattle.running.proofs.Counting.{kept-dropped}
 use Rattle.running.proofs.WithVerdicts.{kept-with}
 use Rattle.running.proofs.RunCases.{run-cases}
-use Rattle.running.proofs.Refusals.{roomy-room}
+use Rattle.running.proofs.Refusals.{has-room-lengths}
 
 pub refused-unchanged : RefusedUnchanged
 refused-unchanged limit mark table count s scans output verdicts number place =
     run-cases limit mark table count s scans (length output) (length verdicts)
-    (λ o. ranOf s o .checked ≡ Refused number place → Unchanged s output verdicts number place o)
+    (λ o. resultOf s o .checked ≡ Refused number place → Unchanged s output verdicts number place o)
     (λ r e. record { ran = rw e; same-output = refl; same-verdicts = refl })
     (λ r f e. record { ran = rw e; same-output = refl; same-verdicts = refl })
     (λ r f e. let z : _≡_ {A = ℕ} 0 1 = cc in absurd (omega arith))
@@ -33,9 +33,9 @@ overlay-length front buffer h = simp (length-append, length-drop) (omega arith)
 
 module _ (mark : ℕ) (table : List ℕ) (s : State) (scans output judged : List ℕ) where
   followed-fronts : length scans ≤ length output → length scans ≤ length judged
-      → OnlyFronts s scans output judged (accepted (followed mark table s scans))
+      → OnlyFronts s scans output judged (accepted (runFrom mark table s scans))
   followed-fronts ro rj =
-      let F = following mark table in
+      let F = answerIn mark table in
       let k = kept F s scans in
       let v = verdicts F s scans in
       let all = kept-dropped F s scans in
@@ -55,8 +55,8 @@ module _ (mark : ℕ) (table : List ℕ) (s : State) (scans output judged : List
 pub rest-unchanged : RestUnchanged
 rest-unchanged limit mark table count s scans output verdicts =
     run-cases limit mark table count s scans (length output) (length verdicts)
-    (λ o. ranOf s o .checked ≡ Fit → OnlyFronts s scans output verdicts o)
+    (λ o. resultOf s o .checked ≡ Fit → OnlyFronts s scans output verdicts o)
     (λ r e. let z : _≡_ {A = ℕ} 0 1 = cc in absurd (omega arith))
     (λ r f e. let z : _≡_ {A = ℕ} 0 1 = cc in absurd (omega arith))
-    (λ r f e. let room = roomy-room scans (length output) (length verdicts) r in
+    (λ r f e. let room = has-room-lengths scans (length output) (length verdicts) r in
     followed-fronts mark table s scans output verdicts (room .0) (room .1))

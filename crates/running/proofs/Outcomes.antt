@@ -6,16 +6,16 @@ use mathlib.Core.List.{List}
 use native.Mathlib.Omega.{arith}
 use lib.ListN.{length}
 use Rattle.reading.specs.File.{Outcome, accepted, refused}
-use Rattle.running.specs.Running.{following, fits, roomy, Run, followed, runOf}
-use Rattle.running.specs.Running.{checkedOf, occurrences, ranOf, overlay, outputAfter, verdictsAfter}
+use Rattle.running.specs.Running.{answerIn, fits, hasRoom, Run, runFrom, runOf}
+use Rattle.running.specs.Running.{checkedOf, occurrences, resultOf, overlay, outputAfter, verdictsAfter}
 use Rattle.running.specs.declared.State.{State}
 use Rattle.running.specs.declared.Checked.{Checked}
 use Rattle.running.specs.declared.Checked.the-variants.{Fit, Refused}
-use Rattle.running.specs.declared.Ran.{Ran}
+use Rattle.running.specs.declared.RunResult.{RunResult}
 use Rattle.running.proofs.Counting.{kept-dropped}
 use Rattle.running.proofs.RunCases.{run-fit, run-cases}
 use Rattle.running.proofs.Tables.{fits-well}
-use Rattle.running.proofs.Refusals.{roomy-room}
+use Rattle.running.proofs.Refusals.{has-room-lengths}
 
 -- ---- what a run that isn't refused has passed
 
@@ -24,14 +24,14 @@ module _ (limit mark : ℕ) (table : List ℕ) (count : ℕ) (s : State) (scans 
     pub output-room : length scans ≤ output
     pub verdicts-room : length scans ≤ verdicts
     pub below : s .equation < limit
-    pub is : runOf limit mark table count s scans output verdicts ≡ accepted (followed mark table s scans)
+    pub is : runOf limit mark table count s scans output verdicts ≡ accepted (runFrom mark table s scans)
 
   -- both tests
   tests : checkedOf (runOf limit mark table count s scans output verdicts) ≡ Fit
-      → (roomy scans output verdicts ≡ true) × (fits limit mark table count s ≡ true)
+      → (hasRoom scans output verdicts ≡ true) × (fits limit mark table count s ≡ true)
   tests =
       run-cases limit mark table count s scans output verdicts
-      (λ o. checkedOf o ≡ Fit → (roomy scans output verdicts ≡ true) × (fits limit mark table count s ≡ true))
+      (λ o. checkedOf o ≡ Fit → (hasRoom scans output verdicts ≡ true) × (fits limit mark table count s ≡ true))
       (λ r e. absurd (refused-fit e)) (λ r f e. absurd (refused-fit e)) (λ r f e. (r, f))
     where
       refused-fit : {number place : ℕ} → Refused number place ≡ Fit → ⊥
@@ -40,7 +40,7 @@ module _ (limit mark : ℕ) (table : List ℕ) (count : ℕ) (s : State) (scans 
   pub passed : {checked : Checked} → checked ≡ checkedOf (runOf limit mark table count s scans output verdicts) → checked ≡ Fit → Passed
   passed e f =
       let test = tests (sym e ∙ f) in
-      let room = roomy-room scans output verdicts (test .0) in
+      let room = has-room-lengths scans output verdicts (test .0) in
       let well = fits-well limit mark table count s (test .1) in
       record {
         output-room = room .0;
@@ -50,17 +50,17 @@ module _ (limit mark : ℕ) (table : List ℕ) (count : ℕ) (s : State) (scans 
       }
 
   -- refused or not, the output has room for what is kept
-  pub kept-room : {ran : Ran} → ran ≡ ranOf s (runOf limit mark table count s scans output verdicts) → ran .kept ≤ output
+  pub kept-room : {ran : RunResult} → ran ≡ resultOf s (runOf limit mark table count s scans output verdicts) → ran .kept ≤ output
   kept-room e =
-      rw (ap (λ (r : Ran). r .kept) e)
-      (run-cases limit mark table count s scans output verdicts (λ o. ranOf s o .kept ≤ output) (λ r. omega arith) (λ r f. omega arith)
-      (λ r f. omega (arith, roomy-room scans output verdicts r .0, kept-dropped (following mark table) s scans)))
+      rw (ap (λ (r : RunResult). r .kept) e)
+      (run-cases limit mark table count s scans output verdicts (λ o. resultOf s o .kept ≤ output) (λ r. omega arith) (λ r f. omega arith)
+      (λ r f. omega (arith, has-room-lengths scans output verdicts r .0, kept-dropped (answerIn mark table) s scans)))
 
 -- ---- what a run hands back, and what it leaves in the buffers
 
-abbrev Leaves : State → Outcome Run → (output verdicts : List ℕ) → Ran → (output′ verdicts′ : List ℕ) → Type 0
+abbrev Leaves : State → Outcome Run → (output verdicts : List ℕ) → RunResult → (output′ verdicts′ : List ℕ) → Type 0
 Leaves s o output verdicts ran output′ verdicts′ =
-    (ran ≡ ranOf s o) × ((output′ ≡ outputAfter o output) × (verdicts′ ≡ verdictsAfter o verdicts))
+    (ran ≡ resultOf s o) × ((output′ ≡ outputAfter o output) × (verdicts′ ≡ verdictsAfter o verdicts))
 
 pub refused-leaves : (s : State) (o : Outcome Run) {checked : Checked} {number place : ℕ} → checked ≡ checkedOf o → checked ≡ Refused number place
     → (output verdicts : List ℕ)
@@ -68,12 +68,12 @@ pub refused-leaves : (s : State) (o : Outcome Run) {checked : Checked} {number p
 refused-leaves s (accepted y) e r output verdicts = let z : _≡_ {A = ℕ} 0 1 = cc in absurd (omega arith)
 refused-leaves s (refused number place) e r output verdicts = (rw e, (refl, refl))
 
-pub accepted-leaves : (mark : ℕ) (table : List ℕ) (s : State) (scans : List ℕ) {o : Outcome Run} → o ≡ accepted (followed mark table s scans)
-    → {checked : Checked} → checked ≡ Fit → {s′ : State} → s′ ≡ followed mark table s scans .state
-    → {n : ℕ} → n ≡ length (followed mark table s scans .kept) → (output verdicts : List ℕ) {output′ verdicts′ : List ℕ}
-    → output′ ≡ overlay (followed mark table s scans .kept) output → verdicts′ ≡ overlay (followed mark table s scans .verdicts) verdicts
+pub accepted-leaves : (mark : ℕ) (table : List ℕ) (s : State) (scans : List ℕ) {o : Outcome Run} → o ≡ accepted (runFrom mark table s scans)
+    → {checked : Checked} → checked ≡ Fit → {s′ : State} → s′ ≡ runFrom mark table s scans .state
+    → {n : ℕ} → n ≡ length (runFrom mark table s scans .kept) → (output verdicts : List ℕ) {output′ verdicts′ : List ℕ}
+    → output′ ≡ overlay (runFrom mark table s scans .kept) output → verdicts′ ≡ overlay (runFrom mark table s scans .verdicts) verdicts
     → Leaves s o output verdicts (record { checked = checked; state = s′; kept = n; dropped = length scans - n }) output′ verdicts′
 accepted-leaves mark table s scans is fit state {n} count output verdicts left judged =
-    let all = kept-dropped (following mark table) s scans in
-    let rest : length scans - n ≡ occurrences 1 (followed mark table s scans .verdicts) = omega arith in
+    let all = kept-dropped (answerIn mark table) s scans in
+    let rest : length scans - n ≡ occurrences 1 (runFrom mark table s scans .verdicts) = omega arith in
     rw is (rw (fit, state, rest, count), (left, judged))

@@ -9,35 +9,35 @@ use lib.Dec.{leb}
 use lib.ListN.{length}
 use borrow.Author.Tests.{leb-true, leb-false, le-leb, lt-leb}
 use Rattle.reading.specs.File.{refused}
-use Rattle.running.specs.Running.{WellFormedTable, roomy, fits, runOf, checkedOf}
+use Rattle.running.specs.Running.{WellFormedTable, hasRoom, fits, runOf, checkedOf}
 use Rattle.running.specs.Promises.{RunsOnTables}
 use Rattle.running.specs.declared.Checked.the-variants.{Refused}
 use Rattle.running.proofs.RunCases.{run-short, run-unfit, run-fit, run-cases}
-use Rattle.running.proofs.Tables.{fits-well, well-fits, following-is, ends-inside}
+use Rattle.running.proofs.Tables.{fits-well, well-fits, answer-in-is, ends-inside}
 
 -- ---- room for the scans
 
 module _ (scans : List ℕ) (output verdicts : ℕ) where
-  room-roomy : length scans ≤ output → length scans ≤ verdicts → roomy scans output verdicts ≡ true
-  room-roomy h k = rw (le-leb (length scans) output h, le-leb (length scans) verdicts k)
+  lengths-has-room : length scans ≤ output → length scans ≤ verdicts → hasRoom scans output verdicts ≡ true
+  lengths-has-room h k = rw (le-leb (length scans) output h, le-leb (length scans) verdicts k)
 
-  pub roomy-room : roomy scans output verdicts ≡ true → (length scans ≤ output) × (length scans ≤ verdicts)
-  roomy-room e =
+  pub has-room-lengths : hasRoom scans output verdicts ≡ true → (length scans ≤ output) × (length scans ≤ verdicts)
+  has-room-lengths e =
       let both = and-eq-true-iff (leb (length scans) output) (leb (length scans) verdicts) .0 e in
       (leb-true (length scans) output (both .0), leb-true (length scans) verdicts (both .1))
 
-  roomy-short : roomy scans output verdicts ≡ false → (output < length scans) ⊎ (verdicts < length scans)
-  roomy-short e = on (leb (length scans) output) refl
+  no-room-short : hasRoom scans output verdicts ≡ false → (output < length scans) ⊎ (verdicts < length scans)
+  no-room-short e = on (leb (length scans) output) refl
     where
       on : (b : Bool) → leb (length scans) output ≡ b → (output < length scans) ⊎ (verdicts < length scans)
       on true q = inr (leb-false (length scans) verdicts (rw q at e))
       on false q = inl (leb-false (length scans) output q)
 
-  short-roomy : (output < length scans) ⊎ (verdicts < length scans) → roomy scans output verdicts ≡ false
-  short-roomy (inl h) = rw (lt-leb (length scans) output h)
-  short-roomy (inr h) = on (leb (length scans) output) refl
+  short-no-room : (output < length scans) ⊎ (verdicts < length scans) → hasRoom scans output verdicts ≡ false
+  short-no-room (inl h) = rw (lt-leb (length scans) output h)
+  short-no-room (inr h) = on (leb (length scans) output) refl
     where
-      on : (b : Bool) → leb (length scans) output ≡ b → roomy scans output verdicts ≡ false
+      on : (b : Bool) → leb (length scans) output ≡ b → hasRoom scans output verdicts ≡ false
       on true q = rw q (lt-leb (length scans) verdicts h)
       on false q = rw q
 
@@ -45,11 +45,11 @@ module _ (scans : List ℕ) (output verdicts : ℕ) where
 
 pub runs-on-tables : RunsOnTables
 runs-on-tables limit mark table count s scans output verdicts = record {
-  short = (was-short, λ h. ap checkedOf (run-short limit mark table count s scans output verdicts (short-roomy scans output verdicts h)));
+  short = (was-short, λ h. ap checkedOf (run-short limit mark table count s scans output verdicts (short-no-room scans output verdicts h)));
   unfit = (was-unfit, λ h. ap checkedOf (unfit (h .0) (h .1) (h .2) (fits limit mark table count s) refl));
   follows = λ h k wf i.
-      run-fit limit mark table count s scans output verdicts (room-roomy scans output verdicts h k) (well-fits limit mark table count s wf i);
-  entries = λ wf i c b. following-is limit mark count table wf s c i b;
+      run-fit limit mark table count s scans output verdicts (lengths-has-room scans output verdicts h k) (well-fits limit mark table count s wf i);
+  entries = λ wf i c b. answer-in-is limit mark count table wf s c i b;
   ends = λ wf i. ends-inside limit mark count table wf s scans i;
 }
   where
@@ -57,7 +57,7 @@ runs-on-tables limit mark table count s scans output verdicts = record {
     was-short =
         run-cases limit mark table count s scans output verdicts
         (λ o. checkedOf o ≡ Refused 15 0 → (output < length scans) ⊎ (verdicts < length scans))
-        (λ r e. roomy-short scans output verdicts r)
+        (λ r e. no-room-short scans output verdicts r)
         (λ r f e. let z : _≡_ {A = ℕ} 16 15 = cc in absurd (omega arith))
         (λ r f e. let z : _≡_ {A = ℕ} 0 1 = cc in absurd (omega arith))
 
@@ -68,11 +68,11 @@ runs-on-tables limit mark table count s scans output verdicts = record {
         (λ o. checkedOf o ≡ Refused 16 0
         → (length scans ≤ output) × (length scans ≤ verdicts) × (WellFormedTable limit mark count table × (s .equation < count) → ⊥))
         (λ r e. let z : _≡_ {A = ℕ} 15 16 = cc in absurd (omega arith))
-        (λ r f e. let room = roomy-room scans output verdicts r in
+        (λ r f e. let room = has-room-lengths scans output verdicts r in
         (room .0, room .1, λ h. true≢false (sym (well-fits limit mark table count s (h .0) (h .1)) ∙ f)))
         (λ r f e. let z : _≡_ {A = ℕ} 0 1 = cc in absurd (omega arith))
 
     unfit : length scans ≤ output → length scans ≤ verdicts → (WellFormedTable limit mark count table × (s .equation < count) → ⊥)
         → (b : Bool) → fits limit mark table count s ≡ b → runOf limit mark table count s scans output verdicts ≡ refused 16 0
     unfit h k n true q = absurd (n (fits-well limit mark table count s q))
-    unfit h k n false q = run-unfit limit mark table count s scans output verdicts (room-roomy scans output verdicts h k) q
+    unfit h k n false q = run-unfit limit mark table count s scans output verdicts (lengths-has-room scans output verdicts h k) q

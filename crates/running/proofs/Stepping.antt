@@ -11,7 +11,7 @@ use lib.ListN.{length, getD, take, set, length-append, length-set}
 use lib.Seq.{take-all, take-suc, length-take-le, set-getD}
 use Rattle.synthesis.specs.Monitor.{dropped, next, kept, verdicts, ended, rowOf}
 use Rattle.synthesis.proofs.Runs.{kept-last, ended-last, verdicts-last, kept-drop, ended-drop, verdicts-drop, verdicts-length}
-use Rattle.running.specs.Running.{following, followed, overlay}
+use Rattle.running.specs.Running.{answerIn, runFrom, overlay}
 use Rattle.running.specs.declared.State.{State}
 use Rattle.running.proofs.Overlays.{overlay-set}
 
@@ -19,44 +19,44 @@ use Rattle.running.proofs.Overlays.{overlay-set}
 
 -- what the table answers, from the entry
 answers : (mark : ℕ) (table : List ℕ) (s : State) (c entry : ℕ) → entry ≡ getD (rowOf 256 table (s .equation)) c mark → (b : Bool)
-    → eqb entry mark ≡ b → following mark table s c ≡ cond b dropped (next (record { equation = entry }))
+    → eqb entry mark ≡ b → answerIn mark table s c ≡ cond b dropped (next (record { equation = entry }))
 answers mark table s c entry h true q = rw (← h, q)
 answers mark table s c entry h false q = rw (← h, q)
 
 module _ (mark : ℕ) (table : List ℕ) (s : State) (output₀ judged₀ : List ℕ) where
   -- what the loop has when it has gone over the scans w: where the row of the equation begins, how many were kept, and the buffers
   pub record Has (w output judged : List ℕ) (from keeps : ℕ) : Type 0 where
-    pub from-is : from ≡ 256 * ended (following mark table) s w .equation
-    pub keeps-is : keeps ≡ length (kept (following mark table) s w)
-    pub output-is : output ≡ overlay (kept (following mark table) s w) output₀
-    pub judged-is : judged ≡ overlay (verdicts (following mark table) s w) judged₀
+    pub from-is : from ≡ 256 * ended (answerIn mark table) s w .equation
+    pub keeps-is : keeps ≡ length (kept (answerIn mark table) s w)
+    pub output-is : output ≡ overlay (kept (answerIn mark table) s w) output₀
+    pub judged-is : judged ≡ overlay (verdicts (answerIn mark table) s w) judged₀
 
   module _ (w output judged : List ℕ) (from keeps c : ℕ) (h : Has w output judged from keeps) where
     -- its buffers, with one more kept scan and one more verdict
-    output-last : keeps < length output₀ → set output keeps c ≡ overlay (kept (following mark table) s w ++ (c ∷ [])) output₀
-    output-last r = rw (h .output-is, h .keeps-is) (overlay-set (kept (following mark table) s w) output₀ c (rw (h .keeps-is) at r))
+    output-last : keeps < length output₀ → set output keeps c ≡ overlay (kept (answerIn mark table) s w ++ (c ∷ [])) output₀
+    output-last r = rw (h .output-is, h .keeps-is) (overlay-set (kept (answerIn mark table) s w) output₀ c (rw (h .keeps-is) at r))
 
     judged-last : (n v : ℕ) → length w ≡ n → n < length judged₀
-        → set judged n v ≡ overlay (verdicts (following mark table) s w ++ (v ∷ [])) judged₀
+        → set judged n v ≡ overlay (verdicts (answerIn mark table) s w ++ (v ∷ [])) judged₀
     judged-last n v l r =
-        let e : length (verdicts (following mark table) s w) ≡ n = verdicts-length (following mark table) s w ∙ l in
-        rw (h .judged-is, ← e) (overlay-set (verdicts (following mark table) s w) judged₀ v (omega arith))
+        let e : length (verdicts (answerIn mark table) s w) ≡ n = verdicts-length (answerIn mark table) s w ∙ l in
+        rw (h .judged-is, ← e) (overlay-set (verdicts (answerIn mark table) s w) judged₀ v (omega arith))
 
     module _ (entry : ℕ) (is : entry ≡ getD (rowOf 256 table (from / 256)) c mark) where
       -- the table's answer where the run stands
       answer-is : (b : Bool) → eqb entry mark ≡ b
-          → following mark table (ended (following mark table) s w) c ≡ cond b dropped (next (record { equation = entry }))
+          → answerIn mark table (ended (answerIn mark table) s w) c ≡ cond b dropped (next (record { equation = entry }))
       answer-is =
-          let k = ended (following mark table) s w .equation in
+          let k = ended (answerIn mark table) s w .equation in
           let e : from / 256 ≡ k = rw (h .from-is) (mul-div-right k (omega arith)) in
-          answers mark table (ended (following mark table) s w) c entry (rw e at is)
+          answers mark table (ended (answerIn mark table) s w) c entry (rw e at is)
 
       -- with the entry for c, the loop has what it should after w and c
       has-more : (n : ℕ) → length w ≡ n → keeps < length output₀ → n < length judged₀ → (b : Bool) → eqb entry mark ≡ b
           → Has (w ++ (c ∷ [])) (set output keeps (cond b (getD output keeps 0) c)) (set judged n (cond b 1 0))
           (cond b from (256 * entry)) (keeps + cond b 0 1)
       has-more n l ro rj true q =
-          let F = following mark table in
+          let F = answerIn mark table in
           let d = answer-is true q in
           record {
             from-is = h .from-is ∙ ap (λ (x : State). 256 * x .equation) (sym (ended-drop F s w c d));
@@ -65,7 +65,7 @@ module _ (mark : ℕ) (table : List ℕ) (s : State) (output₀ judged₀ : List
             judged-is = rw (verdicts-drop F s w c d) (judged-last n 1 l rj);
           }
       has-more n l ro rj false q =
-          let F = following mark table in
+          let F = answerIn mark table in
           let d = answer-is false q in
           record {
             from-is = ap (λ (x : State). 256 * x .equation) (sym (ended-last F s w c d));
@@ -118,7 +118,7 @@ module _ (mark : ℕ) (table : List ℕ) (s : State) (output₀ judged₀ : List
 -- what the function hands back after all scans
 abbrev Ends : (mark : ℕ) → (table : List ℕ) → State → (output₀ judged₀ scans output judged : List ℕ) → (from keeps : ℕ) → Type 0
 Ends mark table s output₀ judged₀ scans output judged from keeps =
-    let run = followed mark table s scans in
+    let run = runFrom mark table s scans in
     (_≡_ {A = State} (record { equation = from / 256 }) (run .state))
     × ((keeps ≡ length (run .kept)) × ((output ≡ overlay (run .kept) output₀) × (judged ≡ overlay (run .verdicts) judged₀)))
 
@@ -144,5 +144,5 @@ module _ (mark : ℕ) (table : List ℕ) (s : State) (output₀ judged₀ scans 
   ends output judged from keeps i h r =
       let all = take-all i scans r in
       let e = rw (row-begin, all) at (h .has) in
-      let row : from / 256 ≡ ended (following mark table) s scans .equation = rw (e .from-is) (mul-div-right _ (omega arith)) in
+      let row : from / 256 ≡ ended (answerIn mark table) s scans .equation = rw (e .from-is) (mul-div-right _ (omega arith)) in
       (ap (λ (n : ℕ). record { equation = n }) row, (e .keeps-is, (e .output-is, e .judged-is)))

@@ -14,7 +14,7 @@ use borrow.Author.Tests.{eqb-true, eqb-false, ltb-true, lt-ltb, leb-true, le-leb
 use Rattle.synthesis.specs.Monitor.{dropped, next, cases, ended, rowOf, meaning}
 use Rattle.synthesis.proofs.Rows.{row-is, row-at}
 use Rattle.synthesis.proofs.Runs.{run-induction}
-use Rattle.running.specs.Running.{moved, following, inRange, entriesInRange, isWellFormed, WellFormedTable, fits}
+use Rattle.running.specs.Running.{moved, answerIn, inRange, entriesInRange, isWellFormed, WellFormedTable, fits}
 use Rattle.running.specs.declared.State.{State}
 
 -- ---- the test of a table
@@ -109,9 +109,9 @@ module _ (limit mark count : ℕ) (table : List ℕ) (wf : WellFormedTable limit
   row-inside : (k : ℕ) → k < count → 256 * k + 256 ≤ length table
   row-inside k h = omega (arith, wf .room)
 
-  pub following-is : (s : State) (c : ℕ) → s .equation < count → c < 256
-      → following mark table s c ≡ cases (meaning mark (getD table (256 * (s .equation) + c) 0)) dropped (λ e. next (moved s e))
-  following-is s c h b = rw (row-at table (s .equation) c mark (row-inside (s .equation) h) b)
+  pub answer-in-is : (s : State) (c : ℕ) → s .equation < count → c < 256
+      → answerIn mark table s c ≡ cases (meaning mark (getD table (256 * (s .equation) + c) 0)) dropped (λ e. next (moved s e))
+  answer-in-is s c h b = rw (row-at table (s .equation) c mark (row-inside (s .equation) h) b)
 
   -- every scan has an entry in range, also one that isn't a byte
   entry-range : (k c : ℕ) → k < count → InRange mark count (getD (rowOf 256 table k) c mark)
@@ -123,7 +123,7 @@ module _ (limit mark count : ℕ) (table : List ℕ) (wf : WellFormedTable limit
           inl (List·getD-eq-default (rowOf 256 table k) mark
           (rw (row-is 256 table k (row-inside k h), length-take 256 (drop (256 * k) table)) (omega arith)))
 
-  pub next-inside : (s s′ : State) (c : ℕ) → s .equation < count → following mark table s c ≡ next s′ → s′ .equation < count
+  pub next-inside : (s s′ : State) (c : ℕ) → s .equation < count → answerIn mark table s c ≡ next s′ → s′ .equation < count
   next-inside s s′ c h e = on (eqb x mark) refl (entry-range (s .equation) c h)
     where
       x : ℕ
@@ -137,9 +137,9 @@ module _ (limit mark count : ℕ) (table : List ℕ) (wf : WellFormedTable limit
           let is : _≡_ {A = State} (record { equation = x }) s′ = cc in
           omega (arith, ap (λ (s : State). s .equation) is)
 
-  pub ends-inside : (s : State) (scans : List ℕ) → s .equation < count → ended (following mark table) s scans .equation < count
+  pub ends-inside : (s : State) (scans : List ℕ) → s .equation < count → ended (answerIn mark table) s scans .equation < count
   ends-inside =
-      run-induction (following mark table) (λ s w. s .equation < count → ended (following mark table) s w .equation < count) (λ s h. h)
+      run-induction (answerIn mark table) (λ s w. s .equation < count → ended (answerIn mark table) s w .equation < count) (λ s h. h)
       (λ s c w q ih h. rw q (ih h)) (λ s s′ c w q ih h. rw q (ih (next-inside s s′ c h q)))
 
 -- ---- tables with the same rows
@@ -163,7 +163,7 @@ module _ (limit mark count : ℕ) (table : List ℕ) (wf : WellFormedTable limit
     range = λ k c h b. rw (same-entry (256 * k + c) (omega arith)) (wf .range k c h b);
   }
 
-  pub same-following : (s : State) (c : ℕ) → s .equation < count → c < 256 → following mark other s c ≡ following mark table s c
-  same-following s c h b =
-      following-is limit mark count other other-well-formed s c h b
-      ∙ rw (same-entry (256 * (s .equation) + c) (omega arith)) (sym (following-is limit mark count table wf s c h b))
+  pub same-answer-in : (s : State) (c : ℕ) → s .equation < count → c < 256 → answerIn mark other s c ≡ answerIn mark table s c
+  same-answer-in s c h b =
+      answer-in-is limit mark count other other-well-formed s c h b
+      ∙ rw (same-entry (256 * (s .equation) + c) (omega arith)) (sym (answer-in-is limit mark count table wf s c h b))

@@ -8,7 +8,7 @@ use lib.Dec.{eqb}
 use lib.ListN.{length, take}
 use Rattle.reading.specs.Rule.{Bytes}
 use Rattle.reading.specs.File.{Outcome, refused}
-use Rattle.running.specs.Running.{start, Run, runOf, ranOf, outputAfter, verdictsAfter}
+use Rattle.running.specs.Running.{start, Run, runOf, resultOf, outputAfter, verdictsAfter}
 use Rattle.running.specs.declared.State.{State}
 use Rattle.running.specs.declared.Checked.{Checked}
 use Rattle.running.specs.declared.Checked.the-variants.{Fit, Refused}
@@ -44,7 +44,7 @@ outcomeOf limit mark h c = runOf limit mark (c .table) (c .count) (h .state) (c 
 -- what the caller has after one more call: as many bytes from the front of each buffer as were written to it
 abbrev pub withOutcome : History → Call → Outcome Run → History
 withOutcome h c outcome =
-    let ran = ranOf (h .state) outcome in
+    let ran = resultOf (h .state) outcome in
     let scans = taken (ran .checked) (c .scans) in
     record {
       state = ran .state;

@@ -12,7 +12,7 @@ use Rattle.synthesis.specs.Violation.{ViolatesRule}
 use Rattle.synthesis.specs.Monitor.{dropped, cases, next, meaning}
 use Rattle.synthesis.specs.Building.{buildingOf, countedOf, tableAfter}
 use Rattle.synthesis.specs.declared.Counted.the-variants.{Equations}
-use Rattle.running.specs.Running.{moved, following, WellFormedTable, roomy, Run, followed, runOf, checkedOf, occurrences, ranOf}
+use Rattle.running.specs.Running.{moved, answerIn, WellFormedTable, hasRoom, Run, runFrom, runOf, checkedOf, occurrences, resultOf}
 use Rattle.running.specs.Running.{keptOf, verdictsOf, outputAfter, verdictsAfter}
 use Rattle.running.specs.Calls.{Call, History, taken, outcomeOf, Calls, OnTable, OnTableOrRefused, withVerdict}
 use Rattle.running.specs.declared.State.{State}
@@ -37,12 +37,12 @@ DropsExactly =
 
 -- 2. Two calls, the second with the state of the first, do what one call on both lists of scans does.
 pub record Together (s : State) (one two both : Outcome Run) : Type 0 where
-  pub checked : ranOf (ranOf s one .state) two .checked ≡ ranOf s one .checked
-  pub ran : ranOf s both ≡ record {
-    checked = ranOf s one .checked;
-    state = ranOf (ranOf s one .state) two .state;
-    kept = ranOf s one .kept + ranOf (ranOf s one .state) two .kept;
-    dropped = ranOf s one .dropped + ranOf (ranOf s one .state) two .dropped;
+  pub checked : resultOf (resultOf s one .state) two .checked ≡ resultOf s one .checked
+  pub ran : resultOf s both ≡ record {
+    checked = resultOf s one .checked;
+    state = resultOf (resultOf s one .state) two .state;
+    kept = resultOf s one .kept + resultOf (resultOf s one .state) two .kept;
+    dropped = resultOf s one .dropped + resultOf (resultOf s one .state) two .dropped;
   }
   pub kept : keptOf both ≡ keptOf one ++ keptOf two
   pub verdicts : verdictsOf both ≡ verdictsOf one ++ verdictsOf two
@@ -50,9 +50,9 @@ pub record Together (s : State) (one two both : Outcome Run) : Type 0 where
 abbrev pub TwoCalls : Type 0
 TwoCalls =
     (limit mark : ℕ) (table : List ℕ) (count : ℕ) (s : State) (first second : List ℕ) (o₁ v₁ o₂ v₂ o₃ v₃ : ℕ)
-    → roomy first o₁ v₁ ≡ true → roomy second o₂ v₂ ≡ true → roomy (first ++ second) o₃ v₃ ≡ true →
+    → hasRoom first o₁ v₁ ≡ true → hasRoom second o₂ v₂ ≡ true → hasRoom (first ++ second) o₃ v₃ ≡ true →
     let one = runOf limit mark table count s first o₁ v₁ in
-    let two = runOf limit mark table count (ranOf s one .state) second o₂ v₂ in
+    let two = runOf limit mark table count (resultOf s one .state) second o₂ v₂ in
     Together s one two (runOf limit mark table count s (first ++ second) o₃ v₃)
 
 -- 3. Of each code, the scans that a run took are those that it kept and those with verdict 1. The counts are as the verdicts say.
@@ -60,9 +60,9 @@ pub record Conserved (s : State) (scans : List ℕ) (outcome : Outcome Run) : Ty
   pub codes : (c : ℕ)
       → occurrences c (taken (checkedOf outcome) scans) ≡ occurrences c (keptOf outcome) + occurrences c (withVerdict 1 (verdictsOf outcome) scans)
   pub one-each : length (verdictsOf outcome) ≡ length (taken (checkedOf outcome) scans)
-  pub kept : (ranOf s outcome .kept ≡ length (keptOf outcome)) × (ranOf s outcome .kept ≡ occurrences 0 (verdictsOf outcome))
-  pub dropped : ranOf s outcome .dropped ≡ occurrences 1 (verdictsOf outcome)
-  pub all : ranOf s outcome .kept + ranOf s outcome .dropped ≡ length (taken (checkedOf outcome) scans)
+  pub kept : (resultOf s outcome .kept ≡ length (keptOf outcome)) × (resultOf s outcome .kept ≡ occurrences 0 (verdictsOf outcome))
+  pub dropped : resultOf s outcome .dropped ≡ occurrences 1 (verdictsOf outcome)
+  pub all : resultOf s outcome .kept + resultOf s outcome .dropped ≡ length (taken (checkedOf outcome) scans)
 
 abbrev pub Conserves : Type 0
 Conserves =
@@ -83,11 +83,11 @@ pub record RunsOn (limit mark : ℕ) (table : List ℕ) (count : ℕ) (s : State
   pub unfit : (checkedOf (runOf limit mark table count s scans output verdicts) ≡ Refused 16 0)
       ↔ ((length scans ≤ output) × (length scans ≤ verdicts) × (WellFormedTable limit mark count table × (s .equation < count) → ⊥))
   pub follows : length scans ≤ output → length scans ≤ verdicts → WellFormedTable limit mark count table → s .equation < count
-      → runOf limit mark table count s scans output verdicts ≡ accepted (followed mark table s scans)
+      → runOf limit mark table count s scans output verdicts ≡ accepted (runFrom mark table s scans)
   pub entries : WellFormedTable limit mark count table → s .equation < count → (c : ℕ) → c < 256
-      → following mark table s c
+      → answerIn mark table s c
       ≡ cases (meaning mark (getD table (256 * (s .equation) + c) 0)) dropped (λ e. next (moved s e))
-  pub ends : WellFormedTable limit mark count table → s .equation < count → followed mark table s scans .state .equation < count
+  pub ends : WellFormedTable limit mark count table → s .equation < count → runFrom mark table s scans .state .equation < count
 
 abbrev pub RunsOnTables : Type 0
 RunsOnTables =
@@ -111,7 +111,7 @@ NeverUnfit =
 -- 5. The buffers, in the terms of the contract of `run`. A refused run hands back the state that it was given and counts of 0, and leaves every
 -- byte of both buffers as it was.
 pub record Unchanged (s : State) (output verdicts : List ℕ) (number place : ℕ) (outcome : Outcome Run) : Type 0 where
-  pub ran : ranOf s outcome ≡ record { checked = Refused number place; state = s; kept = 0; dropped = 0 }
+  pub ran : resultOf s outcome ≡ record { checked = Refused number place; state = s; kept = 0; dropped = 0 }
   pub same-output : outputAfter outcome output ≡ output
   pub same-verdicts : verdictsAfter outcome verdicts ≡ verdicts
 
@@ -119,7 +119,7 @@ abbrev pub RefusedUnchanged : Type 0
 RefusedUnchanged =
     (limit mark : ℕ) (table : List ℕ) (count : ℕ) (s : State) (scans output verdicts : List ℕ) (number place : ℕ) →
     let outcome = runOf limit mark table count s scans (length output) (length verdicts) in
-    ranOf s outcome .checked ≡ Refused number place → Unchanged s output verdicts number place outcome
+    resultOf s outcome .checked ≡ Refused number place → Unchanged s output verdicts number place outcome
 
 -- Any other has one verdict a scan, 0 or 1, at the front of the verdicts, and the scans with verdict 0 at the front of the output, as many as it
 -- says. Behind these both buffers are as they were.
@@ -128,13 +128,13 @@ pub record OnlyFronts (s : State) (scans output verdicts : List ℕ) (outcome : 
   pub verdicts-front : take (length scans) (verdictsAfter outcome verdicts) ≡ verdictsOf outcome
   pub one-each : length (verdictsOf outcome) ≡ length scans
   pub zero-or-one : (i : ℕ) → i < length scans → (getD (verdictsOf outcome) i 0 ≡ 0) ⊎ (getD (verdictsOf outcome) i 0 ≡ 1)
-  pub output-front : take (ranOf s outcome .kept) (outputAfter outcome output) ≡ keptOf outcome
+  pub output-front : take (resultOf s outcome .kept) (outputAfter outcome output) ≡ keptOf outcome
   pub kept-are : keptOf outcome ≡ withVerdict 0 (verdictsOf outcome) scans
-  pub output-rest : drop (ranOf s outcome .kept) (outputAfter outcome output) ≡ drop (ranOf s outcome .kept) output
+  pub output-rest : drop (resultOf s outcome .kept) (outputAfter outcome output) ≡ drop (resultOf s outcome .kept) output
   pub verdicts-rest : drop (length scans) (verdictsAfter outcome verdicts) ≡ drop (length scans) verdicts
 
 abbrev pub RestUnchanged : Type 0
 RestUnchanged =
     (limit mark : ℕ) (table : List ℕ) (count : ℕ) (s : State) (scans output verdicts : List ℕ) →
     let outcome = runOf limit mark table count s scans (length output) (length verdicts) in
-    ranOf s outcome .checked ≡ Fit → OnlyFronts s scans output verdicts outcome
+    resultOf s outcome .checked ≡ Fit → OnlyFronts s scans output verdicts outcome

@@ -8,11 +8,11 @@ use mathlib.Core.List.{List, [], _∷_, _++_}
 use lib.Dec.{eqb, ltb, leb}
 use lib.ListN.{length, getD, take, drop}
 use Rattle.reading.specs.File.{Outcome, accepted, refused, refuse}
-use Rattle.synthesis.specs.Monitor.{Answer, dropped, next, cases, kept, verdicts, ended, entry}
+use Rattle.synthesis.specs.Monitor.{Answer, dropped, next, cases, kept, verdicts, ended, lookup}
 use Rattle.running.specs.declared.State.{State}
 use Rattle.running.specs.declared.Checked.{Checked}
 use Rattle.running.specs.declared.Checked.the-variants.{Fit, Refused}
-use Rattle.running.specs.declared.Ran.{Ran}
+use Rattle.running.specs.declared.RunResult.{RunResult}
 
 -- ---- one scan
 
@@ -25,8 +25,8 @@ abbrev pub moved : State → ℕ → State
 moved s e = record { equation = e }
 
 -- What a table answers to a scan in a state: the entry of the state's equation for its code.
-abbrev pub following : (mark : ℕ) → (table : List ℕ) → State → ℕ → Answer State
-following mark table s c = cases (entry 256 mark table (s .equation) c) dropped (λ e. next (moved s e))
+abbrev pub answerIn : (mark : ℕ) → (table : List ℕ) → State → ℕ → Answer State
+answerIn mark table s c = cases (lookup 256 mark table (s .equation) c) dropped (λ e. next (moved s e))
 
 -- ---- refusals
 
@@ -55,8 +55,8 @@ unfoldable pub fits : (limit mark : ℕ) → (table : List ℕ) → (count : ℕ
 fits limit mark table count s = isWellFormed limit mark table count && ltb (s .equation) count
 
 -- an output and verdicts of these sizes have room for every scan
-abbrev pub roomy : (scans : List ℕ) → (output verdicts : ℕ) → Bool
-roomy scans output verdicts = leb (length scans) output && leb (length scans) verdicts
+abbrev pub hasRoom : (scans : List ℕ) → (output verdicts : ℕ) → Bool
+hasRoom scans output verdicts = leb (length scans) output && leb (length scans) verdicts
 
 -- ---- the run
 
@@ -66,19 +66,19 @@ pub record Run : Type 0 where
   pub kept : List ℕ
   pub verdicts : List ℕ
 
-abbrev pub followed : (mark : ℕ) → (table : List ℕ) → State → (scans : List ℕ) → Run
-followed mark table s scans = record {
-  state = ended (following mark table) s scans;
-  kept = kept (following mark table) s scans;
-  verdicts = verdicts (following mark table) s scans;
+abbrev pub runFrom : (mark : ℕ) → (table : List ℕ) → State → (scans : List ℕ) → Run
+runFrom mark table s scans = record {
+  state = ended (answerIn mark table) s scans;
+  kept = kept (answerIn mark table) s scans;
+  verdicts = verdicts (answerIn mark table) s scans;
 }
 
 -- with an output and verdicts of these sizes: 15 comes before 16
 unfoldable pub runOf : (limit mark : ℕ) → (table : List ℕ) → (count : ℕ) → State → (scans : List ℕ) → (output verdicts : ℕ) → Outcome Run
 runOf limit mark table count s scans output verdicts =
-    refuse (not (roomy scans output verdicts)) 15 0
+    refuse (not (hasRoom scans output verdicts)) 15 0
     (refuse (not (fits limit mark table count s)) 16 0
-    (accepted (followed mark table s scans)))
+    (accepted (runFrom mark table s scans)))
 
 -- ---- what is handed back, and what is left in the buffers
 
@@ -93,9 +93,9 @@ occurrences x [] = 0
 occurrences x (y ∷ ys) = cond (eqb y x) (suc (occurrences x ys)) (occurrences x ys)
 
 -- what a run from the state s hands back; a refused one, that state and counts of 0
-abbrev pub ranOf : State → Outcome Run → Ran
-ranOf s (accepted y) = record { checked = checkedOf (accepted y); state = y .state; kept = length (y .kept); dropped = occurrences 1 (y .verdicts) }
-ranOf s (refused number place) = record { checked = checkedOf (refused number place); state = s; kept = 0; dropped = 0 }
+abbrev pub resultOf : State → Outcome Run → RunResult
+resultOf s (accepted y) = record { checked = checkedOf (accepted y); state = y .state; kept = length (y .kept); dropped = occurrences 1 (y .verdicts) }
+resultOf s (refused number place) = record { checked = checkedOf (refused number place); state = s; kept = 0; dropped = 0 }
 
 -- the scans that a run keeps and the verdicts that it gives; a refused one, none
 abbrev pub keptOf : Outcome Run → List ℕ

@@ -3,7 +3,7 @@ use crate::Checked;
 use crate::State;
 use synthesis::DROPPED;
 ghost use mathlib.Core.Path.{_≡_};
-ghost use Rattle.running.specs.Running.{inRange, entriesInRange, isWellFormed, fits, roomy, runOf, checkedOf};
+ghost use Rattle.running.specs.Running.{inRange, entriesInRange, isWellFormed, fits, hasRoom, runOf, checkedOf};
 
 // Whether an entry is the mark for dropped or the number of an equation.
 fn in_range(entry: u8, count: u8) -> bool
@@ -57,8 +57,8 @@ fn fits(table: &[u8], count: usize, state: State) -> bool
 }
 
 // Whether an output and verdicts of these lengths have room for every scan.
-fn is_roomy(scans: &[u8], output: usize, verdicts: usize) -> bool
-    ensures { λ r. ⌜ r ≡ roomy (now (scans .entry)) output verdicts ⌝ }
+fn has_room(scans: &[u8], output: usize, verdicts: usize) -> bool
+    ensures { λ r. ⌜ r ≡ hasRoom (now (scans .entry)) output verdicts ⌝ }
 {
     if output < scans.len() {
         return false;
@@ -77,9 +77,9 @@ pub(crate) fn check(
 ) -> Checked
     ensures { λ r. ⌜ r ≡ checkedOf (runOf 128 255 (now (table .entry)) count state (now (scans .entry)) output verdicts) ⌝ }
 {
-    let has_room = is_roomy(scans, output, verdicts);
+    let room = has_room(scans, output, verdicts);
     let is_fit = fits(table, count, state);
-    if !has_room {
+    if !room {
         return Checked::Refused(15, 0);
     }
     if !is_fit {

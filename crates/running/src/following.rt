@@ -7,7 +7,7 @@ ghost use mathlib.Core.Bool.{cond};
 ghost use Prim.Native.Nat.{_≤_, _<_};
 ghost use lib.ListN.{length, getD};
 ghost use Rattle.synthesis.specs.Monitor.{rowOf};
-ghost use Rattle.running.specs.Running.{followed, overlay};
+ghost use Rattle.running.specs.Running.{runFrom, overlay};
 
 // Where the loop ends: the state, and how many scans were kept.
 pub(crate) struct End {
@@ -52,11 +52,11 @@ pub(crate) fn follow(
     verdicts: &mut [u8],
 ) -> End
     requires { ⌜ (state .equation < 128) × (length (now scans) ≤ length (now output)) × (length (now scans) ≤ length (now verdicts)) ⌝ }
-    ensures { λ r. ⌜ r .state ≡ followed 255 (now (table .entry)) state (now (scans .entry)) .state ⌝ }
-    ensures { λ r. ⌜ r .kept ≡ length (followed 255 (now (table .entry)) state (now (scans .entry)) .kept) ⌝ }
-    ensures { λ _. ⌜ now (output .exit) ≡ overlay (followed 255 (now (table .entry)) state (now (scans .entry)) .kept) (now (output .entry)) ⌝ }
+    ensures { λ r. ⌜ r .state ≡ runFrom 255 (now (table .entry)) state (now (scans .entry)) .state ⌝ }
+    ensures { λ r. ⌜ r .kept ≡ length (runFrom 255 (now (table .entry)) state (now (scans .entry)) .kept) ⌝ }
+    ensures { λ _. ⌜ now (output .exit) ≡ overlay (runFrom 255 (now (table .entry)) state (now (scans .entry)) .kept) (now (output .entry)) ⌝ }
     ensures { λ _. ⌜ now (verdicts .exit)
-        ≡ overlay (followed 255 (now (table .entry)) state (now (scans .entry)) .verdicts) (now (verdicts .entry)) ⌝ }
+        ≡ overlay (runFrom 255 (now (table .entry)) state (now (scans .entry)) .verdicts) (now (verdicts .entry)) ⌝ }
 {
     let mut from = 256 * state.equation;
     let mut kept = 0;

@@ -6,7 +6,7 @@ use checking::check;
 use following::follow;
 ghost use mathlib.Core.Path.{_≡_};
 ghost use lib.ListN.{length};
-ghost use Rattle.running.specs.Running.{start, runOf, ranOf, outputAfter, verdictsAfter};
+ghost use Rattle.running.specs.Running.{start, runOf, resultOf, outputAfter, verdictsAfter};
 
 // The state of a run: the number of its equation.
 pub struct State {
@@ -20,7 +20,7 @@ pub enum Checked {
 }
 
 // What a run hands back: whether it was refused, the state in which it ended, and how many scans it kept and dropped.
-pub struct Ran {
+pub struct RunResult {
     pub checked: Checked,
     pub state: State,
     pub kept: usize,
@@ -43,8 +43,8 @@ pub fn run(
     scans: &[u8],
     output: &mut [u8],
     verdicts: &mut [u8],
-) -> Ran
-    ensures { λ r. ⌜ r ≡ ranOf state
+) -> RunResult
+    ensures { λ r. ⌜ r ≡ resultOf state
         (runOf 128 255 (now (table .entry)) count state (now (scans .entry)) (length (now (output .entry))) (length (now (verdicts .entry)))) ⌝ }
     ensures { λ _. ⌜ now (output .exit) ≡ outputAfter
         (runOf 128 255 (now (table .entry)) count state (now (scans .entry)) (length (now (output .entry))) (length (now (verdicts .entry))))
@@ -55,7 +55,7 @@ pub fn run(
 {
     let checked = check(table, count, state, scans, output.len(), verdicts.len());
     let Checked::Fit = checked else {
-        return Ran {
+        return RunResult {
             checked,
             state,
             kept: 0,
@@ -66,7 +66,7 @@ pub fn run(
     let state = end.state;
     let kept = end.kept;
     let dropped = scans.len() - kept;
-    Ran {
+    RunResult {
         checked,
         state,
         kept,

@@ -1,7 +1,7 @@
 // What is printed of building and of a run.
 use libc::STDOUT_FILENO;
 use running::Checked;
-use running::Ran;
+use running::RunResult;
 use synthesis::Counted;
 use testing::digest;
 use testing::print_counted;
@@ -24,7 +24,7 @@ fn print_checked(answer: Checked) {
     }
 }
 
-pub fn print_ran(ran: Ran) {
+pub fn print_ran(ran: RunResult) {
     let checked = ran.checked;
     print_checked(checked);
     let state = ran.state;

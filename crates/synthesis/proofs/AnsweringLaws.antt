@@ -12,22 +12,22 @@ use Rattle.synthesis.specs.Violation.{coveredBy}
 use Rattle.synthesis.specs.Monitor.{dropped, next}
 use Rattle.synthesis.specs.NodeSet.{Has, emptySet, intersection}
 use Rattle.synthesis.specs.Opening.{Opens, Leads, leads, Answers, IsFirst}
-use Rattle.synthesis.specs.Answering.{opening, opensAround, falsities, reached, judged, firstOf, answerOf}
+use Rattle.synthesis.specs.Answering.{opening, opensAround, falsities, reached, answerFrom, firstOf, answerOf}
 use Rattle.synthesis.specs.Promises.{Answered, AnswersAsDefined}
 use Rattle.synthesis.proofs.NodeSetLaws.{has-none, has-common, none-of}
 use Rattle.synthesis.proofs.NodeWise.{no-falsity, some-falsity, Reaches, reached-has}
 use Rattle.synthesis.proofs.OpeningLaws.{opens-as-defined}
 
 -- The set s is what the members of e lead to under c; so it is the answer, unless it has an ff node.
-judged-answers : (r : Rule) (e c s : ℕ) → ((m : ℕ) → Has s m ↔ Leads r e c m) → Answers r e c (judged (falsities 0 (r .formula)) s)
-judged-answers r e c s led = on (eqb (intersection s (falsities 0 (r .formula))) emptySet) refl
+answer-from-answers : (r : Rule) (e c s : ℕ) → ((m : ℕ) → Has s m ↔ Leads r e c m) → Answers r e c (answerFrom (falsities 0 (r .formula)) s)
+answer-from-answers r e c s led = on (eqb (intersection s (falsities 0 (r .formula))) emptySet) refl
   where
     on : (b : Bool) → eqb (intersection s (falsities 0 (r .formula))) emptySet ≡ b → Answers r e c (cond b (next s) dropped)
     on true h = (λ m l f. no-falsity (r .formula) s h m (led m .1 l) f, led)
     on false h = let (m, p, f) = some-falsity (r .formula) s h in (m, led m .0 p, f)
 
-judged-none : (ffs s : ℕ) → s ≡ emptySet → judged ffs s ≡ next emptySet
-judged-none ffs s e = rw (e, none-of (intersection emptySet ffs) (λ n h. has-none n (has-common emptySet ffs n .0 h .0)))
+answer-from-none : (ffs s : ℕ) → s ≡ emptySet → answerFrom ffs s ≡ next emptySet
+answer-from-none ffs s e = rw (e, none-of (intersection emptySet ffs) (λ n h. has-none n (has-common emptySet ffs n .0 h .0)))
 
 module _ (r : Rule) (wf : WellFormed (length (r .patterns)) [] (r .formula)) where
   after-opened : {n p : ℕ} {ms : List EnclosingMax} {f : Formula} → Node (r .formula) n ms (necessity p f) → (m : ℕ)
@@ -52,14 +52,14 @@ module _ (r : Rule) (wf : WellFormed (length (r .patterns)) [] (r .formula)) whe
 
   answers : (e c : ℕ) → Answers r e c (answerOf r e c)
   unfolding answerOf
-  answers e c = judged-answers r e c (reached (coveredBy (r .patterns)) e c 0 [] (r .formula)) (reached-leads e c)
+  answers e c = answer-from-answers r e c (reached (coveredBy (r .patterns)) e c 0 [] (r .formula)) (reached-leads e c)
 
   nothing-led : (c m : ℕ) → Leads r emptySet c m → ⊥
   nothing-led c m (leads {n} member node covers o) = has-none n member
 
   empty : (c : ℕ) → answerOf r emptySet c ≡ next emptySet
   unfolding answerOf
-  empty c = judged-none (falsities 0 (r .formula)) _ (none-of _ (λ m h. nothing-led c m (reached-leads emptySet c m .0 h)))
+  empty c = answer-from-none (falsities 0 (r .formula)) _ (none-of _ (λ m h. nothing-led c m (reached-leads emptySet c m .0 h)))
 
   answered : Answered r
   answered = record { first = is-first; answers = answers; empty = empty }

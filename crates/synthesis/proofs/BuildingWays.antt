@@ -53,10 +53,10 @@ pub counts : {o : Outcome Synthesis} (p : Plan) (n : ℕ) → IsPlan o p → p .
 counts {o} p n is e = counts-of o p n (sym e ∙ is .answer-is) (is .fills)
 
 pub is-filled : (s table after : List ℕ) (p : Plan) (n : ℕ) → Counts (synthesisOf 128 s) p n → 32768 ≤ length table
-    → after ≡ filled 255 (answerBy (p .graph .after) (p .graph .waiting) (p .graph .falsities)) (take n (p .found)) 256 table
+    → after ≡ filled 255 (answerBy (p .graph .after) (p .graph .enabled) (p .graph .falsities)) (take n (p .found)) 256 table
     → Builds s table (Equations n) after
 is-filled s table after p n c h e =
-    let answers = answerBy (p .graph .after) (p .graph .waiting) (p .graph .falsities) in
+    let answers = answerBy (p .graph .after) (p .graph .enabled) (p .graph .falsities) in
     let agree = graph-answers (p .graph) (c .fills .graph-is) in
     let same : take n (p .found) ≡ c .synthesis .equations = ap (λ (k : ℕ). take k (p .found)) (c .count-is) ∙ c .fills .found-is in
     rw (building-enough 128 s (length table) h, c .is) (

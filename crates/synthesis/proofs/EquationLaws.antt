@@ -11,7 +11,7 @@ use Rattle.synthesis.specs.Monitor.{Answer, dropped, next}
 use Rattle.synthesis.specs.NodeSet.{Has}
 use Rattle.synthesis.specs.Opening.{IsFalsity, OpensToFalsity, Leads, leads, Answers, ViolatesEquation}
 use Rattle.synthesis.specs.Answering.{firstOf, answerOf}
-use Rattle.synthesis.specs.Promises.{ViolatesNext, Follows, FollowsViolation}
+use Rattle.synthesis.specs.Promises.{ViolatesNext, Tracks, TracksViolation}
 use Rattle.synthesis.proofs.AnsweringLaws.{answers-as-defined}
 use Rattle.synthesis.proofs.ViolationLaws.{ViolatesNode, violates-node, opens-violates, Ends, at-falsity, at-necessity, violates-opens}
 
@@ -65,12 +65,12 @@ module _ (r : Rule) (wf : WellFormed (length (r .patterns)) [] (r .formula)) whe
           let o = answers-as-defined r wf .first n .0 member in
           opens-violates (covered r) (r .formula) o (violates-node (covered r) (r .formula) node v) _ _ whole
 
-  follows : Follows r
+  follows : Tracks r
   follows = record {
     step = λ e c w. step e c w (answerOf r e c) (answers-as-defined r wf .answers e c);
     end = end;
     start = start;
   }
 
-pub follows-violation : FollowsViolation
-follows-violation = follows
+pub tracks-violation : TracksViolation
+tracks-violation = follows

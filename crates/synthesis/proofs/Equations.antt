@@ -16,18 +16,18 @@ use Rattle.synthesis.specs.Monitor.{next}
 use Rattle.synthesis.specs.NodeSet.{Has}
 use Rattle.synthesis.specs.Opening.{Opens, falsity-itself, necessity-itself, first-part, second-part, body-of-max, body-of-variable}
 use Rattle.synthesis.specs.Opening.{IsFalsity, Leads, leads, Answers}
-use Rattle.synthesis.specs.Answering.{firstOf, answerOf, hopeless}
+use Rattle.synthesis.specs.Answering.{firstOf, answerOf, unsatisfiable}
 use Rattle.synthesis.specs.Search.{indexOf, found}
 use Rattle.synthesis.specs.Building.{equationsOf, Synthesis, synthesisOf, countedOf}
-use Rattle.synthesis.specs.Promises.{WellFormedFormula, Counts, AnswersCount, ChecksTable, Closed, RefusesTooMany, Reached, ReachesEquations}
+use Rattle.synthesis.specs.Promises.{WellFormedFormula, Counts, AnswersCount, ChecksTable, Closed, RefusesTooMany, Reachable, ReachesEquations}
 use Rattle.synthesis.specs.declared.Counted.the-variants.{Refused}
 use Rattle.synthesis.proofs.Indices.{Member, index-is, index-first, member-at, Distinct, distinct-indices, distinct-fits}
-use Rattle.synthesis.proofs.Finding.{ClosedUnder, found-closed, found-inside, Reached as ReachedBy, found-reached, found-all}
+use Rattle.synthesis.proofs.Finding.{ClosedUnder, found-closed, found-inside, Reachable as ReachedBy, found-reached, found-all}
 use Rattle.synthesis.proofs.Finding.{found-first, found-distinct}
 use Rattle.synthesis.proofs.AnsweringLaws.{answers-as-defined}
-use Rattle.synthesis.proofs.EquationLaws.{follows-violation}
-use Rattle.synthesis.proofs.RuleMonitor.{hopeless-iff}
-use Rattle.synthesis.proofs.Synthesized.{made, synthesis-accepts, building-short, building-enough, refused-nine, refuses-eight, refuses-nine}
+use Rattle.synthesis.proofs.EquationLaws.{tracks-violation}
+use Rattle.synthesis.proofs.RuleMonitor.{unsatisfiable-iff}
+use Rattle.synthesis.proofs.Synthesized.{withEquations, synthesis-accepts, building-short, building-enough, refused-nine, refuses-eight, refuses-nine}
 use Rattle.synthesis.proofs.Synthesized.{counted-accepts, counted-refuses, accepts-as}
 
 -- a file that is read is a rule with a well-formed formula
@@ -120,12 +120,12 @@ module _ (limit : ℕ) (r : Rule) where
         let l = a .1 n .0 h in
         else-necessity (leads-to l) (a .0 n l)
 
-    first-necessities : hopeless r ≡ false → Necessities (r .formula) (firstOf r)
+    first-necessities : unsatisfiable r ≡ false → Necessities (r .formula) (firstOf r)
     first-necessities hopeful n h =
         let o = answers-as-defined r wf .first n .0 h in
-        else-necessity (opens-to o) (λ f. true≢false (sym (hopeless-iff r wf .1 (follows-violation r wf .start [] .1 (inl (n, o, f)))) ∙ hopeful))
+        else-necessity (opens-to o) (λ f. true≢false (sym (unsatisfiable-iff r wf .1 (tracks-violation r wf .start [] .1 (inl (n, o, f)))) ∙ hopeful))
 
-    equations-necessities : hopeless r ≡ false → (i : ℕ) → i < length (equationsOf limit r)
+    equations-necessities : unsatisfiable r ≡ false → (i : ℕ) → i < length (equationsOf limit r)
         → Necessities (r .formula) (getD (equationsOf limit r) i 0)
     unfolding equationsOf
     equations-necessities hopeful i h =
@@ -153,10 +153,10 @@ checks-table limit s size = record { short = building-short limit s size; enough
 pub reaches-equations : ReachesEquations
 reaches-equations limit s bytes r n read e =
     let y = counted-accepts (synthesisOf limit s) n e in
-    synthesis-accepts limit s (λ z. z ≡ made limit r → Reached r (equationsOf limit r))
+    synthesis-accepts limit s (λ z. z ≡ withEquations limit r → Reachable r (equationsOf limit r))
     (λ r′ read′ hopeful few q.
     let same : r′ ≡ r = ap (λ (z : Synthesis). z .rule) q in
-    let hope : hopeless r ≡ false = subst (λ x. hopeless x ≡ false) same hopeful in
+    let hope : unsatisfiable r ≡ false = subst (λ x. unsatisfiable x ≡ false) same hopeful in
     let small : length (equationsOf limit r) ≤ limit = subst (λ x. length (equationsOf limit x) ≤ limit) same few in
     record {
       members = λ i m h. equations-necessities limit r (file-well-formed s bytes r read) hope i h m;
@@ -174,9 +174,9 @@ refuses-too-many limit s r read hopeful = (over, none)
         omega (arith, refused-nine limit s r read (counted-refuses (synthesisOf limit s) 9 0 e), closed-longer limit r es closed)
 
     none : ((es : List ℕ) → length es ≤ limit → Closed r es → ⊥) → countedOf (synthesisOf limit s) ≡ Refused 9 0
-    none h = on (hopeless r) refl (decLt limit (length (equationsOf limit r)))
+    none h = on (unsatisfiable r) refl (decLt limit (length (equationsOf limit r)))
       where
-        on : (b : Bool) → hopeless r ≡ b → Dec (limit < length (equationsOf limit r)) → countedOf (synthesisOf limit s) ≡ Refused 9 0
+        on : (b : Bool) → unsatisfiable r ≡ b → Dec (limit < length (equationsOf limit r)) → countedOf (synthesisOf limit s) ≡ Refused 9 0
         on true q d = absurd (hopeful (rw (refuses-eight limit s r read q)))
         on false q (yes a) = rw (refuses-nine limit s r read q a)
         on false q (no a) = absurd (h (equationsOf limit r) (omega arith) (closed-list limit r (omega arith)))

@@ -8,7 +8,7 @@ use lib.ListN.{length, getD, drop, set, drop-of-length-le}
 use lib.Seq.{length-front, length-take-le, drop-cons, drop-drop, set-at, take-at, drop-at}
 use borrow.Rule.Slice.PartMut.{putMid}
 use Rattle.synthesis.specs.Monitor.{Answer}
-use Rattle.synthesis.specs.Table.{entryFor, entries, rows, filled}
+use Rattle.synthesis.specs.Table.{entryOf, entriesOf, rows, filled}
 use Rattle.synthesis.proofs.Rows.{entries-length, rows-length}
 
 -- ---- a list d whose first n elements are overwritten by p
@@ -31,15 +31,15 @@ module _ (p d : List ℕ) (n : ℕ) (size : length p ≡ n) where
 module _ (mark : ℕ) (answer : ℕ → ℕ → Answer ℕ) (found : List ℕ) where
   -- ---- a row with the entries of the equation e for the first c codes
 
-  module _ (e : ℕ) (row₀ row : List ℕ) (c : ℕ) (begun : row ≡ entries mark answer found e c ++ drop c row₀) where
-    pub entries-next : (v : ℕ) → c < length row₀ → v ≡ entryFor mark found (answer e c)
-        → set row c v ≡ entries mark answer found e (c + 1) ++ drop (c + 1) row₀
-    unfolding entries
+  module _ (e : ℕ) (row₀ row : List ℕ) (c : ℕ) (begun : row ≡ entriesOf mark answer found e c ++ drop c row₀) where
+    pub entries-next : (v : ℕ) → c < length row₀ → v ≡ entryOf mark found (answer e c)
+        → set row c v ≡ entriesOf mark answer found e (c + 1) ++ drop (c + 1) row₀
+    unfolding entriesOf
     entries-next v h is =
         rw (begun, is, add-one c)
-        (store-next (entries mark answer found e c) row₀ c (entries-length mark answer found e c) (entryFor mark found (answer e c)) h)
+        (store-next (entriesOf mark answer found e c) row₀ c (entries-length mark answer found e c) (entryOf mark found (answer e c)) h)
 
-    pub entries-all : length row₀ ≤ c → row ≡ entries mark answer found e c
+    pub entries-all : length row₀ ≤ c → row ≡ entriesOf mark answer found e c
     entries-all h = begun ∙ rw (drop-of-length-le row₀ {i = c} h, append-nil)
 
   -- ---- a table with the rows of the first k equations
@@ -52,12 +52,12 @@ module _ (mark : ℕ) (answer : ℕ → ℕ → Answer ℕ) (found : List ℕ) w
     rows-keep h = ap length begun ∙ front-length (rows mark answer found codes k) table₀ (codes * k) size h
 
     -- the next row is lent, and comes back filled
-    pub rows-next : (e : ℕ) (q : List ℕ) → getD found k 0 ≡ e → q ≡ entries mark answer found e codes
+    pub rows-next : (e : ℕ) (q : List ℕ) → getD found k 0 ≡ e → q ≡ entriesOf mark answer found e codes
         → putMid (codes * k) (codes * k + codes - codes * k) table q ≡ rows mark answer found codes (k + 1) ++ drop (codes * (k + 1)) table₀
     unfolding rows
     rows-next e q at is =
         rw (begun, is, add-one k, at, mul-suc codes k, add-sub-cancel-left (codes * k) codes)
-        (put-next (rows mark answer found codes k) table₀ (codes * k) size codes (entries mark answer found e codes))
+        (put-next (rows mark answer found codes k) table₀ (codes * k) size codes (entriesOf mark answer found e codes))
 
     pub rows-all : length found ≡ k → table ≡ filled mark answer found codes table₀
     unfolding filled

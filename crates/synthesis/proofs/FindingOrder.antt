@@ -9,11 +9,11 @@ use lib.ListN.{length, getD, length-append}
 use lib.Seq.{getD-at}
 use Rattle.synthesis.specs.Monitor.{Answer, dropped, next}
 use Rattle.synthesis.specs.Answering.{firstOf, answerOf}
-use Rattle.synthesis.specs.Search.{indexOf, with, noted, found}
+use Rattle.synthesis.specs.Search.{indexOf, insert, explored, found}
 use Rattle.synthesis.specs.Building.{equationsOf}
 use Rattle.synthesis.specs.Promises.{Before, FoundBy, AsFound, NumberedAsFound}
-use Rattle.synthesis.proofs.Indices.{Member, index-is, with-cases}
-use Rattle.synthesis.proofs.Finding.{Grows, grows-member, grows-at, grows-length, noted-grows, noted-member, turn-cases}
+use Rattle.synthesis.proofs.Indices.{Member, index-is, insert-cases}
+use Rattle.synthesis.proofs.Finding.{Grows, grows-member, grows-at, grows-length, explored-grows, explored-member, expanded-cases}
 use Rattle.synthesis.proofs.Finding.{ClosedBelow, found-closed-below}
 
 before-le : {j c j′ c′ : ℕ} → Before j c j′ c′ → j ≤ j′
@@ -60,9 +60,9 @@ module _ (codes : ℕ) (answer : ℕ → ℕ → Answer ℕ) where
       same : (j : ℕ) → j < length l → getD (l ++ (e ∷ [])) j 0 ≡ getD l j 0
       same j k = grows-at l (l ++ (e ∷ [])) j (e ∷ [], refl) k
 
-  with-as-found : (first k c e : ℕ) (l : List ℕ) → k < length l → c < codes → answer (getD l k 0) c ≡ next e → FollowedBefore k c l
-      → AsFound codes answer first l → AsFound codes answer first (with l e)
-  with-as-found first k c e l h b q followed f = with-cases (AsFound codes answer first) l e (λ old. f) (λ new. record {
+  insert-as-found : (first k c e : ℕ) (l : List ℕ) → k < length l → c < codes → answer (getD l k 0) c ≡ next e → FollowedBefore k c l
+      → AsFound codes answer first l → AsFound codes answer first (insert l e)
+  insert-as-found first k c e l h b q followed f = insert-cases (AsFound codes answer first) l e (λ old. f) (λ new. record {
     some = omega (arith, grows-length l m grows, f .some);
     starts = grows-at l m 0 grows (f .some) ∙ f .starts;
     found = λ i p inside. on i p inside (decLt i (length l));
@@ -84,49 +84,49 @@ module _ (codes : ℕ) (answer : ℕ → ℕ → Answer ℕ) where
 
   module _ (k : ℕ) (l : List ℕ) (h : k < length l) (closed : ClosedBelow codes answer k l) where
     -- after the first n codes of equation k
-    noted-followed : (n : ℕ) → FollowedBefore k n (noted codes answer (getD l k 0) n l)
-    noted-followed n j c e p b q = on p
+    explored-followed : (n : ℕ) → FollowedBefore k n (explored codes answer (getD l k 0) n l)
+    explored-followed n j c e p b q = on p
       where
         m : List ℕ
-        m = noted codes answer (getD l k 0) n l
+        m = explored codes answer (getD l k 0) n l
 
         grows : Grows l m
-        grows = noted-grows codes answer (getD l k 0) n l
+        grows = explored-grows codes answer (getD l k 0) n l
 
         same : answer (getD l j 0) c ≡ next e
         same = rw (grows-at l m j grows (omega (arith, before-le p))) at q
 
         on : Before j c k n → Member e m
         on (inl a) = grows-member l m e grows (closed j c e a (omega arith) b same)
-        on (inr a) = noted-member codes answer (getD l k 0) n c e l (a .1) (rw (← a .0) same)
+        on (inr a) = explored-member codes answer (getD l k 0) n c e l (a .1) (rw (← a .0) same)
 
-    noted-as-found : (first : ℕ) → AsFound codes answer first l → (n : ℕ) → n ≤ codes
-        → AsFound codes answer first (noted codes answer (getD l k 0) n l)
-    unfolding noted
-    noted-as-found first f zero b = f
-    noted-as-found first f (suc n) b = on (answer (getD l k 0) n) refl (noted-as-found first f n (omega arith))
+    explored-as-found : (first : ℕ) → AsFound codes answer first l → (n : ℕ) → n ≤ codes
+        → AsFound codes answer first (explored codes answer (getD l k 0) n l)
+    unfolding explored
+    explored-as-found first f zero b = f
+    explored-as-found first f (suc n) b = on (answer (getD l k 0) n) refl (explored-as-found first f n (omega arith))
       where
         m : List ℕ
-        m = noted codes answer (getD l k 0) n l
+        m = explored codes answer (getD l k 0) n l
 
         grows : Grows l m
-        grows = noted-grows codes answer (getD l k 0) n l
+        grows = explored-grows codes answer (getD l k 0) n l
 
         on : (a : Answer ℕ) → answer (getD l k 0) n ≡ a → AsFound codes answer first m
-            → AsFound codes answer first (noted codes answer (getD l k 0) (suc n) l)
+            → AsFound codes answer first (explored codes answer (getD l k 0) (suc n) l)
         on dropped q ih = rw q ih
         on (next e) q ih =
             rw q
-            (with-as-found first k n e m (omega (arith, grows-length l m grows)) b (rw (grows-at l m k grows h) q) (noted-followed n) ih)
+            (insert-as-found first k n e m (omega (arith, grows-length l m grows)) b (rw (grows-at l m k grows h) q) (explored-followed n) ih)
 
-  pub found-as-found : (turns first : ℕ) → AsFound codes answer first (found codes answer turns first)
+  pub found-as-found : (expansions first : ℕ) → AsFound codes answer first (found codes answer expansions first)
   unfolding found
   found-as-found zero first = record { some = omega arith; starts = refl; found = λ i p h. absurd (omega arith) }
   found-as-found (suc k) first =
       let l = found codes answer k first in
       let f = found-as-found k first in
-      turn-cases codes answer (AsFound codes answer first) k l
-      (λ h. noted-as-found k l h (found-closed-below codes answer k first) first f codes (omega arith)) (λ out. f)
+      expanded-cases codes answer (AsFound codes answer first) k l
+      (λ h. explored-as-found k l h (found-closed-below codes answer k first) first f codes (omega arith)) (λ out. f)
 
 pub numbered-as-found : NumberedAsFound
 unfolding equationsOf

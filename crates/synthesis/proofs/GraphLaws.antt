@@ -13,7 +13,7 @@ use Rattle.reading.proofs.NumberedLaws.{repeated-at}
 use Rattle.synthesis.specs.Violation.{coveredBy}
 use Rattle.synthesis.specs.NodeSet.{Has, intersection}
 use Rattle.synthesis.specs.Opening.{IsFalsity}
-use Rattle.synthesis.specs.Answering.{falsities, reached, firstOf, judged, answerOf}
+use Rattle.synthesis.specs.Answering.{falsities, reached, firstOf, answerFrom, answerOf}
 use Rattle.synthesis.specs.Arrays.{IsRule, SomeNode, SomeNumbered, IsOpening, HasKind, IsGraph, gathered, answerBy}
 use Rattle.synthesis.specs.declared.graph.Graph.{Graph}
 use Rattle.synthesis.proofs.NodeSetLaws.{has-ext, has-common}
@@ -52,7 +52,7 @@ module _ {r : Rule} {kinds args : List ℕ} (ir : IsRule r kinds args) where
 module _ {r : Rule} (g : Graph) (is : IsGraph r g) (e c : ℕ) (code : c < 256) where
   -- the members that wait for the code
   abbrev live : ℕ
-  live = intersection e (getD (g .waiting) c 0)
+  live = intersection e (getD (g .enabled) c 0)
 
   -- what the members lead to
   abbrev led : ℕ
@@ -64,8 +64,8 @@ module _ {r : Rule} (g : Graph) (is : IsGraph r g) (e c : ℕ) (code : c < 256) 
       there : Has (gathered (g .after) live) m → Has led m
       there h =
           let (n, shared, opened) = gathered-has (g .after) live m .0 h in
-          let (member, waits) = has-common e (getD (g .waiting) c 0) n .0 shared in
-          let (p, ms, f, node, covers) = is .waiting-is .is c n code .0 waits in
+          let (member, waits) = has-common e (getD (g .enabled) c 0) n .0 shared in
+          let (p, ms, f, node, covers) = is .enabled-is .is c n code .0 waits in
           reached-has (coveredBy (r .patterns)) (r .formula) e c m .1
           (n, p, ms, f, node, member, covers, subst (λ s. Has s m) (is .after-is .is n p ms f node) opened)
 
@@ -74,11 +74,11 @@ module _ {r : Rule} (g : Graph) (is : IsGraph r g) (e c : ℕ) (code : c < 256) 
           let (n, p, ms, f, node, member, covers, opened) = reached-has (coveredBy (r .patterns)) (r .formula) e c m .0 h in
           gathered-has (g .after) live m .1 (
             n,
-            has-common e (getD (g .waiting) c 0) n .1 (member, is .waiting-is .is c n code .1 (p, ms, f, node, covers)),
+            has-common e (getD (g .enabled) c 0) n .1 (member, is .enabled-is .is c n code .1 (p, ms, f, node, covers)),
             subst (λ s. Has s m) (sym (is .after-is .is n p ms f node)) opened,
           )
 
   -- What the arrays of a graph answer is what the rule's equations answer.
-  pub graph-answers : answerBy (g .after) (g .waiting) (g .falsities) e c ≡ answerOf r e c
+  pub graph-answers : answerBy (g .after) (g .enabled) (g .falsities) e c ≡ answerOf r e c
   unfolding answerBy answerOf
-  graph-answers = rw (is .falsities-are) (ap (judged (falsities 0 (r .formula))) (has-ext _ _ gathers-led))
+  graph-answers = rw (is .falsities-are) (ap (answerFrom (falsities 0 (r .formula))) (has-ext _ _ gathers-led))

@@ -8,10 +8,10 @@ use native.Mathlib.Omega.{arith}
 use lib.ListN.{length, getD, take, set, length-append}
 use lib.Seq.{getD-take, take-suc-set, length-take-le}
 use Rattle.synthesis.specs.Monitor.{Answer}
-use Rattle.synthesis.specs.Search.{indexOf, with, noted, turn}
+use Rattle.synthesis.specs.Search.{indexOf, insert, explored, expanded}
 use Rattle.synthesis.specs.Arrays.{Holds}
-use Rattle.synthesis.proofs.Indices.{with-old, with-new}
-use Rattle.synthesis.proofs.Finding.{Grows, grows-length, turn-some, turn-none}
+use Rattle.synthesis.proofs.Indices.{insert-old, insert-new}
+use Rattle.synthesis.proofs.Finding.{Grows, grows-length, expanded-some, expanded-none}
 
 -- ---- what the count says
 
@@ -38,24 +38,24 @@ module _ (limit : ℕ) (a : List ℕ) (n : ℕ) (l : List ℕ) (room : length a 
 
   -- ---- one more equation
 
-  pub held-old : (e : ℕ) → n ≤ limit → indexOf e (take n a) < n → Holds limit a n (with l e)
-  held-old e h old = rw (← few h, with-old (take n a) e (omega (arith, size h))) (inl (h, refl))
+  pub held-old : (e : ℕ) → n ≤ limit → indexOf e (take n a) < n → Holds limit a n (insert l e)
+  held-old e h old = rw (← few h, insert-old (take n a) e (omega (arith, size h))) (inl (h, refl))
 
-  new : (e : ℕ) → n ≤ limit → n ≤ indexOf e (take n a) → with l e ≡ take n a ++ (e ∷ [])
-  new e h absent = rw (← few h) (with-new (take n a) e (λ m. omega (arith, size h)))
+  new : (e : ℕ) → n ≤ limit → n ≤ indexOf e (take n a) → insert l e ≡ take n a ++ (e ∷ [])
+  new e h absent = rw (← few h) (insert-new (take n a) e (λ m. omega (arith, size h)))
 
-  pub held-full : (e : ℕ) → n ≡ limit → n ≤ indexOf e (take n a) → Holds limit a (suc limit) (with l e)
+  pub held-full : (e : ℕ) → n ≡ limit → n ≤ indexOf e (take n a) → Holds limit a (suc limit) (insert l e)
   held-full e h absent =
       rw (new e (omega arith) absent) (inr (refl, omega (arith, size (omega arith), length-append (take n a) (e ∷ []))))
 
-  pub held-new : (e : ℕ) → n < limit → n ≤ indexOf e (take n a) → Holds limit (set a n e) (n + 1) (with l e)
+  pub held-new : (e : ℕ) → n < limit → n ≤ indexOf e (take n a) → Holds limit (set a n e) (n + 1) (insert l e)
   held-new e h absent = rw (new e (omega arith) absent, add-one n) (inl (omega arith, take-suc-set a n e (omega arith)))
 
   -- ---- the turn of equation k
 
   module _ (codes : ℕ) (answer : ℕ → ℕ → Answer ℕ) (k : ℕ) where
-    pub held-past : n ≤ limit → n ≤ k → Holds limit a n (turn codes answer k l)
-    held-past h past = rw (← few h, turn-none codes answer k (take n a) (omega (arith, size h))) (inl (h, refl))
+    pub held-past : n ≤ limit → n ≤ k → Holds limit a n (expanded codes answer k l)
+    held-past h past = rw (← few h, expanded-none codes answer k (take n a) (omega (arith, size h))) (inl (h, refl))
 
-    pub held-turn : n ≤ limit → k < n → turn codes answer k l ≡ noted codes answer (getD a k 0) codes l
-    held-turn h inside = rw (← few h, turn-some codes answer k (take n a) (omega (arith, size h)), getD-take n a k 0 inside)
+    pub held-expanded : n ≤ limit → k < n → expanded codes answer k l ≡ explored codes answer (getD a k 0) codes l
+    held-expanded h inside = rw (← few h, expanded-some codes answer k (take n a) (omega (arith, size h)), getD-take n a k 0 inside)

@@ -9,7 +9,7 @@ use lib.Dec.{eqb, ltb}
 use lib.ListN.{length, getD, take, length-append, List·getD-append}
 use lib.Seq.{length-take-le, getD-take, getD-at}
 use borrow.Author.Tests.{eq-eqb, eqb-true, eqb-false, ltb-true, ltb-false, lt-ltb, le-ltb}
-use Rattle.synthesis.specs.Search.{indexOf, with}
+use Rattle.synthesis.specs.Search.{indexOf, insert}
 
 abbrev pub Member : ℕ → List ℕ → Type 0
 Member e l = indexOf e l < length l
@@ -99,14 +99,14 @@ member-last e l = member-at e (l ++ (e ∷ [])) (length l) (omega (arith, length
 
 -- ---- a list with one number more, if it is new
 
-pub with-old : (l : List ℕ) (e : ℕ) → Member e l → with l e ≡ l
-with-old l e h = rw (lt-ltb (indexOf e l) (length l) h)
+pub insert-old : (l : List ℕ) (e : ℕ) → Member e l → insert l e ≡ l
+insert-old l e h = rw (lt-ltb (indexOf e l) (length l) h)
 
-pub with-new : (l : List ℕ) (e : ℕ) → (Member e l → ⊥) → with l e ≡ l ++ (e ∷ [])
-with-new l e h = rw (le-ltb (indexOf e l) (length l) (omega (arith, h)))
+pub insert-new : (l : List ℕ) (e : ℕ) → (Member e l → ⊥) → insert l e ≡ l ++ (e ∷ [])
+insert-new l e h = rw (le-ltb (indexOf e l) (length l) (omega (arith, h)))
 
-pub with-cases : (P : List ℕ → Type 0) (l : List ℕ) (e : ℕ) → (Member e l → P l) → ((Member e l → ⊥) → P (l ++ (e ∷ []))) → P (with l e)
-with-cases P l e old new = on (ltb (indexOf e l) (length l)) refl
+pub insert-cases : (P : List ℕ → Type 0) (l : List ℕ) (e : ℕ) → (Member e l → P l) → ((Member e l → ⊥) → P (l ++ (e ∷ []))) → P (insert l e)
+insert-cases P l e old new = on (ltb (indexOf e l) (length l)) refl
   where
     on : (b : Bool) → ltb (indexOf e l) (length l) ≡ b → P (cond b l (l ++ (e ∷ [])))
     on true q = old (ltb-true _ _ q)

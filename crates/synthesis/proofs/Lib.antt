@@ -26,11 +26,11 @@ pub mod HoldsLaws
 pub mod FillingRows
 pub mod Gathering
 pub mod SetsByTest
-pub mod Marking
+pub mod EnablingCodes
 pub mod NodeArrays
 pub mod OpeningArrays
 pub mod Linking
-pub mod WaitingLaws
+pub mod EnabledLaws
 pub mod GraphLaws
 pub mod PlanLaws
 pub mod BuildingWays

@@ -7,42 +7,42 @@ use native.Mathlib.Omega.{arith}
 use Rattle.reading.specs.Rule.{Rule, Bytes}
 use Rattle.reading.proofs.ByteLaws.{bytes-append}
 use Rattle.synthesis.specs.Violation.{ViolatesRule}
-use Rattle.synthesis.specs.Monitor.{Answer, dropped, next, kept, ended, Loses, now, later, Monitors}
+use Rattle.synthesis.specs.Monitor.{Answer, dropped, next, kept, ended, Suppresses, now, later, Monitors}
 use Rattle.synthesis.specs.Promises.{DropsViolations, MonitorsDrop}
 use Rattle.synthesis.proofs.Runs.{run-induction, kept-all}
 
 module _ {E : Type 0} (answer : E → ℕ → Answer E) where
-  pub loses-nothing : {e : E} → Loses answer e [] → ⊥
-  loses-nothing l = elim l [ ]
+  pub suppresses-nothing : {e : E} → Suppresses answer e [] → ⊥
+  suppresses-nothing l = elim l [ ]
 
-  pub loses-rest : {e e′ : E} {c : ℕ} {w : List ℕ} → answer e c ≡ next e′ → Loses answer e (c ∷ w) → Loses answer e′ w
-  loses-rest p (now q) = absurd (let z : _≡_ {A = ℕ} 0 1 = cc in omega arith)
-  loses-rest {e′ = e′} p (later {e′ = x} q l) = let z : e′ ≡ x = cc in rw z l
+  pub suppresses-rest : {e e′ : E} {c : ℕ} {w : List ℕ} → answer e c ≡ next e′ → Suppresses answer e (c ∷ w) → Suppresses answer e′ w
+  suppresses-rest p (now q) = absurd (let z : _≡_ {A = ℕ} 0 1 = cc in omega arith)
+  suppresses-rest {e′ = e′} p (later {e′ = x} q l) = let z : e′ ≡ x = cc in rw z l
 
   -- nothing of what was kept is lost
-  pub kept-loses : (e : E) (w : List ℕ) → Loses answer e (kept answer e w) → ⊥
-  kept-loses =
-      run-induction answer (λ e w. Loses answer e (kept answer e w) → ⊥) (λ e. loses-nothing)
-      (λ e c w q h. rw q h) (λ e e′ c w q h. rw q (λ l. h (loses-rest q l)))
+  pub kept-suppresses : (e : E) (w : List ℕ) → Suppresses answer e (kept answer e w) → ⊥
+  kept-suppresses =
+      run-induction answer (λ e w. Suppresses answer e (kept answer e w) → ⊥) (λ e. suppresses-nothing)
+      (λ e c w q h. rw q h) (λ e e′ c w q h. rw q (λ l. h (suppresses-rest q l)))
 
   -- what loses nothing is kept whole
-  pub kept-whole : (e : E) (w : List ℕ) → (Loses answer e w → ⊥) → kept answer e w ≡ w
+  pub kept-whole : (e : E) (w : List ℕ) → (Suppresses answer e w → ⊥) → kept answer e w ≡ w
   kept-whole =
-      run-induction answer (λ e w. (Loses answer e w → ⊥) → kept answer e w ≡ w) (λ e none. refl)
+      run-induction answer (λ e w. (Suppresses answer e w → ⊥) → kept answer e w ≡ w) (λ e none. refl)
       (λ e c w q h none. absurd (none (now q)))
       (λ e e′ c w q h none. rw q (ap (λ (l : List ℕ). c ∷ l) (h (λ l. none (later q l)))))
 
   -- a code after what was kept is lost exactly when it is dropped where the run ended
-  pub loses-last : (e : E) (w : List ℕ) (c : ℕ) → (answer (ended answer e w) c ≡ dropped) ↔ Loses answer e (kept answer e w ++ (c ∷ []))
-  loses-last e w c =
-      run-induction answer (λ e w. (answer (ended answer e w) c ≡ dropped) ↔ Loses answer e (kept answer e w ++ (c ∷ [])))
+  pub suppresses-last : (e : E) (w : List ℕ) (c : ℕ) → (answer (ended answer e w) c ≡ dropped) ↔ Suppresses answer e (kept answer e w ++ (c ∷ []))
+  suppresses-last e w c =
+      run-induction answer (λ e w. (answer (ended answer e w) c ≡ dropped) ↔ Suppresses answer e (kept answer e w ++ (c ∷ [])))
       (λ e. (λ q. now q, last))
       (λ e d w q h. rw q h)
-      (λ e e′ d w q h. rw q (λ z. later q (h .0 z), λ l. h .1 (loses-rest q l))) e w
+      (λ e e′ d w q h. rw q (λ z. later q (h .0 z), λ l. h .1 (suppresses-rest q l))) e w
     where
-      last : {e : E} → Loses answer e (c ∷ []) → answer e c ≡ dropped
+      last : {e : E} → Suppresses answer e (c ∷ []) → answer e c ≡ dropped
       last (now q) = q
-      last (later q l) = absurd (loses-nothing l)
+      last (later q l) = absurd (suppresses-nothing l)
 
 -- ---- any monitor of a rule
 
@@ -50,14 +50,14 @@ pub drops-violations : {E : Type 0} (r : Rule) (answer : E → ℕ → Answer E)
     → DropsViolations r answer first
 drops-violations r answer first monitors w c bytes code =
     let v = kept answer first w in
-    let step = loses-last answer first w c in
+    let step = suppresses-last answer first w c in
     let rule = monitors (v ++ (c ∷ [])) (bytes-append v (c ∷ []) (kept-all answer (λ b. b < 256) first w bytes) (code, tt)) in
     (λ q. rule .1 (step .0 q), λ h. step .1 (rule .0 h))
 
 pub kept-safe : {E : Type 0} (r : Rule) (answer : E → ℕ → Answer E) (first : E) → Monitors r answer first → (w : List ℕ) → Bytes w
     → ViolatesRule r (kept answer first w) → ⊥
 kept-safe r answer first monitors w bytes h =
-    kept-loses answer first w (monitors (kept answer first w) (kept-all answer (λ b. b < 256) first w bytes) .0 h)
+    kept-suppresses answer first w (monitors (kept answer first w) (kept-all answer (λ b. b < 256) first w bytes) .0 h)
 
 -- lists that don't violate the rule pass whole
 pub safe-kept : {E : Type 0} (r : Rule) (answer : E → ℕ → Answer E) (first : E) → Monitors r answer first → (w : List ℕ) → Bytes w

@@ -12,13 +12,13 @@ use borrow.Author.Tests.{ne-eqb, eq-eqb}
 use Rattle.reading.specs.Rule.{Rule, Bytes}
 use Rattle.reading.specs.File.{Outcome, accepted, refused, ruleOf}
 use Rattle.reading.specs.Numbered.{readingOf}
-use Rattle.reading.specs.declared.Answer.the-variants.{Accepted, Refused}
+use Rattle.reading.specs.declared.Acceptance.the-variants.{Accepted, Refused}
 use Rattle.reading.specs.declared.Reading.{Reading}
 use Rattle.reading.specs.declared.NumberedRule.{NumberedRule}
 use Rattle.reading.proofs.Accepted.{reading-accepts}
 use Rattle.reading.proofs.Listings.{size-positive}
 use Rattle.synthesis.specs.NodeSet.{emptySet, intersection}
-use Rattle.synthesis.specs.Answering.{answerOf, hopeless}
+use Rattle.synthesis.specs.Answering.{answerOf, unsatisfiable}
 use Rattle.synthesis.specs.Search.{found}
 use Rattle.synthesis.specs.Building.{equationsOf, synthesisOf}
 use Rattle.synthesis.specs.Arrays.{IsNumbered, SomeNumbered, IsGraph, answerBy, Holds}
@@ -28,7 +28,7 @@ use Rattle.synthesis.specs.declared.Counted.the-variants as counted
 use Rattle.synthesis.specs.declared.Plan.{Plan}
 use Rattle.synthesis.specs.declared.graph.Graph.{Graph}
 use Rattle.synthesis.proofs.Finding.{found-cong}
-use Rattle.synthesis.proofs.Synthesized.{accepts-made, refuses-eight, refuses-nine}
+use Rattle.synthesis.proofs.Synthesized.{accepts-with-equations, refuses-eight, refuses-nine}
 use Rattle.synthesis.proofs.HoldsLaws.{held-few, held-many}
 use Rattle.synthesis.proofs.GraphLaws.{graph-answers}
 
@@ -89,27 +89,27 @@ module _ {s : List ℕ} {n : NumberedRule} (d : Read s n) (g : Graph) (is : (r :
 
   -- ---- refusal 8
 
-  tested : hopeless (d .rule) ≡ not (eqb (intersection (g .first) (g .falsities)) emptySet)
-  unfolding hopeless
+  tested : unsatisfiable (d .rule) ≡ not (eqb (intersection (g .first) (g .falsities)) emptySet)
+  unfolding unsatisfiable
   tested = rw (graph .first-is, graph .falsities-are)
 
-  pub hopeless-plan : (bitAnd (g .first) (g .falsities) ≡ 0 → ⊥) → {p : Plan} → p .answer ≡ counted.Refused 8 0
+  pub unsatisfiable-plan : (bitAnd (g .first) (g .falsities) ≡ 0 → ⊥) → {p : Plan} → p .answer ≡ counted.Refused 8 0
       → IsPlan (synthesisOf 128 s) p
-  hopeless-plan h e =
+  unsatisfiable-plan h e =
       refused-plan 128 s 8 0 (refuses-eight 128 s (d .rule) (d .is) (rw (tested, ne-eqb (intersection (g .first) (g .falsities)) emptySet h))) e
 
-  hopeful : bitAnd (g .first) (g .falsities) ≡ 0 → hopeless (d .rule) ≡ false
+  hopeful : bitAnd (g .first) (g .falsities) ≡ 0 → unsatisfiable (d .rule) ≡ false
   hopeful h = rw (tested, eq-eqb (intersection (g .first) (g .falsities)) emptySet h)
 
   -- ---- refusal 9
 
   module _ (calm : bitAnd (g .first) (g .falsities) ≡ 0) (list : List ℕ) (count : ℕ)
-      (holds : Holds 128 list count (found 256 (answerBy (g .after) (g .waiting) (g .falsities)) 128 (g .first))) where
+      (holds : Holds 128 list count (found 256 (answerBy (g .after) (g .enabled) (g .falsities)) 128 (g .first))) where
     -- what the search over the graph finds is what the definition finds
-    equations-found : found 256 (answerBy (g .after) (g .waiting) (g .falsities)) 128 (g .first) ≡ equationsOf 128 (d .rule)
+    equations-found : found 256 (answerBy (g .after) (g .enabled) (g .falsities)) 128 (g .first) ≡ equationsOf 128 (d .rule)
     unfolding equationsOf
     equations-found =
-        found-cong 256 (answerBy (g .after) (g .waiting) (g .falsities)) (answerOf (d .rule)) (graph-answers g graph) 128 (g .first)
+        found-cong 256 (answerBy (g .after) (g .enabled) (g .falsities)) (answerOf (d .rule)) (graph-answers g graph) 128 (g .first)
         ∙ ap (found 256 (answerOf (d .rule)) 128) (graph .first-is)
 
     held : Holds 128 list count (equationsOf 128 (d .rule))
@@ -127,7 +127,7 @@ module _ {s : List ℕ} {n : NumberedRule} (d : Read s n) (g : Graph) (is : (r :
     counted-plan h k =
         let es : take count list ≡ equationsOf 128 (d .rule) = held-few 128 list count (equationsOf 128 (d .rule)) held h in
         let n : count ≡ length (equationsOf 128 (d .rule)) = sym (length-take-le count list (omega (arith, h, k))) ∙ ap length es in
-        rw (accepts-made 128 s (d .rule) (d .is) (hopeful calm) (omega (arith, n, h)))
+        rw (accepts-with-equations 128 s (d .rule) (d .is) (hopeful calm) (omega (arith, n, h)))
         (record {
           answer-is = ap counted.Equations n;
           fills = record { graph-is = graph; found-is = rw (← n) es; few = omega (arith, n, h); found-length = k };

@@ -4,9 +4,9 @@ use mathlib.Core.Path.{_≡_, refl, ap}
 use mathlib.Core.Logic.{_↔_}
 use mathlib.Core.List.{List, [], _∷_}
 use Rattle.reading.specs.Rule.{Rule, All}
-use Rattle.synthesis.specs.Monitor.{Answer, dropped, next, kept, verdicts, ended, Loses, now, later, Monitors}
+use Rattle.synthesis.specs.Monitor.{Answer, dropped, next, kept, verdicts, ended, Suppresses, now, later, Monitors}
 use Rattle.synthesis.proofs.Runs.{run-induction}
-use Rattle.synthesis.proofs.MonitorLaws.{loses-nothing, loses-rest}
+use Rattle.synthesis.proofs.MonitorLaws.{suppresses-nothing, suppresses-rest}
 
 -- Of one monitor, the equations e with `Ok e` are renamed by f to those of another, and answer each code alike. Several may get one name.
 pub record Renames {E F : Type 0} (codes : ℕ) (Ok : E → Type 0) (answer : E → ℕ → Answer E) (answer′ : F → ℕ → Answer F) (f : E → F)
@@ -27,12 +27,12 @@ module _ {E F : Type 0} (codes : ℕ) (Ok : E → Type 0) (answer : E → ℕ �
       (λ e c w q h ok all. dropping e c w q (renames .drops e c ok (all .0) q) (h ok (all .1)))
       (λ e e′ c w q h ok all. keeping e e′ c w q (renames .follows e e′ c ok (all .0) q) (h (renames .stays e e′ c ok (all .0) q) (all .1)))
 
-  pub renamed-loses : (e : E) (w : List ℕ) → Ok e → All (λ c. c < codes) w → Loses answer e w ↔ Loses answer′ (f e) w
-  renamed-loses =
-      renamed-induction (λ e w. Loses answer e w ↔ Loses answer′ (f e) w)
-      (λ e. (λ l. absurd (loses-nothing answer l), λ l. absurd (loses-nothing answer′ l)))
+  pub renamed-suppresses : (e : E) (w : List ℕ) → Ok e → All (λ c. c < codes) w → Suppresses answer e w ↔ Suppresses answer′ (f e) w
+  renamed-suppresses =
+      renamed-induction (λ e w. Suppresses answer e w ↔ Suppresses answer′ (f e) w)
+      (λ e. (λ l. absurd (suppresses-nothing answer l), λ l. absurd (suppresses-nothing answer′ l)))
       (λ e c w q q′ h. (λ l. now q′, λ l. now q))
-      (λ e e′ c w q q′ h. (λ l. later q′ (h .0 (loses-rest answer q l)), λ l. later q (h .1 (loses-rest answer′ q′ l))))
+      (λ e e′ c w q q′ h. (λ l. later q′ (h .0 (suppresses-rest answer q l)), λ l. later q (h .1 (suppresses-rest answer′ q′ l))))
 
   pub record Alike (e : E) (w : List ℕ) : Type 0 where
     pub keeps : kept answer′ (f e) w ≡ kept answer e w
@@ -58,5 +58,5 @@ pub renamed-monitors : {E F : Type 0} (r : Rule) (Ok : E → Type 0) (answer : E
     → Renames 256 Ok answer answer′ f → (first : E) → Ok first → Monitors r answer first → Monitors r answer′ (f first)
 renamed-monitors r Ok answer answer′ f renames first ok monitors w bytes =
     let rule = monitors w bytes in
-    let name = renamed-loses 256 Ok answer answer′ f renames first w ok bytes in
+    let name = renamed-suppresses 256 Ok answer answer′ f renames first w ok bytes in
     (λ h. name .0 (rule .0 h), λ l. rule .1 (name .1 l))

@@ -10,7 +10,7 @@ use lib.Seq.{take-at, drop-at, getD-at, getD-take, getD-drop}
 use borrow.Author.Tests.{le-leb, lt-leb}
 use Rattle.reading.proofs.ListLaws.{getD-inside}
 use Rattle.synthesis.specs.Monitor.{Answer, rowOf}
-use Rattle.synthesis.specs.Table.{entryFor, entries, rows, filled}
+use Rattle.synthesis.specs.Table.{entryOf, entriesOf, rows, filled}
 use Rattle.synthesis.specs.Promises.{HandsBackRows}
 
 -- ---- any table
@@ -39,33 +39,33 @@ row-at table k c d room b =
 pub hands-back-rows : HandsBackRows
 hands-back-rows table k = record {
   whole = λ room. rw (row-is 256 table k room) (length-take 256 (drop (256 * k) table) ∙ omega (arith, length-drop (256 * k) table));
-  entries = λ room c b. row-at table k c 0 room b;
+  entriesOf = λ room c b. row-at table k c 0 room b;
   none = row-none 256 table k;
 }
 
 module _ (mark : ℕ) (answer : ℕ → ℕ → Answer ℕ) (l : List ℕ) where
   -- ---- entries
 
-  pub entries-length : (e n : ℕ) → length (entries mark answer l e n) ≡ n
-  unfolding entries
+  pub entries-length : (e n : ℕ) → length (entriesOf mark answer l e n) ≡ n
+  unfolding entriesOf
   entries-length e zero = refl
   entries-length e (suc n) =
-      length-append (entries mark answer l e n) (entryFor mark l (answer e n) ∷ []) ∙ omega (arith, entries-length e n)
+      length-append (entriesOf mark answer l e n) (entryOf mark l (answer e n) ∷ []) ∙ omega (arith, entries-length e n)
 
-  pub entries-at : (e n c d : ℕ) → c < n → getD (entries mark answer l e n) c d ≡ entryFor mark l (answer e c)
-  unfolding entries
+  pub entries-at : (e n c d : ℕ) → c < n → getD (entriesOf mark answer l e n) c d ≡ entryOf mark l (answer e c)
+  unfolding entriesOf
   entries-at e zero c d h = absurd (omega arith)
   entries-at e (suc n) c d h = on (decLt c n) (entries-at e n c d)
     where
       last : List ℕ
-      last = entryFor mark l (answer e n) ∷ []
+      last = entryOf mark l (answer e n) ∷ []
 
-      on : Dec (c < n) → (c < n → getD (entries mark answer l e n) c d ≡ entryFor mark l (answer e c))
-          → getD (entries mark answer l e n ++ last) c d ≡ entryFor mark l (answer e c)
-      on (yes k) ih = List·getD-append (entries mark answer l e n) last d c (rw (entries-length e n) k) ∙ ih k
+      on : Dec (c < n) → (c < n → getD (entriesOf mark answer l e n) c d ≡ entryOf mark l (answer e c))
+          → getD (entriesOf mark answer l e n ++ last) c d ≡ entryOf mark l (answer e c)
+      on (yes k) ih = List·getD-append (entriesOf mark answer l e n) last d c (rw (entries-length e n) k) ∙ ih k
       on (no k) ih =
           let z : c ≡ n = omega arith in
-          rw z (getD-at (entries mark answer l e n) (entryFor mark l (answer e n)) [] d n (entries-length e n))
+          rw z (getD-at (entriesOf mark answer l e n) (entryOf mark l (answer e n)) [] d n (entries-length e n))
 
   -- ---- rows
 
@@ -74,23 +74,23 @@ module _ (mark : ℕ) (answer : ℕ → ℕ → Answer ℕ) (l : List ℕ) where
     unfolding rows
     rows-length zero = omega arith
     rows-length (suc n) =
-        length-append (rows mark answer l codes n) (entries mark answer l (getD l n 0) codes)
+        length-append (rows mark answer l codes n) (entriesOf mark answer l (getD l n 0) codes)
         ∙ omega (arith, rows-length n, entries-length (getD l n 0) codes)
 
     -- row k of a table is that of equation k
     abbrev HasRow : ℕ → List ℕ → Type 0
-    HasRow k table = take codes (drop (codes * k) table) ≡ entries mark answer l (getD l k 0) codes
+    HasRow k table = take codes (drop (codes * k) table) ≡ entriesOf mark answer l (getD l k 0) codes
 
     rows-row : (n k : ℕ) (rest : List ℕ) → k < n → HasRow k (rows mark answer l codes n ++ rest)
     unfolding rows
     rows-row zero k rest h = absurd (omega arith)
-    rows-row (suc n) k rest h = rw append-assoc (on (decLt k n) (rows-row n k (entries mark answer l (getD l n 0) codes ++ rest)))
+    rows-row (suc n) k rest h = rw append-assoc (on (decLt k n) (rows-row n k (entriesOf mark answer l (getD l n 0) codes ++ rest)))
       where
         before : List ℕ
         before = rows mark answer l codes n
 
         last : List ℕ
-        last = entries mark answer l (getD l n 0) codes
+        last = entriesOf mark answer l (getD l n 0) codes
 
         on : Dec (k < n) → (k < n → HasRow k (before ++ (last ++ rest))) → HasRow k (before ++ (last ++ rest))
         on (yes a) ih = ih a
@@ -108,7 +108,7 @@ module _ (mark : ℕ) (answer : ℕ → ℕ → Answer ℕ) (l : List ℕ) where
           ∙ omega (arith, rows-length (length l), length-drop (codes * length l) table)
 
       pub filled-row : (k : ℕ) → k < length l
-          → rowOf codes (filled mark answer l codes table) k ≡ entries mark answer l (getD l k 0) codes
+          → rowOf codes (filled mark answer l codes table) k ≡ entriesOf mark answer l (getD l k 0) codes
       unfolding filled
       filled-row k h =
           row-is codes (filled mark answer l codes table) k (omega (arith, row-inside codes k (length l) h, filled-length))
@@ -116,7 +116,7 @@ module _ (mark : ℕ) (answer : ℕ → ℕ → Answer ℕ) (l : List ℕ) where
 
       -- an entry of a row, whatever stands for a missing one
       pub filled-entry : (k c d : ℕ) → k < length l → c < codes
-          → getD (rowOf codes (filled mark answer l codes table) k) c d ≡ entryFor mark l (answer (getD l k 0) c)
+          → getD (rowOf codes (filled mark answer l codes table) k) c d ≡ entryOf mark l (answer (getD l k 0) c)
       filled-entry k c d h b = rw (filled-row k h) (entries-at (getD l k 0) codes c d b)
 
     -- what stands after the last row stays
@@ -130,8 +130,8 @@ module _ (mark : ℕ) (answer : ℕ → ℕ → Answer ℕ) (l : List ℕ) where
 
 module _ (mark codes : ℕ) (answer answer′ : ℕ → ℕ → Answer ℕ) (agree : (e c : ℕ) → c < codes → answer e c ≡ answer′ e c)
     (l : List ℕ) where
-  entries-cong : (e n : ℕ) → n ≤ codes → entries mark answer l e n ≡ entries mark answer′ l e n
-  unfolding entries
+  entries-cong : (e n : ℕ) → n ≤ codes → entriesOf mark answer l e n ≡ entriesOf mark answer′ l e n
+  unfolding entriesOf
   entries-cong e zero h = refl
   entries-cong e (suc n) h = rw (agree e n h, entries-cong e n (omega arith))
 

@@ -8,21 +8,21 @@ use lib.Dec.{eqb}
 use lib.ListN.{length}
 use Rattle.reading.specs.Rule.{WellFormed, Rule}
 use Rattle.synthesis.specs.Violation.{ViolatesRule}
-use Rattle.synthesis.specs.Monitor.{Loses, now, later, Monitors}
+use Rattle.synthesis.specs.Monitor.{Suppresses, now, later, Monitors}
 use Rattle.synthesis.specs.NodeSet.{Has, emptySet, intersection}
 use Rattle.synthesis.specs.Opening.{Opens, OpensToFalsity, ViolatesEquation}
-use Rattle.synthesis.specs.Answering.{falsities, firstOf, answerOf, hopeless}
+use Rattle.synthesis.specs.Answering.{falsities, firstOf, answerOf, unsatisfiable}
 use Rattle.synthesis.proofs.NodeWise.{no-falsity, some-falsity}
 use Rattle.synthesis.proofs.AnsweringLaws.{answers-as-defined}
-use Rattle.synthesis.proofs.EquationLaws.{follows-violation}
+use Rattle.synthesis.proofs.EquationLaws.{tracks-violation}
 use Rattle.synthesis.proofs.Runs.{run-induction}
 
 module _ (r : Rule) (wf : WellFormed (length (r .patterns)) [] (r .formula)) where
   -- ---- hopeless rules
 
-  hopeless-opens : (hopeless r ≡ true) ↔ OpensToFalsity (r .formula) 0
-  unfolding hopeless
-  hopeless-opens = on (eqb (intersection (firstOf r) (falsities 0 (r .formula))) emptySet) refl
+  unsatisfiable-opens : (unsatisfiable r ≡ true) ↔ OpensToFalsity (r .formula) 0
+  unfolding unsatisfiable
+  unsatisfiable-opens = on (eqb (intersection (firstOf r) (falsities 0 (r .formula))) emptySet) refl
     where
       first : (m : ℕ) → Has (firstOf r) m ↔ Opens (r .formula) 0 m
       first = answers-as-defined r wf .first
@@ -32,29 +32,29 @@ module _ (r : Rule) (wf : WellFormed (length (r .patterns)) [] (r .formula)) whe
       on false e = let (m, p, f) = some-falsity (r .formula) (firstOf r) e in (λ h. (m, first m .0 p, f), λ o. refl)
 
   start : (w : List ℕ) → ViolatesRule r w ↔ (OpensToFalsity (r .formula) 0 ⊎ ViolatesEquation r (firstOf r) w)
-  start = follows-violation r wf .start
+  start = tracks-violation r wf .start
 
-  pub hopeless-iff : (hopeless r ≡ true) ↔ ViolatesRule r []
-  hopeless-iff = (
-    λ h. start [] .1 (inl (hopeless-opens .0 h)),
-    λ v. ⊎-elim (hopeless-opens .1) (λ e. absurd (follows-violation r wf .end (firstOf r) e)) (start [] .0 v),
+  pub unsatisfiable-iff : (unsatisfiable r ≡ true) ↔ ViolatesRule r []
+  unsatisfiable-iff = (
+    λ h. start [] .1 (inl (unsatisfiable-opens .0 h)),
+    λ v. ⊎-elim (unsatisfiable-opens .1) (λ e. absurd (tracks-violation r wf .end (firstOf r) e)) (start [] .0 v),
   )
 
   -- ---- other rules
 
-  violates-loses : (e : ℕ) (w : List ℕ) → ViolatesEquation r e w → Loses (answerOf r) e w
-  violates-loses =
-      run-induction (answerOf r) (λ e w. ViolatesEquation r e w → Loses (answerOf r) e w)
-      (λ e v. absurd (follows-violation r wf .end e v))
+  violates-suppresses : (e : ℕ) (w : List ℕ) → ViolatesEquation r e w → Suppresses (answerOf r) e w
+  violates-suppresses =
+      run-induction (answerOf r) (λ e w. ViolatesEquation r e w → Suppresses (answerOf r) e w)
+      (λ e v. absurd (tracks-violation r wf .end e v))
       (λ e c w q h v. now q)
-      (λ e e′ c w q h v. later q (h (rw q at (follows-violation r wf .step e c w .0 v))))
+      (λ e e′ c w q h v. later q (h (rw q at (tracks-violation r wf .step e c w .0 v))))
 
-  loses-violates : {e : ℕ} {w : List ℕ} → Loses (answerOf r) e w → ViolatesEquation r e w
-  loses-violates (now {e} {c} {w} q) = follows-violation r wf .step e c w .1 (rw q tt)
-  loses-violates (later {e} {c = c} {w} q l) = follows-violation r wf .step e c w .1 (rw q (loses-violates l))
+  suppresses-violates : {e : ℕ} {w : List ℕ} → Suppresses (answerOf r) e w → ViolatesEquation r e w
+  suppresses-violates (now {e} {c} {w} q) = tracks-violation r wf .step e c w .1 (rw q tt)
+  suppresses-violates (later {e} {c = c} {w} q l) = tracks-violation r wf .step e c w .1 (rw q (suppresses-violates l))
 
-  pub rule-monitors : hopeless r ≡ false → Monitors r (answerOf r) (firstOf r)
+  pub rule-monitors : unsatisfiable r ≡ false → Monitors r (answerOf r) (firstOf r)
   rule-monitors h w bytes = (
-    λ v. ⊎-elim (λ o. absurd (true≢false (sym (hopeless-opens .1 o) ∙ h))) (violates-loses (firstOf r) w) (start w .0 v),
-    λ l. start w .1 (inr (loses-violates l)),
+    λ v. ⊎-elim (λ o. absurd (true≢false (sym (unsatisfiable-opens .1 o) ∙ h))) (violates-suppresses (firstOf r) w) (start w .0 v),
+    λ l. start w .1 (inr (suppresses-violates l)),
   )

@@ -16,19 +16,19 @@ use Rattle.synthesis.proofs.NodeSetLaws.{has-none, shiftedOne, shl-one}
 use Rattle.synthesis.proofs.MemberLaws.{single-iff, union-iff}
 
 -- where the test holds, the code puts in a shifted one
-pub with-is : (e k : ℕ) (b : Bool) → k < 64 → b ≡ true → bitOr e (shiftedOne k) ≡ withNode e k b
-with-is e k b h t = rw (t, shl-one k h)
+pub insert-is : (e k : ℕ) (b : Bool) → k < 64 → b ≡ true → bitOr e (shiftedOne k) ≡ withNode e k b
+insert-is e k b h t = rw (t, shl-one k h)
 
-pub with-has : (e k : ℕ) (b : Bool) (j : ℕ) → Has (withNode e k b) j ↔ (Has e j ⊎ ((k ≡ j) × (b ≡ true)))
-with-has e k true j =
+pub insert-has : (e k : ℕ) (b : Bool) (j : ℕ) → Has (withNode e k b) j ↔ (Has e j ⊎ ((k ≡ j) × (b ≡ true)))
+insert-has e k true j =
     let alone = single-iff k j in
     union-iff e (singleton k) j (λ h. h, λ h. h) (λ h. (alone .0 h, refl), λ h. alone .1 (h .0))
-with-has e k false j = (λ h. inl h, ⊎-elim (λ h. h) (λ h. absurd (false≢true (h .1))))
+insert-has e k false j = (λ h. inl h, ⊎-elim (λ h. h) (λ h. absurd (false≢true (h .1))))
 
 -- One more number is tested: what holds of the members below k holds of those below k + 1.
-pub with-next : (P : ℕ → Type 0) (e k : ℕ) (b : Bool) → ((b ≡ true) ↔ P k) → ((j : ℕ) → Has e j ↔ ((j < k) × P j))
+pub insert-next : (P : ℕ → Type 0) (e k : ℕ) (b : Bool) → ((b ≡ true) ↔ P k) → ((j : ℕ) → Has e j ↔ ((j < k) × P j))
     → (j : ℕ) → Has (withNode e k b) j ↔ ((j < k + 1) × P j)
-with-next P e k b test h j = (λ x. there (with-has e k b j .0 x), λ x. with-has e k b j .1 (back j (x .0) (x .1)))
+insert-next P e k b test h j = (λ x. there (insert-has e k b j .0 x), λ x. insert-has e k b j .1 (back j (x .0) (x .1)))
   where
     there : Has e j ⊎ ((k ≡ j) × (b ≡ true)) → (j < k + 1) × P j
     there (inl x) = let r = h j .0 x in (omega (arith, r .0), r .1)
@@ -47,6 +47,6 @@ pub kind-next : (kind : ℕ) (kinds : List ℕ) (k e e′ : ℕ) → e′ ≡ wi
     → HasKind kind kinds (k + 1) e′
 kind-next kind kinds k e e′ q h = record {
   is = rw q
-      (with-next (λ j. getD kinds j 0 ≡ kind) e k (eqb (getD kinds k 0) kind)
+      (insert-next (λ j. getD kinds j 0 ≡ kind) e k (eqb (getD kinds k 0) kind)
       (λ t. eqb-true (getD kinds k 0) kind t, λ t. eq-eqb (getD kinds k 0) kind t) (h .is));
 }

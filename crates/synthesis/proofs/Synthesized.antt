@@ -10,23 +10,23 @@ use borrow.Author.Tests.{ltb-true, ltb-false, lt-ltb, le-ltb}
 use Rattle.reading.specs.Rule.{Rule}
 use Rattle.reading.specs.File.{Outcome, accepted, refused, refuse, ruleOf}
 use Rattle.reading.proofs.Outcomes.{accepted-is, passes, accepted-by}
-use Rattle.synthesis.specs.Answering.{hopeless}
-use Rattle.synthesis.specs.Building.{equationsOf, Synthesis, synthesized, synthesisOf, buildingOf, countedOf}
+use Rattle.synthesis.specs.Answering.{unsatisfiable}
+use Rattle.synthesis.specs.Building.{equationsOf, Synthesis, synthesisOfRule, synthesisOf, buildingOf, countedOf}
 use Rattle.synthesis.specs.declared.Counted.the-variants.{Equations, Refused}
 
 -- the synthesis of a rule that is accepted
-abbrev pub made : (limit : ℕ) → Rule → Synthesis
-made limit r = record { rule = r; equations = equationsOf limit r }
+abbrev pub withEquations : (limit : ℕ) → Rule → Synthesis
+withEquations limit r = record { rule = r; equations = equationsOf limit r }
 
 -- What holds of the synthesis of each rule that no check refuses, holds of what is accepted.
 pub synthesis-accepts : (limit : ℕ) (s : List ℕ) (P : Synthesis → Type 0)
-    → ((r : Rule) → ruleOf s ≡ accepted r → hopeless r ≡ false → length (equationsOf limit r) ≤ limit → P (made limit r))
+    → ((r : Rule) → ruleOf s ≡ accepted r → unsatisfiable r ≡ false → length (equationsOf limit r) ≤ limit → P (withEquations limit r))
     → (y : Synthesis) → synthesisOf limit s ≡ accepted y → P y
 unfolding synthesisOf
 synthesis-accepts limit s P holds y e =
-    let read = accepted-by (ruleOf s) (synthesized limit) e in
+    let read = accepted-by (ruleOf s) (synthesisOfRule limit) e in
     let r = read .0 in
-    let eight = passes (hopeless r) 8 0 _ (read .2) in
+    let eight = passes (unsatisfiable r) 8 0 _ (read .2) in
     let nine = passes (ltb limit (length (equationsOf limit r))) 9 0 _ (eight .1) in
     subst P (accepted-is (nine .1)) (holds r (read .1) (eight .0) (ltb-false limit (length (equationsOf limit r)) (nine .0)))
 
@@ -62,25 +62,25 @@ second-refuses y false true e = (refl, refl)
 second-refuses y false false e = let z : _≡_ {A = ℕ} 0 1 = cc in absurd (omega arith)
 
 module _ (limit : ℕ) (s : List ℕ) (r : Rule) (read : ruleOf s ≡ accepted r) where
-  pub synthesis-of : synthesisOf limit s ≡ synthesized limit r
+  pub synthesis-of : synthesisOf limit s ≡ synthesisOfRule limit r
   unfolding synthesisOf
   synthesis-of = rw read
 
-  pub accepts-made : hopeless r ≡ false → length (equationsOf limit r) ≤ limit → synthesisOf limit s ≡ accepted (made limit r)
-  accepts-made h k = rw (synthesis-of, h, le-ltb limit (length (equationsOf limit r)) k)
+  pub accepts-with-equations : unsatisfiable r ≡ false → length (equationsOf limit r) ≤ limit → synthesisOf limit s ≡ accepted (withEquations limit r)
+  accepts-with-equations h k = rw (synthesis-of, h, le-ltb limit (length (equationsOf limit r)) k)
 
-  pub refused-eight : synthesisOf limit s ≡ refused 8 0 → hopeless r ≡ true
-  refused-eight e = first-refuses (made limit r) (hopeless r) (ltb limit (length (equationsOf limit r))) (rw synthesis-of at e)
+  pub refused-eight : synthesisOf limit s ≡ refused 8 0 → unsatisfiable r ≡ true
+  refused-eight e = first-refuses (withEquations limit r) (unsatisfiable r) (ltb limit (length (equationsOf limit r))) (rw synthesis-of at e)
 
-  pub refuses-eight : hopeless r ≡ true → synthesisOf limit s ≡ refused 8 0
+  pub refuses-eight : unsatisfiable r ≡ true → synthesisOf limit s ≡ refused 8 0
   refuses-eight h = rw (synthesis-of, h)
 
   pub refused-nine : synthesisOf limit s ≡ refused 9 0 → limit < length (equationsOf limit r)
   refused-nine e =
-      let both = second-refuses (made limit r) (hopeless r) (ltb limit (length (equationsOf limit r))) (rw synthesis-of at e) in
+      let both = second-refuses (withEquations limit r) (unsatisfiable r) (ltb limit (length (equationsOf limit r))) (rw synthesis-of at e) in
       ltb-true limit (length (equationsOf limit r)) (both .1)
 
-  pub refuses-nine : hopeless r ≡ false → limit < length (equationsOf limit r) → synthesisOf limit s ≡ refused 9 0
+  pub refuses-nine : unsatisfiable r ≡ false → limit < length (equationsOf limit r) → synthesisOf limit s ≡ refused 9 0
   refuses-nine h k = rw (synthesis-of, h, lt-ltb limit (length (equationsOf limit r)) k)
 
 -- ---- what the answer says of the outcome
@@ -94,6 +94,6 @@ counted-refuses (accepted y) number place e = let z : _≡_ {A = ℕ} 0 1 = cc i
 counted-refuses (refused number′ place′) number place e = cc
 
 -- what is accepted is made of the rule that the file says
-pub accepts-as : (limit : ℕ) (s : List ℕ) (r : Rule) → ruleOf s ≡ accepted r → (y : Synthesis) → synthesisOf limit s ≡ accepted y → y ≡ made limit r
+pub accepts-as : (limit : ℕ) (s : List ℕ) (r : Rule) → ruleOf s ≡ accepted r → (y : Synthesis) → synthesisOf limit s ≡ accepted y → y ≡ withEquations limit r
 accepts-as limit s r read =
-    synthesis-accepts limit s (λ y. y ≡ made limit r) (λ r′ read′ h few. ap (made limit) (accepted-is (sym read′ ∙ read)))
+    synthesis-accepts limit s (λ y. y ≡ withEquations limit r) (λ r′ read′ h few. ap (withEquations limit) (accepted-is (sym read′ ∙ read)))

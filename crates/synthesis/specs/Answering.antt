@@ -50,13 +50,13 @@ unfoldable pub firstOf : Rule → ℕ
 firstOf r = opening 0 [] (r .formula)
 
 -- A set of reached nodes as an answer: dropped where an ff node is among them, else it is the next equation.
-abbrev pub judged : (ffs set : ℕ) → Answer ℕ
-judged ffs set = cond (eqb (intersection set ffs) emptySet) (next set) dropped
+abbrev pub answerFrom : (ffs set : ℕ) → Answer ℕ
+answerFrom ffs set = cond (eqb (intersection set ffs) emptySet) (next set) dropped
 
 -- the answer of the equation e to the code c
 unfoldable pub answerOf : Rule → (e c : ℕ) → Answer ℕ
-answerOf r e c = judged (falsities 0 (r .formula)) (reached (coveredBy (r .patterns)) e c 0 [] (r .formula))
+answerOf r e c = answerFrom (falsities 0 (r .formula)) (reached (coveredBy (r .patterns)) e c 0 [] (r .formula))
 
 -- opening node 0 gives ff
-unfoldable pub hopeless : Rule → Bool
-hopeless r = not (eqb (intersection (firstOf r) (falsities 0 (r .formula))) emptySet)
+unfoldable pub unsatisfiable : Rule → Bool
+unsatisfiable r = not (eqb (intersection (firstOf r) (falsities 0 (r .formula))) emptySet)

@@ -14,7 +14,7 @@ use Rattle.reading.specs.declared.NumberedRule.{NumberedRule}
 use Rattle.synthesis.specs.Violation.{coveredBy}
 use Rattle.synthesis.specs.Monitor.{Answer}
 use Rattle.synthesis.specs.NodeSet.{Has, has, emptySet, singleton, union, intersection}
-use Rattle.synthesis.specs.Answering.{opening, opensAround, falsities, judged, firstOf}
+use Rattle.synthesis.specs.Answering.{opening, opensAround, falsities, answerFrom, firstOf}
 use Rattle.synthesis.specs.declared.graph.Graph.{Graph}
 
 -- ---- the nodes of a rule
@@ -72,7 +72,7 @@ pub record HasKind (kind : ℕ) (kinds : List ℕ) (n e : ℕ) : Type 0 where
 -- ---- the answers of equations
 
 -- Node k was put into the set of each code that the pattern covers.
-pub record Marked (p : Pattern) (k : ℕ) (before after : List ℕ) : Type 0 where
+pub record CodesEnabled (p : Pattern) (k : ℕ) (before after : List ℕ) : Type 0 where
   pub is : (c : ℕ) → c < 256 → getD after c 0 ≡ withNode (getD before c 0) k (covers p c)
 
 -- a numbered rule is that of r
@@ -88,26 +88,26 @@ pub record SomeNumbered (n : NumberedRule) (k : ℕ) : Type 0 where
   pub below : k < size (rule .formula)
 
 -- Node n waits for the code c: it is a necessity whose pattern covers c.
-abbrev pub WaitsFor : Rule → (c n : ℕ) → Type 0
-WaitsFor r c n =
+abbrev pub IsEnabled : Rule → (c n : ℕ) → Type 0
+IsEnabled r c n =
     (p : ℕ) × (ms : List EnclosingMax) × (f : Formula) × Node (r .formula) n ms (necessity p f) × (coveredBy (r .patterns) p c ≡ true)
 
 -- The array has, for each code, the nodes below k that wait for it.
-pub record Waiting (r : Rule) (k : ℕ) (waiting : List ℕ) : Type 0 where
-  pub is : (c n : ℕ) → c < 256 → Has (getD waiting c 0) n ↔ ((n < k) × WaitsFor r c n)
+pub record EnabledBelow (r : Rule) (k : ℕ) (enabled : List ℕ) : Type 0 where
+  pub is : (c n : ℕ) → c < 256 → Has (getD enabled c 0) n ↔ ((n < k) × IsEnabled r c n)
 
 -- the same for all nodes
-pub record WaitingAll (r : Rule) (waiting : List ℕ) : Type 0 where
-  pub is : (c n : ℕ) → c < 256 → Has (getD waiting c 0) n ↔ WaitsFor r c n
+pub record Enabled (r : Rule) (enabled : List ℕ) : Type 0 where
+  pub is : (c n : ℕ) → c < 256 → Has (getD enabled c 0) n ↔ IsEnabled r c n
 
 -- what a `Graph` has of a rule
 pub record IsGraph (r : Rule) (g : Graph) : Type 0 where
   pub first-is : g .first ≡ firstOf r
   pub falsities-are : g .falsities ≡ falsities 0 (r .formula)
   pub after-is : AfterAll r (g .after)
-  pub waiting-is : WaitingAll r (g .waiting)
+  pub enabled-is : Enabled r (g .enabled)
   pub after-length : length (g .after) ≡ 64
-  pub waiting-length : length (g .waiting) ≡ 256
+  pub enabled-length : length (g .enabled) ≡ 256
 
 -- the union of those sets of a list whose indices are in `live`
 abbrev pub gathered : List ℕ → (live : ℕ) → ℕ
@@ -115,8 +115,8 @@ gathered [] live = emptySet
 gathered (x ∷ xs) live = union (cond (has live 0) x emptySet) (gathered xs (live / 2))
 
 -- The answer of the equation e to the code c from the arrays of a graph: `after` for each node, `waiting` for each code.
-unfoldable pub answerBy : (after waiting : List ℕ) (falsities e c : ℕ) → Answer ℕ
-answerBy after waiting falsities e c = judged falsities (gathered after (intersection e (getD waiting c 0)))
+unfoldable pub answerBy : (after enabled : List ℕ) (falsities e c : ℕ) → Answer ℕ
+answerBy after enabled falsities e c = answerFrom falsities (gathered after (intersection e (getD enabled c 0)))
 
 -- ---- the search
 

@@ -6,7 +6,7 @@ use lib.Dec.{ltb}
 use lib.ListN.{length}
 use Rattle.reading.specs.Rule.{Rule}
 use Rattle.reading.specs.File.{Outcome, accepted, refused, refuse, andThen, ruleOf}
-use Rattle.synthesis.specs.Answering.{firstOf, answerOf, hopeless}
+use Rattle.synthesis.specs.Answering.{firstOf, answerOf, unsatisfiable}
 use Rattle.synthesis.specs.Search.{found}
 use Rattle.synthesis.specs.Table.{filled}
 use Rattle.synthesis.specs.declared.Counted.{Counted}
@@ -22,15 +22,15 @@ pub record Synthesis : Type 0 where
   pub equations : List ℕ
 
 -- after reading: 8 where opening node 0 gives ff, 9 where the equations are over the limit
-abbrev pub synthesized : (limit : ℕ) → Rule → Outcome Synthesis
-synthesized limit r =
-    refuse (hopeless r) 8 0
+abbrev pub synthesisOfRule : (limit : ℕ) → Rule → Outcome Synthesis
+synthesisOfRule limit r =
+    refuse (unsatisfiable r) 8 0
     (refuse (ltb limit (length (equationsOf limit r))) 9 0
     (accepted (record { rule = r; equations = equationsOf limit r })))
 
 -- what is made of a rule file
 unfoldable pub synthesisOf : (limit : ℕ) → List ℕ → Outcome Synthesis
-synthesisOf limit s = andThen (ruleOf s) (synthesized limit)
+synthesisOf limit s = andThen (ruleOf s) (synthesisOfRule limit)
 
 -- the same with a table of so many bytes for the rows: 10 comes first
 unfoldable pub buildingOf : (limit : ℕ) → List ℕ → (size : ℕ) → Outcome Synthesis

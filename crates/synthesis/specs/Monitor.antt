@@ -38,9 +38,9 @@ module _ {E : Type 0} (answer : E → ℕ → Answer E) where
   ended e (c ∷ w) = cases (answer e c) (ended e w) (λ e′. ended e′ w)
 
   -- the run drops something
-  pub data Loses : E → List ℕ → Type 0 where
-    now : {e : E} {c : ℕ} {w : List ℕ} → answer e c ≡ dropped → Loses e (c ∷ w)
-    later : {e e′ : E} {c : ℕ} {w : List ℕ} → answer e c ≡ next e′ → Loses e′ w → Loses e (c ∷ w)
+  pub data Suppresses : E → List ℕ → Type 0 where
+    now : {e : E} {c : ℕ} {w : List ℕ} → answer e c ≡ dropped → Suppresses e (c ∷ w)
+    later : {e e′ : E} {c : ℕ} {w : List ℕ} → answer e c ≡ next e′ → Suppresses e′ w → Suppresses e (c ∷ w)
 
 -- ---- tables
 
@@ -53,15 +53,11 @@ abbrev pub meaning : (mark : ℕ) → ℕ → Answer ℕ
 meaning mark x = cond (eqb x mark) dropped (next x)
 
 -- What the table answers in equation k to the code c. A code that has no entry is dropped; the paper leaves that free.
-abbrev pub entry : (codes mark : ℕ) → List ℕ → (k c : ℕ) → Answer ℕ
-entry codes mark table k c = meaning mark (getD (rowOf codes table k) c mark)
-
--- the same with the paper's numbers
-abbrev pub tabled : List ℕ → (k c : ℕ) → Answer ℕ
-tabled = entry 256 255
+abbrev pub lookup : (codes mark : ℕ) → List ℕ → (k c : ℕ) → Answer ℕ
+lookup codes mark table k c = meaning mark (getD (rowOf codes table k) c mark)
 
 -- ---- monitors of a rule
 
 -- The run from the first equation drops something of a list of codes exactly when the list violates the rule.
 abbrev pub Monitors : {E : Type 0} → Rule → (answer : E → ℕ → Answer E) → (first : E) → Type 0
-Monitors r answer first = (w : List ℕ) → Bytes w → ViolatesRule r w ↔ Loses answer first w
+Monitors r answer first = (w : List ℕ) → Bytes w → ViolatesRule r w ↔ Suppresses answer first w

@@ -9,7 +9,7 @@ use Rattle.reading.specs.Rule.{Formula, necessity, WellFormed, Rule, Bytes}
 use Rattle.reading.specs.File.{accepted, refused, ruleOf}
 use Rattle.reading.specs.Nodes.{EnclosingMax, Node}
 use Rattle.synthesis.specs.Violation.{Violates, ViolatesRule}
-use Rattle.synthesis.specs.Monitor.{Answer, dropped, next, cases, kept, ended, Monitors, rowOf, entry}
+use Rattle.synthesis.specs.Monitor.{Answer, dropped, next, cases, kept, ended, Monitors, rowOf, lookup}
 use Rattle.synthesis.specs.NodeSet.{Has, emptySet}
 use Rattle.synthesis.specs.Opening.{Opens, OpensToFalsity, Answers, IsFirst, ViolatesEquation}
 use Rattle.synthesis.specs.Answering.{opening, opensAround, firstOf, answerOf}
@@ -47,13 +47,13 @@ abbrev pub ViolatesNext : Rule → Answer ℕ → List ℕ → Type 0
 ViolatesNext r dropped w = Unit
 ViolatesNext r (next e) w = ViolatesEquation r e w
 
-pub record Follows (r : Rule) : Type 0 where
+pub record Tracks (r : Rule) : Type 0 where
   pub step : (e c : ℕ) (w : List ℕ) → ViolatesEquation r e (c ∷ w) ↔ ViolatesNext r (answerOf r e c) w
   pub end : (e : ℕ) → ViolatesEquation r e [] → ⊥
   pub start : (w : List ℕ) → ViolatesRule r w ↔ (OpensToFalsity (r .formula) 0 ⊎ ViolatesEquation r (firstOf r) w)
 
-abbrev pub FollowsViolation : Type 0
-FollowsViolation = (r : Rule) → WellFormedFormula r → Follows r
+abbrev pub TracksViolation : Type 0
+TracksViolation = (r : Rule) → WellFormedFormula r → Tracks r
 
 -- ---- what is said of a file
 
@@ -85,7 +85,7 @@ abbrev pub TableMonitors : Type 0
 TableMonitors =
     (limit mark : ℕ) (s table : List ℕ) (r : Rule) (n : ℕ) → limit ≤ mark → Bytes s → ruleOf s ≡ accepted r
     → countedOf (buildingOf limit s (length table)) ≡ Equations n
-    → Monitors r (entry 256 mark (tableAfter mark (buildingOf limit s (length table)) table)) 0
+    → Monitors r (lookup 256 mark (tableAfter mark (buildingOf limit s (length table)) table)) 0
 
 -- A monitor drops a code exactly where the codes kept until then, with this one after them, violate the rule.
 abbrev pub DropsViolations : {E : Type 0} → Rule → (answer : E → ℕ → Answer E) → (first : E) → Type 0
@@ -101,11 +101,11 @@ abbrev pub TableDrops : Type 0
 TableDrops =
     (limit mark : ℕ) (s table : List ℕ) (r : Rule) (n : ℕ) → limit ≤ mark → Bytes s → ruleOf s ≡ accepted r
     → countedOf (buildingOf limit s (length table)) ≡ Equations n
-    → DropsViolations r (entry 256 mark (tableAfter mark (buildingOf limit s (length table)) table)) 0
+    → DropsViolations r (lookup 256 mark (tableAfter mark (buildingOf limit s (length table)) table)) 0
 
 -- 5. A rule is refused with 8 exactly when the empty list violates it,
-abbrev pub RefusesHopeless : Type 0
-RefusesHopeless =
+abbrev pub RefusesViolatedByEmpty : Type 0
+RefusesViolatedByEmpty =
     (limit : ℕ) (s : List ℕ) → Bytes s → (r : Rule) → ruleOf s ≡ accepted r
     → (countedOf (synthesisOf limit s) ≡ Refused 8 0) ↔ ViolatesRule r []
 
@@ -122,7 +122,7 @@ RefusesTooMany =
 
 -- 6. The equations that are counted: they are sets of necessities, no two are the same, kept codes lead from the first to each, and the
 -- codes lead to no other.
-pub record Reached (r : Rule) (es : List ℕ) : Type 0 where
+pub record Reachable (r : Rule) (es : List ℕ) : Type 0 where
   pub members : (i n : ℕ) → i < length es → Has (getD es i 0) n
       → (p : ℕ) × (ms : List EnclosingMax) × (f : Formula) × Node (r .formula) n ms (necessity p f)
   pub distinct : (i j : ℕ) → i < length es → j < length es → getD es i 0 ≡ getD es j 0 → i ≡ j
@@ -133,7 +133,7 @@ pub record Reached (r : Rule) (es : List ℕ) : Type 0 where
 abbrev pub ReachesEquations : Type 0
 ReachesEquations =
     (limit : ℕ) (s : List ℕ) → Bytes s → (r : Rule) (n : ℕ) → ruleOf s ≡ accepted r → countedOf (synthesisOf limit s) ≡ Equations n
-    → Reached r (equationsOf limit r)
+    → Reachable r (equationsOf limit r)
 
 -- Two numbers with the same members are the same number. So equations that differ as numbers differ as sets, and the count is one of sets.
 abbrev pub SameMembersSameSet : Type 0
@@ -165,7 +165,7 @@ NumberedAsFound = (limit : ℕ) (r : Rule) → AsFound 256 (answerOf r) (firstOf
 -- A list of equations as in 6 has no other order that is as found.
 abbrev pub OneNumbering : Type 0
 OneNumbering =
-    (r : Rule) (es es′ : List ℕ) → Reached r es → Reached r es′ → AsFound 256 (answerOf r) (firstOf r) es
+    (r : Rule) (es es′ : List ℕ) → Reachable r es → Reachable r es′ → AsFound 256 (answerOf r) (firstOf r) es
     → AsFound 256 (answerOf r) (firstOf r) es′ → es ≡ es′
 
 -- Each equation has a whole row in the table, whose entries are the mark or under the count.
@@ -187,7 +187,7 @@ abbrev pub EntriesAnswer : Type 0
 EntriesAnswer =
     (limit mark : ℕ) (s table : List ℕ) (r : Rule) (n : ℕ) → limit ≤ mark → Bytes s → ruleOf s ≡ accepted r
     → countedOf (buildingOf limit s (length table)) ≡ Equations n → (k c : ℕ) → k < n → c < 256
-    → EntryAnswers r (equationsOf limit r) k c (entry 256 mark (tableAfter mark (buildingOf limit s (length table)) table) k c)
+    → EntryAnswers r (equationsOf limit r) k c (lookup 256 mark (tableAfter mark (buildingOf limit s (length table)) table) k c)
 
 -- Behind the last row nothing changes, and the table keeps its length.
 pub record SameAfterRows (count : ℕ) (before after : List ℕ) : Type 0 where
@@ -203,7 +203,7 @@ TableRest =
 -- and else an empty part.
 pub record RowPart (table : List ℕ) (k : ℕ) : Type 0 where
   pub whole : 256 * k + 256 ≤ length table → length (rowOf 256 table k) ≡ 256
-  pub entries : 256 * k + 256 ≤ length table → (c : ℕ) → c < 256 → getD (rowOf 256 table k) c 0 ≡ getD table (256 * k + c) 0
+  pub entriesOf : 256 * k + 256 ≤ length table → (c : ℕ) → c < 256 → getD (rowOf 256 table k) c 0 ≡ getD table (256 * k + c) 0
   pub none : length table < 256 * k + 256 → rowOf 256 table k ≡ []
 
 abbrev pub HandsBackRows : Type 0

@@ -13,20 +13,20 @@ indexOf e [] = 0
 indexOf e (x ∷ xs) = cond (eqb e x) 0 (suc (indexOf e xs))
 
 -- the found equations with e, put last if it is new
-abbrev pub with : List ℕ → ℕ → List ℕ
-with found e = cond (ltb (indexOf e found) (length found)) found (found ++ (e ∷ []))
+abbrev pub insert : List ℕ → ℕ → List ℕ
+insert found e = cond (ltb (indexOf e found) (length found)) found (found ++ (e ∷ []))
 
 module _ (codes : ℕ) (answer : ℕ → ℕ → Answer ℕ) where
   -- the found equations after the answers of e to the first c codes
-  unfoldable pub noted : ℕ → (c : ℕ) → List ℕ → List ℕ
-  noted e zero found = found
-  noted e (suc c) found = cases (answer e c) (noted e c found) (with (noted e c found))
+  unfoldable pub explored : ℕ → (c : ℕ) → List ℕ → List ℕ
+  explored e zero found = found
+  explored e (suc c) found = cases (answer e c) (explored e c found) (insert (explored e c found))
 
   -- after those of equation k to all codes, if there is an equation k
-  abbrev pub turn : ℕ → List ℕ → List ℕ
-  turn k found = cond (ltb k (length found)) (noted (getD found k 0) codes found) found
+  abbrev pub expanded : ℕ → List ℕ → List ℕ
+  expanded k found = cond (ltb k (length found)) (explored (getD found k 0) codes found) found
 
   -- The equations found after a number of turns. Where they are no more than that number they are all.
-  unfoldable pub found : (turns first : ℕ) → List ℕ
+  unfoldable pub found : (expansions first : ℕ) → List ℕ
   found zero first = first ∷ []
-  found (suc k) first = turn k (found k first)
+  found (suc k) first = expanded k (found k first)

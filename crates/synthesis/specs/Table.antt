@@ -6,19 +6,19 @@ use Rattle.synthesis.specs.Monitor.{Answer, cases}
 use Rattle.synthesis.specs.Search.{indexOf}
 
 -- the entry for an answer: where its equation stands among those found
-abbrev pub entryFor : (mark : ℕ) → (found : List ℕ) → Answer ℕ → ℕ
-entryFor mark found a = cases a mark (λ e. indexOf e found)
+abbrev pub entryOf : (mark : ℕ) → (found : List ℕ) → Answer ℕ → ℕ
+entryOf mark found a = cases a mark (λ e. indexOf e found)
 
 module _ (mark : ℕ) (answer : ℕ → ℕ → Answer ℕ) (found : List ℕ) where
   -- the entries of the equation e for the first c codes
-  unfoldable pub entries : ℕ → (c : ℕ) → List ℕ
-  entries e zero = []
-  entries e (suc c) = entries e c ++ (entryFor mark found (answer e c) ∷ [])
+  unfoldable pub entriesOf : ℕ → (c : ℕ) → List ℕ
+  entriesOf e zero = []
+  entriesOf e (suc c) = entriesOf e c ++ (entryOf mark found (answer e c) ∷ [])
 
   -- the rows of the first k equations
   unfoldable pub rows : (codes k : ℕ) → List ℕ
   rows codes zero = []
-  rows codes (suc k) = rows codes k ++ entries (getD found k 0) codes
+  rows codes (suc k) = rows codes k ++ entriesOf (getD found k 0) codes
 
   -- a table with a row for each equation; the bytes after the last row are as they were
   unfoldable pub filled : (codes : ℕ) → List ℕ → List ℕ

@@ -5,14 +5,14 @@ use crate::search::reached;
 ghost use mathlib.Core.Path.{_≡_};
 ghost use Prim.Native.Nat.{_*_, _≤_, _<_};
 ghost use lib.ListN.{length, take};
-ghost use Rattle.synthesis.specs.Answering.{judged};
-ghost use Rattle.synthesis.specs.Table.{entryFor, entries, filled};
+ghost use Rattle.synthesis.specs.Answering.{answerFrom};
+ghost use Rattle.synthesis.specs.Table.{entryOf, entriesOf, filled};
 ghost use Rattle.synthesis.specs.Arrays.{answerBy};
 
 // The entry for a set of reached nodes: dropped where it has an ff node, else its index among the n equations.
 fn entry(found: &[u64], n: usize, falsities: u64, reached: u64) -> u8
     requires { ⌜ (n ≤ 128) × (n ≤ length (now found)) ⌝ }
-    ensures { λ r. ⌜ r ≡ entryFor 255 (take n (now (found .entry))) (judged falsities reached) ⌝ }
+    ensures { λ r. ⌜ r ≡ entryOf 255 (take n (now (found .entry))) (answerFrom falsities reached) ⌝ }
 {
     if reached & falsities != 0 {
         return DROPPED;
@@ -23,20 +23,20 @@ fn entry(found: &[u64], n: usize, falsities: u64, reached: u64) -> u8
 // Fills the row of an equation.
 fn fill_row(
     after: &[u64],
-    waiting: &[u64],
+    enabled: &[u64],
     falsities: u64,
     found: &[u64],
     n: usize,
     e: u64,
     row: &mut [u8],
 )
-    requires { ⌜ (length (now after) ≡ 64) × (length (now waiting) ≡ 256) × (n ≤ 128) × (n ≤ length (now found)) × (length (now row) ≡ 256) ⌝ }
+    requires { ⌜ (length (now after) ≡ 64) × (length (now enabled) ≡ 256) × (n ≤ 128) × (n ≤ length (now found)) × (length (now row) ≡ 256) ⌝ }
     ensures { λ _. ⌜ now (row .exit)
-        ≡ entries 255 (answerBy (now (after .entry)) (now (waiting .entry)) falsities) (take n (now (found .entry))) e 256 ⌝ }
+        ≡ entriesOf 255 (answerBy (now (after .entry)) (now (enabled .entry)) falsities) (take n (now (found .entry))) e 256 ⌝ }
 {
     let mut c: usize = 0;
     while c < 256 {
-        let e2 = reached(after, waiting, e, c);
+        let e2 = reached(after, enabled, e, c);
         row[c] = entry(found, n, falsities, e2);
         c += 1;
     }
@@ -45,22 +45,22 @@ fn fill_row(
 // Fills the rows of all n equations.
 pub(crate) fn fill(
     after: &[u64],
-    waiting: &[u64],
+    enabled: &[u64],
     falsities: u64,
     found: &[u64],
     n: usize,
     table: &mut [u8],
 )
-    requires { ⌜ (length (now after) ≡ 64) × (length (now waiting) ≡ 256) × (n ≤ 128) × (n ≤ length (now found)) × (256 * n ≤ length (now table)) ⌝ }
+    requires { ⌜ (length (now after) ≡ 64) × (length (now enabled) ≡ 256) × (n ≤ 128) × (n ≤ length (now found)) × (256 * n ≤ length (now table)) ⌝ }
     ensures { λ _. ⌜ now (table .exit)
-        ≡ filled 255 (answerBy (now (after .entry)) (now (waiting .entry)) falsities) (take n (now (found .entry))) 256 (now (table .entry)) ⌝ }
+        ≡ filled 255 (answerBy (now (after .entry)) (now (enabled .entry)) falsities) (take n (now (found .entry))) 256 (now (table .entry)) ⌝ }
 {
     let mut k: usize = 0;
     while k < n {
         let from = 256 * k;
         let to = from + 256;
         let e = found[k];
-        fill_row(after, waiting, falsities, found, n, e, &mut table[from..to]);
+        fill_row(after, enabled, falsities, found, n, e, &mut table[from..to]);
         k += 1;
     }
 }

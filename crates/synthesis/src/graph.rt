@@ -10,8 +10,8 @@ ghost use mathlib.Core.Path.{_≡_};
 ghost use Prim.Native.Nat.{ℕ, _+_, _≤_, _<_};
 ghost use lib.ListN.{length, replicate};
 ghost use Rattle.reading.specs.Rule.{size, Rule};
-ghost use Rattle.synthesis.specs.Arrays.{IsRule, SomeNode, IsOpening, Linked, AfterAll, withNode, HasKind, Marked};
-ghost use Rattle.synthesis.specs.Arrays.{IsNumbered, SomeNumbered, Waiting, WaitingAll, IsGraph};
+ghost use Rattle.synthesis.specs.Arrays.{IsRule, SomeNode, IsOpening, Linked, AfterAll, withNode, HasKind, CodesEnabled};
+ghost use Rattle.synthesis.specs.Arrays.{IsNumbered, SomeNumbered, EnabledBelow, Enabled, IsGraph};
 
 // The first equation and the ff nodes of a rule; for each node that is a necessity, what opening the formula after it gives; for each
 // code, the necessities whose patterns cover it.
@@ -19,18 +19,18 @@ pub(crate) struct Graph {
     pub(crate) first: u64,
     pub(crate) falsities: u64,
     pub(crate) after: [u64; 64],
-    pub(crate) waiting: [u64; 256],
+    pub(crate) enabled: [u64; 256],
 }
 
 // The graph of no rule.
 pub(crate) fn empty() -> Graph {
     let after = [0u64; 64];
-    let waiting = [0u64; 256];
+    let enabled = [0u64; 256];
     Graph {
         first: 0,
         falsities: 0,
         after,
-        waiting,
+        enabled,
     }
 }
 
@@ -116,21 +116,21 @@ fn falsities(kinds: &[u8], n: usize) -> u64
 }
 
 // Puts node k into the set of each code that the pattern covers.
-fn mark(p: Pattern, k: usize, waiting: &mut [u64])
-    requires { ⌜ (k < 64) × (length (now waiting) ≡ 256) ⌝ }
-    ensures { λ _. ⌜ Marked p k (now (waiting .entry)) (now (waiting .exit)) ⌝ }
+fn enable_codes(p: Pattern, k: usize, enabled: &mut [u64])
+    requires { ⌜ (k < 64) × (length (now enabled) ≡ 256) ⌝ }
+    ensures { λ _. ⌜ CodesEnabled p k (now (enabled .entry)) (now (enabled .exit)) ⌝ }
 {
     let mut c = 0;
     while c < 256 {
-        waiting[c] = with_node(waiting[c], k, reading::covers(p, c as u8));
+        enabled[c] = with_node(enabled[c], k, reading::covers(p, c as u8));
         c += 1;
     }
 }
 
 // Puts node k, where it is a necessity, into the set of each code that its pattern covers.
-fn wait(rule: NumberedRule, k: usize, waiting: &mut [u64])
-    requires { ⌜ SomeNumbered rule k × (length (now waiting) ≡ 256) ⌝ }
-    ensures { λ _. ⌜ ((r : Rule) → IsNumbered r rule → Waiting r k (now (waiting .entry)) → Waiting r (k + 1) (now (waiting .exit))) ⌝ }
+fn enable(rule: NumberedRule, k: usize, enabled: &mut [u64])
+    requires { ⌜ SomeNumbered rule k × (length (now enabled) ≡ 256) ⌝ }
+    ensures { λ _. ⌜ ((r : Rule) → IsNumbered r rule → EnabledBelow r k (now (enabled .entry)) → EnabledBelow r (k + 1) (now (enabled .exit))) ⌝ }
 {
     let kinds = rule.kinds;
     if kinds[k] != NECESSITY {
@@ -139,18 +139,18 @@ fn wait(rule: NumberedRule, k: usize, waiting: &mut [u64])
     let args = rule.args;
     let patterns = rule.patterns;
     let i = args[k] as usize;
-    mark(patterns[i], k, waiting);
+    enable_codes(patterns[i], k, enabled);
 }
 
 // Puts, for each code, the necessities whose patterns cover it.
-fn wait_all(rule: NumberedRule, waiting: &mut [u64])
-    requires { ⌜ SomeNumbered rule 0 × (now waiting ≡ replicate 256 0) ⌝ }
-    ensures { λ _. ⌜ ((r : Rule) → IsNumbered r rule → WaitingAll r (now (waiting .exit))) ⌝ }
+fn enable_all(rule: NumberedRule, enabled: &mut [u64])
+    requires { ⌜ SomeNumbered rule 0 × (now enabled ≡ replicate 256 0) ⌝ }
+    ensures { λ _. ⌜ ((r : Rule) → IsNumbered r rule → Enabled r (now (enabled .exit))) ⌝ }
 {
     let n = rule.nnodes;
     let mut k = 0;
     while k < n {
-        wait(rule, k, waiting);
+        enable(rule, k, enabled);
         k += 1;
     }
 }
@@ -168,12 +168,12 @@ pub(crate) fn of_rule(rule: NumberedRule) -> Graph
     let falsities = falsities(&kinds, n);
     let mut after = [0u64; 64];
     link_all(&kinds, &args, n, &mut after);
-    let mut waiting = [0u64; 256];
-    wait_all(rule, &mut waiting);
+    let mut enabled = [0u64; 256];
+    enable_all(rule, &mut enabled);
     Graph {
         first,
         falsities,
         after,
-        waiting,
+        enabled,
     }
 }

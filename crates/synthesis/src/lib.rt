@@ -4,7 +4,7 @@ mod graph;
 mod search;
 
 use graph::Graph;
-use reading::Answer;
+use reading::Acceptance;
 ghost use mathlib.Core.Path.{_≡_};
 ghost use lib.ListN.{length};
 ghost use Rattle.synthesis.specs.Monitor.{rowOf};
@@ -28,12 +28,12 @@ struct Plan {
 }
 
 // The refusal of a rule file that couldn't be read.
-fn refusal(answer: Answer) -> Counted
+fn refusal(answer: Acceptance) -> Counted
     ensures { λ r. ⌜ r ≡ refusalOf answer ⌝ }
 {
     match answer {
-        Answer::Accepted => Counted::Refused(0, 0),
-        Answer::Refused(number, place) => Counted::Refused(number, place),
+        Acceptance::Accepted => Counted::Refused(0, 0),
+        Acceptance::Refused(number, place) => Counted::Refused(number, place),
     }
 }
 
@@ -56,7 +56,7 @@ fn plan_of(rule: &[u8]) -> Plan
 {
     let reading = reading::read_rule(rule);
     let answer = reading.answer;
-    let Answer::Accepted = answer else {
+    let Acceptance::Accepted = answer else {
         return no_plan(refusal(answer));
     };
     let graph = graph::of_rule(reading.rule);
@@ -65,8 +65,8 @@ fn plan_of(rule: &[u8]) -> Plan
     }
     let mut found = [0u64; 128];
     let after = graph.after;
-    let waiting = graph.waiting;
-    let count = search::search(&after, &waiting, graph.falsities, graph.first, &mut found);
+    let enabled = graph.enabled;
+    let count = search::search(&after, &enabled, graph.falsities, graph.first, &mut found);
     if 128 < count {
         return no_plan(Counted::Refused(9, 0));
     }
@@ -99,9 +99,9 @@ pub fn build(rule: &[u8], table: &mut [u8]) -> Counted
     };
     let graph = plan.graph;
     let after = graph.after;
-    let waiting = graph.waiting;
+    let enabled = graph.enabled;
     let found = plan.found;
-    filling::fill(&after, &waiting, graph.falsities, &found, n, table);
+    filling::fill(&after, &enabled, graph.falsities, &found, n, table);
     answer
 }
 

@@ -5,8 +5,8 @@ ghost use mathlib.Core.List.{List};
 ghost use lib.ListN.{length, getD, take};
 ghost use Rattle.synthesis.specs.Monitor.{cases};
 ghost use Rattle.synthesis.specs.NodeSet.{intersection};
-ghost use Rattle.synthesis.specs.Answering.{judged};
-ghost use Rattle.synthesis.specs.Search.{indexOf, with, noted, turn, found};
+ghost use Rattle.synthesis.specs.Answering.{answerFrom};
+ghost use Rattle.synthesis.specs.Search.{indexOf, insert, explored, expanded, found};
 ghost use Rattle.synthesis.specs.Arrays.{gathered, answerBy, Holds};
 
 // The union of those sets whose indices are in `live`. Each turn takes the lowest index out: rest & (rest - 1) is rest
@@ -26,11 +26,11 @@ fn gather(sets: &[u64], live: u64) -> u64
 }
 
 // The nodes that an equation reaches under a code; with an ff node among them, the code is dropped.
-pub(crate) fn reached(after: &[u64], waiting: &[u64], e: u64, c: usize) -> u64
-    requires { ⌜ (length (now after) ≡ 64) × (c < length (now waiting)) ⌝ }
-    ensures { λ r. ⌜ r ≡ gathered (now (after .entry)) (intersection e (getD (now (waiting .entry)) c 0)) ⌝ }
+pub(crate) fn reached(after: &[u64], enabled: &[u64], e: u64, c: usize) -> u64
+    requires { ⌜ (length (now after) ≡ 64) × (c < length (now enabled)) ⌝ }
+    ensures { λ r. ⌜ r ≡ gathered (now (after .entry)) (intersection e (getD (now (enabled .entry)) c 0)) ⌝ }
 {
-    gather(after, e & waiting[c])
+    gather(after, e & enabled[c])
 }
 
 // The index of a set among the first n of the list, or n.
@@ -49,9 +49,9 @@ pub(crate) fn find(list: &[u64], n: usize, e: u64) -> usize
 }
 
 // Puts a set after the first n of the list if it is new. 129 says that there was no room for it.
-fn note(list: &mut [u64], n: usize, e: u64) -> usize
+fn insert(list: &mut [u64], n: usize, e: u64) -> usize
     requires { ⌜ length (now list) ≡ 128 ⌝ }
-    ensures { λ r. ⌜ ((l : List ℕ) → Holds 128 (now (list .entry)) n l → Holds 128 (now (list .exit)) r (with l e)) ⌝ }
+    ensures { λ r. ⌜ ((l : List ℕ) → Holds 128 (now (list .entry)) n l → Holds 128 (now (list .exit)) r (insert l e)) ⌝ }
 {
     if 128 < n {
         return n;
@@ -68,52 +68,52 @@ fn note(list: &mut [u64], n: usize, e: u64) -> usize
 }
 
 // Notes the next equation, unless the set of reached nodes has an ff node.
-fn note_answer(list: &mut [u64], n: usize, falsities: u64, reached: u64) -> usize
+fn insert_answer(list: &mut [u64], n: usize, falsities: u64, reached: u64) -> usize
     requires { ⌜ length (now list) ≡ 128 ⌝ }
     ensures { λ r. ⌜ ((l : List ℕ) → Holds 128 (now (list .entry)) n l
-        → Holds 128 (now (list .exit)) r (cases (judged falsities reached) l (with l))) ⌝ }
+        → Holds 128 (now (list .exit)) r (cases (answerFrom falsities reached) l (insert l))) ⌝ }
 {
     if reached & falsities != 0 {
         return n;
     }
-    note(list, n, reached)
+    insert(list, n, reached)
 }
 
 // Notes what an equation answers to each code.
-fn note_row(
+fn explore(
     after: &[u64],
-    waiting: &[u64],
+    enabled: &[u64],
     falsities: u64,
     list: &mut [u64],
     n: usize,
     e: u64,
 ) -> usize
-    requires { ⌜ (length (now after) ≡ 64) × (length (now waiting) ≡ 256) × (length (now list) ≡ 128) ⌝ }
+    requires { ⌜ (length (now after) ≡ 64) × (length (now enabled) ≡ 256) × (length (now list) ≡ 128) ⌝ }
     ensures { λ r. ⌜ ((l : List ℕ) → Holds 128 (now (list .entry)) n l
-        → Holds 128 (now (list .exit)) r (noted 256 (answerBy (now (after .entry)) (now (waiting .entry)) falsities) e 256 l)) ⌝ }
+        → Holds 128 (now (list .exit)) r (explored 256 (answerBy (now (after .entry)) (now (enabled .entry)) falsities) e 256 l)) ⌝ }
 {
     let mut m = n;
     let mut c: usize = 0;
     while c < 256 {
-        let e2 = reached(after, waiting, e, c);
-        m = note_answer(list, m, falsities, e2);
+        let e2 = reached(after, enabled, e, c);
+        m = insert_answer(list, m, falsities, e2);
         c += 1;
     }
     m
 }
 
 // Notes what equation k answers to each code, if there is an equation k.
-fn take_turn(
+fn expand(
     after: &[u64],
-    waiting: &[u64],
+    enabled: &[u64],
     falsities: u64,
     list: &mut [u64],
     n: usize,
     k: usize,
 ) -> usize
-    requires { ⌜ (length (now after) ≡ 64) × (length (now waiting) ≡ 256) × (length (now list) ≡ 128) × (k < 128) ⌝ }
+    requires { ⌜ (length (now after) ≡ 64) × (length (now enabled) ≡ 256) × (length (now list) ≡ 128) × (k < 128) ⌝ }
     ensures { λ r. ⌜ ((l : List ℕ) → Holds 128 (now (list .entry)) n l
-        → Holds 128 (now (list .exit)) r (turn 256 (answerBy (now (after .entry)) (now (waiting .entry)) falsities) k l)) ⌝ }
+        → Holds 128 (now (list .exit)) r (expanded 256 (answerBy (now (after .entry)) (now (enabled .entry)) falsities) k l)) ⌝ }
 {
     if 128 < n {
         return n;
@@ -122,25 +122,25 @@ fn take_turn(
         return n;
     }
     let e = list[k];
-    note_row(after, waiting, falsities, list, n, e)
+    explore(after, enabled, falsities, list, n, e)
 }
 
 // Finds the equations from the first on, and says how many there are; 129 where they are over 128.
 pub(crate) fn search(
     after: &[u64],
-    waiting: &[u64],
+    enabled: &[u64],
     falsities: u64,
     first: u64,
     list: &mut [u64],
 ) -> usize
-    requires { ⌜ (length (now after) ≡ 64) × (length (now waiting) ≡ 256) × (length (now list) ≡ 128) ⌝ }
-    ensures { λ r. ⌜ Holds 128 (now (list .exit)) r (found 256 (answerBy (now (after .entry)) (now (waiting .entry)) falsities) 128 first) ⌝ }
+    requires { ⌜ (length (now after) ≡ 64) × (length (now enabled) ≡ 256) × (length (now list) ≡ 128) ⌝ }
+    ensures { λ r. ⌜ Holds 128 (now (list .exit)) r (found 256 (answerBy (now (after .entry)) (now (enabled .entry)) falsities) 128 first) ⌝ }
 {
     list[0] = first;
     let mut n: usize = 1;
     let mut k: usize = 0;
     while k < 128 {
-        n = take_turn(after, waiting, falsities, list, n, k);
+        n = expand(after, enabled, falsities, list, n, k);
         k += 1;
     }
     n

@@ -2,7 +2,7 @@
 // A case is a length of three bytes, highest first, and then that many bytes of a rule file. The input ends after the last.
 use libc::STDIN_FILENO;
 use libc::STDOUT_FILENO;
-use reading::Answer;
+use reading::Acceptance;
 use reading::Extent;
 use reading::NumberedRule;
 use reading::Pattern;
@@ -67,12 +67,12 @@ fn print_reading(reading: Reading) {
     let answer = reading.answer;
     let rule = reading.rule;
     match answer {
-        Answer::Accepted => {
+        Acceptance::Accepted => {
             io::write_all(STDOUT_FILENO, b"accepted");
             print_patterns(rule);
             print_nodes(rule);
         }
-        Answer::Refused(number, place) => {
+        Acceptance::Refused(number, place) => {
             print_refusal(number, place);
         }
     }

@@ -1,7 +1,7 @@
 -- `jarveun_run` meets its contract: each number is a field of what `run` hands back.
 use mathlib.Core.Path.{ap, _∙_}
 use borrow.Author.Needs.{needs}
-use Rattle.running.specs.declared.Ran.{Ran}
+use Rattle.running.specs.declared.RunResult.{RunResult}
 use Rattle.boundary.specs.Results.{checkedNumber}
 use Rattle.boundary.proofs.jarveun_run.Statement.{statement}
 use Rattle.boundary.proofs.jarveun_run.Tie as tie
@@ -23,10 +23,10 @@ returns c =
     let ran = c .before .before .before .before .before .before .run in
     let same = ran .ensures .0 in (
       record {
-        number-is = c .number-of .ensures ∙ ap (λ (x : Ran). checkedNumber (x .checked)) same;
-        equation-is = ap (λ (x : Ran). x .state .equation) same;
-        kept-is = ap (λ (x : Ran). x .kept) same;
-        dropped-is = ap (λ (x : Ran). x .dropped) same;
+        number-is = c .number-of .ensures ∙ ap (λ (x : RunResult). checkedNumber (x .checked)) same;
+        equation-is = ap (λ (x : RunResult). x .state .equation) same;
+        kept-is = ap (λ (x : RunResult). x .kept) same;
+        dropped-is = ap (λ (x : RunResult). x .dropped) same;
       },
       (ran .ensures .1 .0, ran .ensures .1 .1),
     )

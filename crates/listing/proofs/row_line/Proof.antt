@@ -6,7 +6,7 @@ use native.Mathlib.Omega.{arith}
 use borrow.Author.Needs.{needs}
 use lib.ListN.{length, getD}
 use Rattle.synthesis.specs.Monitor.{rowOf}
-use Rattle.listing.specs.Runs.{run, RunTo}
+use Rattle.listing.specs.Runs.{codeRun, RunTo}
 use Rattle.listing.specs.Lines.{runLine}
 use Rattle.listing.specs.LineParts.{Prints, Gives}
 use Rattle.listing.specs.Positions.{rowLineAt}
@@ -18,7 +18,7 @@ use Rattle.listing.proofs.row_line.Tie as tie
 
 -- a run of a row that was handed out
 run-given : (table row : List ℕ) (count start k c at last : ℕ) (l : Line) → row ≡ rowOf 256 table k → k < count → RunTo row c last
-    → Prints (runLine k (run c last (getD row c 0))) l
+    → Prints (runLine k (codeRun c last (getD row c 0))) l
     → Gives (rowLineAt table count start k c at) (record { line = l; next = start + 256 * k + last + 1 })
 run-given table row count start k c at last l e h r p =
     gives (at-run table count start k c at last h (rw e at r)) (gives-line _ _ (omega arith) (rw e at p))

@@ -6,7 +6,7 @@ use borrow.Author.Needs.{needs}
 use Rattle.reading.specs.File.{accepted}
 use Rattle.reading.proofs.ByteLaws.{slice-bytes}
 use Rattle.models.specs.Phone.{statesOf}
-use Rattle.models.specs.Loading.{Begun}
+use Rattle.models.specs.Loading.{StepsBegun}
 use Rattle.models.specs.declared.PhoneModel.{PhoneModel}
 use Rattle.models.proofs.FileWays.{states-found, none-begun, states-refused, loaded-accepted, loaded-refused}
 use Rattle.models.proofs.read_model.Statement.{statement}
@@ -51,7 +51,7 @@ read-array-requires : tie.Need-read-array-requires
 read-array-requires c κs =
     let k = c .before .before in
     let known = k .before .before .before .before .shared-slice-known .given in
-    subst (λ (b : PhoneModel). Begun (f k) (states k) (b .steps) 0 2) (sym (c .before .blank-model .ensures))
+    subst (λ (b : PhoneModel). StepsBegun (f k) (states k) (b .steps) 0 2) (sym (c .before .blank-model .ensures))
     (none-begun (f k) _ (slice-bytes (f k) known))
 
 enum-told-2 : tie.Need-enum-told-2

@@ -2,7 +2,7 @@
 use native.Mathlib.Omega.{arith}
 use borrow.Author.Needs.{needs}
 use lib.ListN.{length}
-use Rattle.running.specs.Running.{following, runOf}
+use Rattle.running.specs.Running.{answerIn, runOf}
 use Rattle.running.proofs.Counting.{kept-dropped}
 use Rattle.running.proofs.Outcomes.{Passed, passed, refused-leaves, accepted-leaves}
 use Rattle.running.proofs.run.Statement.{statement}
@@ -41,7 +41,7 @@ sub-dropped : tie.Need-sub-dropped
 sub-dropped c =
     let f = c .before .before .before .before .before in
     let x = f .before .before .before .before .before .before .before .before .before .before .args in
-    omega (arith, f .follow .ensures .1 .0, kept-dropped (following 255 (x .table .now)) (x .state) (x .scans .now))
+    omega (arith, f .follow .ensures .1 .0, kept-dropped (answerIn 255 (x .table .now)) (x .state) (x .scans .now))
 
 same-length : tie.Need-same-length
 same-length c = search needs

@@ -42,7 +42,7 @@ fill-requires c κs =
     let a = c .before .before .before .before .before .before .before .before .before in
     let f = counted a in (
       f .fills .graph-is .after-length,
-      f .fills .graph-is .waiting-length,
+      f .fills .graph-is .enabled-length,
       omega (arith, f .count-is, f .fills .few),
       omega (arith, f .count-is, f .fills .few, f .fills .found-length),
       omega (arith, f .count-is, f .fills .few, a .before .before .before .if1 .left),

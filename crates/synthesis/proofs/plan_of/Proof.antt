@@ -1,7 +1,7 @@
 -- `plan_of` meets its contract: each return is the plan of what is made of the file.
 use borrow.Author.Needs.{needs}
 use Rattle.reading.proofs.ByteLaws.{slice-bytes}
-use Rattle.synthesis.proofs.PlanLaws.{Read, unread-plan, read-is, read-some, hopeless-plan, many-plan, counted-plan}
+use Rattle.synthesis.proofs.PlanLaws.{Read, unread-plan, read-is, read-some, unsatisfiable-plan, many-plan, counted-plan}
 use Rattle.synthesis.proofs.plan_of.Statement.{statement}
 use Rattle.synthesis.proofs.plan_of.Tie as tie
 
@@ -42,7 +42,7 @@ no-plan-requires-2 c κs = search needs
 returns-2 : tie.Need-returns-2
 returns-2 c =
     let o = c .before .before .before in
-    hopeless-plan (read (o .before)) _ (o .of-rule .ensures) (c .before .if1 .taken) (c .no-plan2 .ensures)
+    unsatisfiable-plan (read (o .before)) _ (o .of-rule .ensures) (c .before .if1 .taken) (c .no-plan2 .ensures)
 
 slice-aggregate-search : tie.Need-slice-aggregate-search
 slice-aggregate-search c = search needs

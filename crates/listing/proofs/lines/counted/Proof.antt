@@ -4,17 +4,17 @@ use borrow.Author.Needs.{needs}
 use mathlib.Core.List.{[], _∷_}
 use Rattle.listing.specs.Text.{decimal}
 use Rattle.listing.proofs.Decimals.{digits-of}
-use Rattle.listing.proofs.Additions.{Begun, empty-line, has-room, first-field, next-field, line-ended}
+use Rattle.listing.proofs.Additions.{LineBegun, empty-line, has-room, first-field, next-field, line-ended}
 use Rattle.listing.proofs.lines.counted.Statement.{statement}
 use Rattle.listing.proofs.lines.counted.Tie as tie
 
 -- the line after each field
-with-word : (c : tie.After-word) → Begun (c .before .before .before .args .word .now ∷ []) 48 (c .word .result)
+with-word : (c : tie.After-word) → LineBegun (c .before .before .before .args .word .now ∷ []) 48 (c .word .result)
 with-word c = first-field 48 _ (empty-line (c .before .empty .ensures)) (c .word .ensures) (omega arith)
 
 with-number : (c : tie.After-field) →
     let x = c .before .before .before .before .args in
-    Begun (x .word .now ∷ decimal (x .n) ∷ []) 27 (c .field .result)
+    LineBegun (x .word .now ∷ decimal (x .n) ∷ []) 27 (c .field .result)
 with-number c =
     let x = c .before .before .before .before .args in
     next-field 27 (decimal (x .n)) (with-word (c .before)) (c .field .ensures) (omega (arith, digits-of 19 (x .n) (search needs)))
@@ -28,11 +28,11 @@ word-requires c κs = has-room _ (empty-line (c .empty .ensures)) (omega arith)
 field-requires : tie.Need-field-requires
 field-requires c κs = has-room _ (with-word c) (omega (arith, digits-of 19 (c .before .before .before .args .n) (search needs)))
 
-ended-requires : tie.Need-ended-requires
-ended-requires c κs = has-room 1 (with-number c) (omega arith)
+newline-requires : tie.Need-newline-requires
+newline-requires c κs = has-room 1 (with-number c) (omega arith)
 
 returns : tie.Need-returns
-returns c = line-ended (with-number (c .before)) (c .ended .ensures)
+returns c = line-ended (with-number (c .before)) (c .newline .ensures)
 
 pub counted-spec : {M : Type 1} → statement M
-counted-spec = tie.close (tie.spec empty-requires word-requires field-requires ended-requires returns)
+counted-spec = tie.close (tie.spec empty-requires word-requires field-requires newline-requires returns)

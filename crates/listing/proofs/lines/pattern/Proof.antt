@@ -4,24 +4,24 @@ use borrow.Author.Needs.{needs}
 use mathlib.Core.List.{[], _∷_}
 use Rattle.listing.specs.Text.{text, decimal}
 use Rattle.listing.proofs.Decimals.{digits-of}
-use Rattle.listing.proofs.Additions.{Begun, empty-line, has-room, first-field, next-field, line-ended}
+use Rattle.listing.proofs.Additions.{LineBegun, empty-line, has-room, first-field, next-field, line-ended}
 use Rattle.listing.proofs.lines.pattern.Statement.{statement}
 use Rattle.listing.proofs.lines.pattern.Tie as tie
 
 -- the line after each field
-with-word : (c : tie.After-word) → Begun (text "p" ∷ []) 63 (c .word .result)
+with-word : (c : tie.After-word) → LineBegun (text "p" ∷ []) 63 (c .word .result)
 with-word c = first-field 63 (text "p") (empty-line (c .before .before .empty .ensures)) (c .word .ensures) (omega arith)
 
 with-number : (c : tie.After-field) →
     let x = c .before .before .before .before .before .before .args in
-    Begun (text "p" ∷ decimal (x .i) ∷ []) 42 (c .field .result)
+    LineBegun (text "p" ∷ decimal (x .i) ∷ []) 42 (c .field .result)
 with-number c =
     let x = c .before .before .before .before .before .before .args in
     next-field 42 (decimal (x .i)) (with-word (c .before)) (c .field .ensures) (omega (arith, digits-of 19 (x .i) (search needs)))
 
 with-lowest : (c : tie.After-field2) →
     let x = c .before .before .before .before .before .before .before .args in
-    Begun (text "p" ∷ decimal (x .i) ∷ decimal (x .extent .lowest) ∷ []) 38 (c .field2 .result)
+    LineBegun (text "p" ∷ decimal (x .i) ∷ decimal (x .extent .lowest) ∷ []) 38 (c .field2 .result)
 with-lowest c =
     let x = c .before .before .before .before .before .before .before .args in
     next-field 38 (decimal (x .extent .lowest)) (with-number (c .before)) (c .field2 .ensures)
@@ -29,7 +29,7 @@ with-lowest c =
 
 with-count : (c : tie.After-field3) →
     let x = c .before .before .before .before .before .before .before .before .args in
-    Begun (text "p" ∷ decimal (x .i) ∷ decimal (x .extent .lowest) ∷ decimal (x .extent .count) ∷ []) 32 (c .field3 .result)
+    LineBegun (text "p" ∷ decimal (x .i) ∷ decimal (x .extent .lowest) ∷ decimal (x .extent .count) ∷ []) 32 (c .field3 .result)
 with-count c =
     let x = c .before .before .before .before .before .before .before .before .args in
     next-field 32 (decimal (x .extent .count)) (with-lowest (c .before)) (c .field3 .ensures)
@@ -65,11 +65,11 @@ field-requires-3 c κs =
     let x = c .before .before .before .before .before .before .before .args in
     has-room _ (with-lowest c) (omega (arith, digits-of 4 (x .extent .count) (search needs)))
 
-ended-requires : tie.Need-ended-requires
-ended-requires c κs = has-room 1 (with-count c) (omega arith)
+newline-requires : tie.Need-newline-requires
+newline-requires c κs = has-room 1 (with-count c) (omega arith)
 
 returns : tie.Need-returns
-returns c = line-ended (with-count (c .before)) (c .ended .ensures)
+returns c = line-ended (with-count (c .before)) (c .newline .ensures)
 
 pub pattern-spec : {M : Type 1} → statement M
 pattern-spec =
@@ -83,5 +83,5 @@ pattern-spec =
     field-requires
     field-requires-2
     field-requires-3
-    ended-requires
+    newline-requires
     returns)

@@ -4,17 +4,17 @@ use borrow.Author.Needs.{needs}
 use mathlib.Core.List.{[], _∷_}
 use Rattle.listing.specs.Text.{text, decimal}
 use Rattle.listing.proofs.Decimals.{digits-of}
-use Rattle.listing.proofs.Additions.{Begun, empty-line, has-room, first-field, next-field, line-ended}
+use Rattle.listing.proofs.Additions.{LineBegun, empty-line, has-room, first-field, next-field, line-ended}
 use Rattle.listing.proofs.lines.refusal.Statement.{statement}
 use Rattle.listing.proofs.lines.refusal.Tie as tie
 
 -- the line after each field
-with-refused : (c : tie.After-word) → Begun (text "refused" ∷ []) 57 (c .word .result)
+with-refused : (c : tie.After-word) → LineBegun (text "refused" ∷ []) 57 (c .word .result)
 with-refused c = first-field 57 (text "refused") (empty-line (c .before .before .empty .ensures)) (c .word .ensures) (omega arith)
 
 with-number : (c : tie.After-field) →
     let x = c .before .before .before .before .args in
-    Begun (text "refused" ∷ decimal (x .number) ∷ []) 53 (c .field .result)
+    LineBegun (text "refused" ∷ decimal (x .number) ∷ []) 53 (c .field .result)
 with-number c =
     let x = c .before .before .before .before .args in
     next-field 53 (decimal (x .number)) (with-refused (c .before)) (c .field .ensures)
@@ -22,12 +22,12 @@ with-number c =
 
 with-at : (c : tie.After-word2) →
     let x = c .before .before .before .before .before .before .args in
-    Begun (text "refused" ∷ decimal (x .number) ∷ text "at" ∷ []) 50 (c .word2 .result)
+    LineBegun (text "refused" ∷ decimal (x .number) ∷ text "at" ∷ []) 50 (c .word2 .result)
 with-at c = next-field 50 (text "at") (with-number (c .before .before)) (c .word2 .ensures) (omega arith)
 
 with-place : (c : tie.After-field2) →
     let x = c .before .before .before .before .before .before .before .args in
-    Begun (text "refused" ∷ decimal (x .number) ∷ text "at" ∷ decimal (x .place) ∷ []) 29 (c .field2 .result)
+    LineBegun (text "refused" ∷ decimal (x .number) ∷ text "at" ∷ decimal (x .place) ∷ []) 29 (c .field2 .result)
 with-place c =
     let x = c .before .before .before .before .before .before .before .args in
     next-field 29 (decimal (x .place)) (with-at (c .before)) (c .field2 .ensures) (omega (arith, digits-of 19 (x .place) (search needs)))
@@ -54,11 +54,11 @@ field-requires-2 : tie.Need-field-requires-2
 field-requires-2 c κs =
     has-room _ (with-at c) (omega (arith, digits-of 19 (c .before .before .before .before .before .before .args .place) (search needs)))
 
-ended-requires : tie.Need-ended-requires
-ended-requires c κs = has-room 1 (with-place c) (omega arith)
+newline-requires : tie.Need-newline-requires
+newline-requires c κs = has-room 1 (with-place c) (omega arith)
 
 returns : tie.Need-returns
-returns c = line-ended (with-place (c .before)) (c .ended .ensures)
+returns c = line-ended (with-place (c .before)) (c .newline .ensures)
 
 pub refusal-spec : {M : Type 1} → statement M
 refusal-spec =
@@ -71,5 +71,5 @@ refusal-spec =
     slice-aggregate-word-2
     word-requires-2
     field-requires-2
-    ended-requires
+    newline-requires
     returns)

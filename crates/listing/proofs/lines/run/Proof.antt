@@ -6,19 +6,19 @@ use Rattle.synthesis.specs.Monitor.{meaning}
 use Rattle.listing.specs.Text.{decimal}
 use Rattle.listing.specs.Lines.{answerText}
 use Rattle.listing.proofs.Decimals.{digits-of, answer-digits}
-use Rattle.listing.proofs.Additions.{Begun, empty-line, has-room, first-field, next-field, line-ended}
+use Rattle.listing.proofs.Additions.{LineBegun, empty-line, has-room, first-field, next-field, line-ended}
 use Rattle.listing.proofs.lines.run.Statement.{statement}
 use Rattle.listing.proofs.lines.run.Tie as tie
 
 -- the line after each field
-with-equation : (c : tie.After-decimal) → Begun (decimal (c .before .before .args .k) ∷ []) 44 (c .decimal .result)
+with-equation : (c : tie.After-decimal) → LineBegun (decimal (c .before .before .args .k) ∷ []) 44 (c .decimal .result)
 with-equation c =
     first-field 44 _ (empty-line (c .before .empty .ensures)) (c .decimal .ensures)
     (omega (arith, digits-of 19 (c .before .before .args .k) (search needs)))
 
 with-first : (c : tie.After-field) →
     let x = c .before .before .before .args in
-    Begun (decimal (x .k) ∷ decimal (x .first) ∷ []) 40 (c .field .result)
+    LineBegun (decimal (x .k) ∷ decimal (x .first) ∷ []) 40 (c .field .result)
 with-first c =
     let x = c .before .before .before .args in
     next-field 40 (decimal (x .first)) (with-equation (c .before)) (c .field .ensures)
@@ -26,7 +26,7 @@ with-first c =
 
 with-last : (c : tie.After-field2) →
     let x = c .before .before .before .before .args in
-    Begun (decimal (x .k) ∷ decimal (x .first) ∷ decimal (x .last) ∷ []) 36 (c .field2 .result)
+    LineBegun (decimal (x .k) ∷ decimal (x .first) ∷ decimal (x .last) ∷ []) 36 (c .field2 .result)
 with-last c =
     let x = c .before .before .before .before .args in
     next-field 36 (decimal (x .last)) (with-first (c .before)) (c .field2 .ensures)
@@ -34,7 +34,7 @@ with-last c =
 
 with-entry : (c : tie.After-entry) →
     let x = c .before .before .before .before .before .args in
-    Begun (decimal (x .k) ∷ decimal (x .first) ∷ decimal (x .last) ∷ answerText (meaning 255 (x .entry)) ∷ []) 31 (c .entry .result)
+    LineBegun (decimal (x .k) ∷ decimal (x .first) ∷ decimal (x .last) ∷ answerText (meaning 255 (x .entry)) ∷ []) 31 (c .entry .result)
 with-entry c =
     let x = c .before .before .before .before .before .args in
     next-field 31 (answerText (meaning 255 (x .entry))) (with-last (c .before)) (c .entry .ensures)
@@ -55,11 +55,11 @@ field-requires-2 c κs = has-room _ (with-first c) (omega (arith, digits-of 2 (c
 entry-requires : tie.Need-entry-requires
 entry-requires c κs = has-room 5 (with-last c) (omega arith)
 
-ended-requires : tie.Need-ended-requires
-ended-requires c κs = has-room 1 (with-entry c) (omega arith)
+newline-requires : tie.Need-newline-requires
+newline-requires c κs = has-room 1 (with-entry c) (omega arith)
 
 returns : tie.Need-returns
-returns c = line-ended (with-entry (c .before)) (c .ended .ensures)
+returns c = line-ended (with-entry (c .before)) (c .newline .ensures)
 
 pub run-spec : {M : Type 1} → statement M
 run-spec =
@@ -70,5 +70,5 @@ run-spec =
     field-requires
     field-requires-2
     entry-requires
-    ended-requires
+    newline-requires
     returns)

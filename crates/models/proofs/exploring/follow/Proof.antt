@@ -11,7 +11,7 @@ use Rattle.models.specs.Searching.{remaining, rowAt, Searching}
 use Rattle.models.specs.declared.Step.{Step}
 use Rattle.models.specs.declared.exploring.Cursor.{Cursor}
 use Rattle.models.proofs.FoundPairs.{found-few}
-use Rattle.models.proofs.Searches.{turn-inside, turn-before, worklist, row-inside, label-inside, target-inside, next-inside}
+use Rattle.models.proofs.Searches.{index-inside, index-before, worklist, row-inside, label-inside, target-inside, next-inside}
 use Rattle.models.proofs.Searches.{followed-dropped, followed-on, followed-next}
 use Rattle.models.proofs.exploring.follow.Statement.{statement}
 use Rattle.models.proofs.exploring.follow.Tie as tie
@@ -21,7 +21,7 @@ abbrev first : tie.After-equation-after → tie.Start
 first c = c .before .before .before .before .before .before
 
 -- and from the note of the pair to which it leads
-abbrev begun : tie.After-note → tie.Start
+abbrev begun : tie.After-enqueue → tie.Start
 begun n = first (n .before .before .before .before .before)
 
 -- where the step leads, by the row of the pair's equation
@@ -56,17 +56,17 @@ returns c =
       subst (λ (r : Cursor). remaining r < remaining (x .args .at)) e (omega (arith, x .pre .2)),
     )
 
-mul-note : tie.Need-mul-note
-mul-note c = omega (arith, inside (c .before .before))
+mul-enqueue : tie.Need-mul-enqueue
+mul-enqueue c = omega (arith, inside (c .before .before))
 
-cast-note : tie.Need-cast-note
-cast-note c = search needs
+cast-enqueue : tie.Need-cast-enqueue
+cast-enqueue c = search needs
 
-add-note : tie.Need-add-note
-add-note c = let e = c .before .before .before in omega (arith, inside e, target (e .before))
+add-enqueue : tie.Need-add-enqueue
+add-enqueue c = let e = c .before .before .before in omega (arith, inside e, target (e .before))
 
-note-requires : tie.Need-note-requires
-note-requires c κs =
+enqueue-requires : tie.Need-enqueue-requires
+enqueue-requires c κs =
     let e = c .before .before .before in
     let p = first (e .before) .pre in
     (worklist (p .1) (p .2), omega (arith, inside e, target (e .before)))
@@ -94,21 +94,21 @@ returns-2 c =
     let n = c .before .before .before .before .before .before .before in
     let e = n .before .before .before .before in
     let p = first (e .before) .pre in (
-      λ steps s is. followed-on s (p .2) is (leads (e .before)) (e .if1 .left) (n .note .ensures) refl (c .if2 .taken),
+      λ steps s is. followed-on s (p .2) is (leads (e .before)) (e .if1 .left) (n .enqueue .ensures) refl (c .if2 .taken),
       omega (arith, p .1 .searchable .links-range .earlier-range (first (e .before) .args .at .step - 1), p .2),
     )
 
 add-next-pair : tie.Need-add-next-pair
-add-next-pair c = let p = begun (c .before .before .before .before .before .before .before .before) .pre in omega (arith, turn-inside (p .1) (p .2))
+add-next-pair c = let p = begun (c .before .before .before .before .before .before .before .before) .pre in omega (arith, index-inside (p .1) (p .2))
 
 next-pair-requires : tie.Need-next-pair-requires
 next-pair-requires c κs =
     let n = c .before .before .before .before .before .before .before .before in
     let p = begun n .pre in
-    let g = n .note .ensures .grown in (
+    let g = n .enqueue .ensures .grown in (
       p .1 .searchable .links-range .last-length,
       g .worklist .pairs-length,
-      omega (arith, turn-before (p .1) (p .2), g .more),
+      omega (arith, index-before (p .1) (p .2), g .more),
       found-few _ _ _ (g .worklist),
     )
 
@@ -119,22 +119,22 @@ same-length-4 : tie.Need-same-length-4
 same-length-4 c = search needs
 
 -- the note of the pair, from the last call
-abbrev noted : tie.After-next-pair → tie.After-note
-noted c = c .before .before .before .before .before .before .before .before .before
+abbrev enqueued : tie.After-next-pair → tie.After-enqueue
+enqueued c = c .before .before .before .before .before .before .before .before .before
 
-ended : (c : tie.After-next-pair) → let x = begun (noted c) .args in let l = linksOf (x .last .now) (x .earlier .now) in
+ended : (c : tie.After-next-pair) → let x = begun (enqueued c) .args in let l = linksOf (x .last .now) (x .earlier .now) in
     (steps : List Step) → Searching steps l (x .table .now) (x .seen .now) (x .pairs .now) (x .at) → x .step ≡ getD steps (x .at .step - 1) noStep
-    → Searching steps l (x .table .now) (noted c .note .last .0) (noted c .note .last .1 .0) (c .next-pair .result)
+    → Searching steps l (x .table .now) (enqueued c .enqueue .last .0) (enqueued c .enqueue .last .1 .0) (c .next-pair .result)
 ended c steps s is =
-    let e = noted c .before .before .before .before in
-    let x = begun (noted c) .args in
+    let e = enqueued c .before .before .before .before in
+    let x = begun (enqueued c) .args in
     let none : getD (x .earlier .now) (x .at .step - 1) 0 ≡ 0 = omega (arith, c .before .before .if2 .left) in
-    followed-next s (begun (noted c) .pre .2) is (leads (e .before)) (e .if1 .left) (noted c .note .ensures) refl none (c .next-pair .ensures)
+    followed-next s (begun (enqueued c) .pre .2) is (leads (e .before)) (e .if1 .left) (enqueued c .enqueue .ensures) refl none (c .next-pair .ensures)
 
 returns-3 : tie.Need-returns-3
 returns-3 c =
-    let p = begun (noted c) .pre in
-    (ended c, omega (arith, c .next-pair .ensures .not-before, ended c (p .0) (p .1) (p .3) .step-inside, turn-inside (p .1) (p .2)))
+    let p = begun (enqueued c) .pre in
+    (ended c, omega (arith, c .next-pair .ensures .not-before, ended c (p .0) (p .1) (p .3) .step-inside, index-inside (p .1) (p .2)))
 
 pub follow-spec : {M : Type 1} → statement M
 follow-spec =
@@ -144,10 +144,10 @@ follow-spec =
     cast-if1
     stopped-requires
     returns
-    mul-note
-    cast-note
-    add-note
-    note-requires
+    mul-enqueue
+    cast-enqueue
+    add-enqueue
+    enqueue-requires
     sub-here
     mul-left
     shared-slice-read-left

@@ -7,11 +7,11 @@ use Rattle.models.proofs.exploring.never_drops.Statement.{statement}
 use Rattle.models.proofs.exploring.never_drops.Tie as tie
 
 -- from the note of the first pair to the links, from the first cursor to that note, and from the search to that cursor
-abbrev linked : tie.After-note → tie.After-of-model
+abbrev linked : tie.After-enqueue → tie.After-of-model
 linked c = c .before .before .before .before .before .before
 
-abbrev noted : tie.After-next-pair → tie.After-note
-noted c = c .before .before .before .before .before
+abbrev enqueued : tie.After-next-pair → tie.After-enqueue
+enqueued c = c .before .before .before .before .before
 
 abbrev first : tie.After-pairs4 → tie.After-next-pair
 first c = c .before .before .before .before
@@ -19,14 +19,14 @@ first c = c .before .before .before .before
 of-model-requires : tie.Need-of-model-requires
 of-model-requires c κs = search needs
 
-slice-aggregate-note : tie.Need-slice-aggregate-note
-slice-aggregate-note c = search needs
+slice-aggregate-enqueue : tie.Need-slice-aggregate-enqueue
+slice-aggregate-enqueue c = search needs
 
-slice-aggregate-note-2 : tie.Need-slice-aggregate-note-2
-slice-aggregate-note-2 c = search needs
+slice-aggregate-enqueue-2 : tie.Need-slice-aggregate-enqueue-2
+slice-aggregate-enqueue-2 c = search needs
 
-note-requires : tie.Need-note-requires
-note-requires c κs = (worklist-none, search needs)
+enqueue-requires : tie.Need-enqueue-requires
+enqueue-requires c κs = (worklist-none, search needs)
 
 slice-aggregate-next-pair : tie.Need-slice-aggregate-next-pair
 slice-aggregate-next-pair c = search needs
@@ -37,7 +37,7 @@ slice-aggregate-next-pair-2 c = search needs
 next-pair-requires : tie.Need-next-pair-requires
 next-pair-requires c κs =
     let n = c .before .before .before .before in
-    let w = n .note .ensures .grown .worklist in
+    let w = n .enqueue .ensures .grown .worklist in
     (linked n .of-model .ensures .1 .last-length, w .pairs-length, omega arith, found-few _ _ _ w)
 
 slice-aggregate-search-array : tie.Need-slice-aggregate-search-array
@@ -54,23 +54,23 @@ slice-aggregate-search-array-4 c = search needs
 
 search-array-requires : tie.Need-search-array-requires
 search-array-requires c κs =
-    let n = noted (first c) in
+    let n = enqueued (first c) in
     let p = linked n .before .before .pre in
-    searching-first (p .0) (linked n .of-model .ensures .1) (p .1) (n .note .ensures) (first c .next-pair .ensures)
+    searching-first (p .0) (linked n .of-model .ensures .1) (p .1) (n .enqueue .ensures) (first c .next-pair .ensures)
 
 returns : tie.Need-returns
 returns c y is =
     let s = c .before .before in
-    stored-searched _ _ _ _ (s .search-array .ensures) y is (linked (noted (first (s .before))) .of-model .ensures .0 y is)
+    stored-searched _ _ _ _ (s .search-array .ensures) y is (linked (enqueued (first (s .before))) .of-model .ensures .0 y is)
 
 pub never-drops-spec : {M : Type 1} → statement M
 never-drops-spec =
     tie.close
     (tie.spec
     of-model-requires
-    slice-aggregate-note
-    slice-aggregate-note-2
-    note-requires
+    slice-aggregate-enqueue
+    slice-aggregate-enqueue-2
+    enqueue-requires
     slice-aggregate-next-pair
     slice-aggregate-next-pair-2
     next-pair-requires

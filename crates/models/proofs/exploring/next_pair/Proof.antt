@@ -9,11 +9,11 @@ use Rattle.models.proofs.exploring.next_pair.Statement.{statement}
 use Rattle.models.proofs.exploring.next_pair.Tie as tie
 
 abbrev Inv-loop : tie.InvT-loop
-Inv-loop last pairs turn found turn₀ turn' =
-    (turn ≤ turn') × (turn' ≤ found) × ((k : ℕ) → turn ≤ k → k < turn' → getD last (getD pairs k 0 % 64) 0 ≡ 0)
+Inv-loop last pairs index found turn₀ index' =
+    (index ≤ index') × (index' ≤ found) × ((k : ℕ) → index ≤ k → k < index' → getD last (getD pairs k 0 % 64) 0 ≡ 0)
 
 abbrev μ-loop : tie.MeasureT-loop
-μ-loop last pairs turn found turn₀ turn' = found - turn'
+μ-loop last pairs index found turn₀ index' = found - index'
 
 loop-holds : tie.Need-loop-holds Inv-loop μ-loop
 loop-holds c = (omega arith, search needs, λ k h b. absurd (omega arith))
@@ -25,7 +25,7 @@ shared-slice-read-pair : tie.Need-shared-slice-read-pair Inv-loop μ-loop
 shared-slice-read-pair c = search needs
 
 cast-pair : tie.Need-cast-pair Inv-loop μ-loop
-cast-pair c = omega (arith, c .shared-slice-known .given (c .before .before .loop .turn))
+cast-pair c = omega (arith, c .shared-slice-known .given (c .before .before .loop .index))
 
 mul-step : tie.Need-mul-step Inv-loop μ-loop
 mul-step c = search needs
@@ -38,7 +38,7 @@ cast-step c =
     omega (
       arith,
       c .shared-slice-known2 .given (getD (c .before .before .before .before .args .pairs .now)
-          (c .before .before .before .loop .turn) 0 % 64),
+          (c .before .before .before .loop .index) 0 % 64),
     )
 
 returns : tie.Need-returns Inv-loop μ-loop
@@ -53,8 +53,8 @@ returns c =
       ends = λ z. absurd (omega (arith, c .if1 .taken));
     }
 
-add-turn : tie.Need-add-turn Inv-loop μ-loop
-add-turn c = search needs
+add-index : tie.Need-add-index Inv-loop μ-loop
+add-index c = search needs
 
 loop-less : tie.Need-loop-less Inv-loop μ-loop
 loop-less c = search needs
@@ -62,13 +62,13 @@ loop-less c = search needs
 loop-again : tie.Need-loop-again Inv-loop μ-loop
 loop-again c =
     let l = c .before .before .before .before in
-    (omega (arith, l .loop .inv .0), omega (arith, c .before .before .before .loop-test .taken), λ k h b. on k h b (decLt k (l .loop .turn)))
+    (omega (arith, l .loop .inv .0), omega (arith, c .before .before .before .loop-test .taken), λ k h b. on k h b (decLt k (l .loop .index)))
   where
-    on : (k : ℕ) → let l = c .before .before .before .before in l .before .args .turn ≤ k → k < l .loop .turn + 1 → Dec (k < l .loop .turn)
+    on : (k : ℕ) → let l = c .before .before .before .before in l .before .args .index ≤ k → k < l .loop .index + 1 → Dec (k < l .loop .index)
         → getD (l .before .args .last .now) (getD (l .before .args .pairs .now) k 0 % 64) 0 ≡ 0
     on k h b (yes a) = c .before .before .before .before .loop .inv .2 k h a
     on k h b (no a) =
-        let e : k ≡ c .before .before .before .before .loop .turn = omega arith in
+        let e : k ≡ c .before .before .before .before .loop .index = omega arith in
         rw e (omega (arith, c .if1 .left))
 
 returns-2 : tie.Need-returns-2 Inv-loop μ-loop
@@ -97,7 +97,7 @@ next-pair-spec =
     shared-slice-read-step
     cast-step
     returns
-    add-turn
+    add-index
     loop-less
     loop-again
     returns-2)

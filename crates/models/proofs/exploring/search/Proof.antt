@@ -30,9 +30,9 @@ use Rattle.models.proofs.Meeting.{enters}
 use Rattle.models.proofs.StructRows as struct
 use Rattle.models.proofs.StepRows as step
 use Rattle.models.proofs.SearchSlices.{AtStart, slices-spell, slices-tell, rooms-of, the-cursor, Rooms, seen, pairs}
-use Rattle.models.proofs.steps.step_at.Symbol as step-at-def
-use Rattle.models.proofs.steps.step_at.Symbol.{name as #step-at}
-use Rattle.models.proofs.steps.step_at.Met as step-at-thm
+use Rattle.models.proofs.steps.nth_step.Symbol as nth-step-def
+use Rattle.models.proofs.steps.nth_step.Symbol.{name as #nth-step}
+use Rattle.models.proofs.steps.nth_step.Met as nth-step-thm
 use Rattle.models.proofs.exploring.follow.Symbol as follow-def
 use Rattle.models.proofs.exploring.follow.Symbol.{name as #follow}
 use Rattle.models.proofs.exploring.follow.Met as follow-thm
@@ -43,13 +43,13 @@ use Rattle.models.proofs.exploring.search.Code as code
 use Rattle.models.proofs.exploring.search.Proof.Invariant as state
 use Rattle.models.proofs.exploring.search.Proof.Invariant.{State, steps, vals, stayed}
 use Rattle.models.proofs.exploring.search.Proof.Calling.{StepAt, Follow}
-use Rattle.models.proofs.exploring.search.Proof.Turn as turn
+use Rattle.models.proofs.exploring.search.Proof.Iteration as index
 mod Invariant
 mod Calling
-mod Turn
+mod Iteration
 
 module _ {M : Type 1} (𝓤 : URA M) (H : Heap 𝓤) (A : Atoms 𝓤) (W : Given 𝓤 H A) (mem : Memory → SProp 𝓤) (run : Routine → Fun 𝓤) (𝓣 : Tables 𝓤 H)
-    (known-step-at : Triple 𝓤 (𝓣 .C #step-at) (StepAt 𝓤 H A mem run))
+    (known-nth-step : Triple 𝓤 (𝓣 .C #nth-step) (StepAt 𝓤 H A mem run))
     (known-follow : Triple 𝓤 (𝓣 .C #follow) (Follow 𝓤 H A mem run)) where
   module _ (κs : Lfts 6) (qs : Shares 6) (a : Args search.signature κs) (steps-room : Room step.R (length (steps κs a .now)))
       (rooms : Rooms (a .1 .1)) (from-is : Is (struct.row-of the-cursor) (state.from κs a) (struct.vals the-cursor (state.from κs a)))
@@ -76,8 +76,8 @@ module _ {M : Type 1} (𝓤 : URA M) (H : Heap 𝓤) (A : Atoms 𝓤) (W : Given
         sets-local ! (of-opd ! (reads-local ! 26 refl)) 14 refl (struct.typed the-cursor 𝓤 H A W (state.from κs a) _ from-is) $
         move ! (32 ∷ []) $ use1 W (raw (⋆ 𝓤 H A (state.Owned 𝓤 H A W mem run κs qs a (seen (a .1 .1) .now) (pairs (a .1 .1) .now))))
         (state.begins 𝓤 H A W mem run κs qs a) $
-        turn.loops-out 𝓤 H A W mem run κs qs a begun (rooms .seen-room)
-        (rooms .pairs-room) l₀ l₁ l₂ l₃ l₄ l₅ l₆ l₇ l₈ l₉ l₁₀ l₁₁ l₁₂ l₁₃ l₁₄ l₁₅ 𝓣 known-step-at known-follow
+        index.loops-out 𝓤 H A W mem run κs qs a begun (rooms .seen-room)
+        (rooms .pairs-room) l₀ l₁ l₂ l₃ l₄ l₅ l₆ l₇ l₈ l₉ l₁₀ l₁₁ l₁₂ l₁₃ l₁₄ l₁₅ 𝓣 known-nth-step known-follow
         start))))))))))))))))
 
 pub search-spec : {M : Type 1} → stated.statement M
@@ -104,8 +104,8 @@ search-spec 𝓤 H 𝓜 𝓖 𝓡 =
     )
     (λ κs. (shr-slice-tells (named 0) (κs .0) step.R, (struct.tells the-cursor, slices-tell 1 (κs .1))))
     (λ κs qs bounds a g are. needs 𝓤 _ _ (walk 𝓤 H (𝓖 .A) W (𝓜 .mem) (𝓡 .run) (tablesOf 𝓤 H 𝓜 (tables 𝓤 H 𝓜 𝓡 code.env))
-    (cited 𝓤 H (StepAt 𝓤 H (𝓖 .A) (𝓜 .mem) (𝓡 .run)) 𝓜 𝓡 code.env #step-at step-at-def.routine code.calls-models·steps·step-at
-    (step-at-thm.met 𝓤 H 𝓜 𝓖 𝓡))
+    (cited 𝓤 H (StepAt 𝓤 H (𝓖 .A) (𝓜 .mem) (𝓡 .run)) 𝓜 𝓡 code.env #nth-step nth-step-def.routine code.calls-models·steps·nth-step
+    (nth-step-thm.met 𝓤 H 𝓜 𝓖 𝓡))
     (cited 𝓤 H (Follow 𝓤 H (𝓖 .A) (𝓜 .mem) (𝓡 .run)) 𝓜 𝓡 code.env #follow follow-def.routine code.calls-models·exploring·follow
     (follow-thm.met 𝓤 H 𝓜 𝓖 𝓡)) κs qs a
     (are .0 .0 .1) (rooms-of 1 (κs .1) (a .1 .1) (are .1 .1)) (are .1 .0)))

@@ -35,11 +35,11 @@ module _ (c : tie.After-record-length) where
       (start .pre .1 .are-bytes) inside is-read
       .whole
 
-ended-requires : tie.Need-ended-requires
-ended-requires c κs = search needs
+no-more-requires : tie.Need-no-more-requires
+no-more-requires c κs = search needs
 
 returns : tie.Need-returns
-returns c steps b = all-read b (c .before .if1 .taken) _ (c .ended .ensures)
+returns c steps b = all-read b (c .before .if1 .taken) _ (c .no-more .ensures)
 
 sub-read-step : tie.Need-sub-read-step
 sub-read-step c = search needs
@@ -56,14 +56,14 @@ enum-told c = search needs
 step-answer-requires : tie.Need-step-answer-requires
 step-answer-requires c κs = search needs
 
-ended-requires-2 : tie.Need-ended-requires-2
-ended-requires-2 c κs = search needs
+no-more-requires-2 : tie.Need-no-more-requires-2
+no-more-requires-2 c κs = search needs
 
 returns-2 : tie.Need-returns-2
 returns-2 c steps b =
     let r = c .before .before .before .before in
     step-refused b (r .before .if1 .left) _ (r .read-step .ensures) (c .before .before .enum-told .given .1) _ (c .before .step-answer .ensures) _
-    (c .ended2 .ensures)
+    (c .no-more2 .ensures)
 
 record-length-requires : tie.Need-record-length-requires
 record-length-requires c κs = search needs
@@ -78,14 +78,14 @@ pub next-step-spec : {M : Type 1} → statement M
 next-step-spec =
     tie.close
     (tie.spec
-    ended-requires
+    no-more-requires
     returns
     sub-read-step
     read-step-requires
     enum-known-found
     enum-told
     step-answer-requires
-    ended-requires-2
+    no-more-requires-2
     returns-2
     record-length-requires
     add-t8

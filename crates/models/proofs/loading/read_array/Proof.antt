@@ -41,7 +41,7 @@ use denote.Triple.Table.{cited}
 use denote.Triple.Walked.{says, needs, Stays, stay-none-slice, stay-none, walkOf, ends-at, goes-none-slice, goes-none}
 use denote.Exit.{yes}
 use Rattle.models.specs.Phone.{stepsAt}
-use Rattle.models.specs.Loading.{Begun, LoadedAs}
+use Rattle.models.specs.Loading.{StepsBegun, LoadedAs}
 use Rattle.models.specs.declared.Step.{Step}
 use Rattle.models.specs.declared.loading.Next.{Next}
 use Rattle.models.proofs.Locals.{passes-slice, passes-word, reads-local, reads-field, sets-local}
@@ -103,7 +103,7 @@ module _ {M : Type 1} (𝓤 : URA M) (H : Heap 𝓤) (A : Atoms 𝓤) (W : Given
     abbrev to : ℕ → ℕ → GName → ReadSteps 𝓤 H A mem run .Ghost
     to α l δ = to-steps κ (α ∷ []) b o γ f states l δ xs 𝓤 H A W mem run q
 
-    walk : Room u8 (length f) → length xs ≡ 512 → Begun f states xs 0 2
+    walk : Room u8 (length f) → length xs ≡ 512 → StepsBegun f states xs 0 2
         → ent 𝓤 (onEntry 𝓤 H A read-array.signature (κ, tt) (q, tt) a at) (WpFn 𝓤 H C Λ code.function (v ∷ vint w64 states ∷ array-low xs ∷ []) Post)
     walk file-room long begun =
         let wt = array-typed 𝓤 H A W xs is-array in

@@ -37,7 +37,7 @@ use denote.Triple.Walked.{says, needs, Stays, stay-none-slice, stay-none, stay-s
 use denote.Triple.Walked.{goes-none-slice, goes-none, goes-slice}
 use denote.Exit.{yes}
 use Rattle.models.specs.Phone.{stepsAt}
-use Rattle.models.specs.Loading.{Begun, LoadedAs}
+use Rattle.models.specs.Loading.{StepsBegun, LoadedAs}
 use Rattle.models.specs.declared.Step.{Step}
 use Rattle.models.specs.declared.loading.Next.{Next}
 use Rattle.models.proofs.Locals.{passes-slice, passes-word, reads-local, sets-local}
@@ -62,9 +62,9 @@ use Rattle.models.proofs.loading.read_steps.Statement as stated
 use Rattle.models.proofs.loading.read_steps.Code as code
 use Rattle.models.proofs.loading.read_steps.Code.Mir as body
 use Rattle.models.proofs.loading.read_steps.Proof.Calls.{NextStep, PutStep, Answered, to-next, asks-next, next-told}
-use Rattle.models.proofs.loading.read_steps.Proof.Turn.{State, state, left, Locals, Inv, turn}
+use Rattle.models.proofs.loading.read_steps.Proof.Iteration.{State, state, left, Locals, Inv, iteration}
 mod Calls
-mod Turn
+mod Iteration
 
 abbrev stayed : Stays (read-steps.ended .signature .params) (read-steps.ended .kept)
 stayed = (stay-none-slice (0 ∷ []) tt (plain (λ _. u8)) yes, (stay-none (λ _. usize) yes, (stay-slice (1 ∷ []) tt (plain (λ _. R)), tt)))
@@ -127,16 +127,16 @@ module _ {M : Type 1} (𝓤 : URA M) (H : Heap 𝓤) (A : Atoms 𝓤) (W : Given
             returns ! (look ! 10 refl) $ frees-cell ! 10 13 refl refl $ frees-cell ! 10 12 refl refl $ frees-cell ! 10 11 refl refl $
             frees-cell ! 10 10 refl refl $ frees-cell ! 0 9 refl refl $ frees-room ! 4 8 refl refl $ frees-room ! 4 7 refl refl $
             frees-room ! 4 6 refl refl $ frees-room ! 4 5 refl refl $ frees-room ! 4 4 refl refl $ free0 ! $
-            by ! (exits (t .next) (t .list) (t .is) (t .long) (t .read .ended e))
+            by ! (exits (t .next) (t .list) (t .is) (t .long) (t .read .at-end e))
 
         looped : (t : State f states count) → ent 𝓤 (⋆ 𝓤 H A (I t)) (Wp 𝓤 H (𝓣 .C) (𝓣 .Λ) E body.t-2 (atReturn 𝓤 H E Post))
         looped t =
             qed W (I t) ∵ exec ! (𝓣 .C) (𝓣 .Λ) E body.t-2 (atRet E Post) $ loops-down ! 𝓣 (left f states count) I (λ t. record {
-              prf = turn 𝓤 H A W mem run κ κ′ q q′ b o γ f states b′ o′ γ′ count l₀ l₁ l₂ l₃ l₄ l₅ l₆ l₇ l₈ l₉ 𝓣 known-next known-put
+              prf = iteration 𝓤 H A W mem run κ κ′ q q′ b o γ f states b′ o′ γ′ count l₀ l₁ l₂ l₃ l₄ l₅ l₆ l₇ l₈ l₉ 𝓣 known-next known-put
                   states-fits room Post t (ends t);
             }) t
 
-      walk : Room u8 (length f) → Begun f states ys 0 2
+      walk : Room u8 (length f) → StepsBegun f states ys 0 2
           → ent 𝓤 (onEntry 𝓤 H A read-steps.signature (κ, (κ′, tt)) (q, (q′, tt)) a vals)
           (WpFn 𝓤 H (𝓣 .C) (𝓣 .Λ) code.function (v ∷ vint w64 states ∷ v′ ∷ []) Post)
       walk file-room begun =

@@ -4,7 +4,7 @@ use native.Mathlib.Omega.{arith}
 use borrow.Author.Needs.{needs}
 use borrow.Fn.Kinds.{In}
 use borrow.Fn.PlainCycle.{Measures, is, falls, and}
-use Rattle.reading.specs.Answers.{guardsOf}
+use Rattle.reading.specs.Representations.{guardsOf}
 use Rattle.reading.proofs.Scopes.{guards-length}
 use Rattle.reading.proofs.Parts.{Found, found-is, rest-left, node-refused, is-leaf, is-variable, is-bound}
 use Rattle.reading.proofs.Parts.{is-necessity, is-max, first-refused, is-both}

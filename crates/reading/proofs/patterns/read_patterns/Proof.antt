@@ -6,15 +6,15 @@ use Prim.Native.Nat.{ℕ, _+_, _-_}
 use native.Mathlib.Omega.{arith}
 use borrow.Author.Needs.{needs}
 use Rattle.reading.specs.File.{accepted, isPattern, patternAt}
-use Rattle.reading.specs.Answers.{patternAnswer}
+use Rattle.reading.specs.Representations.{patternAnswer}
 use Rattle.reading.specs.declared.NumberedRule.{NumberedRule}
-use Rattle.reading.proofs.Heads.{Begun, none-begun, one-begun, all-begun, begun-refused, found-pattern, no-pattern-found}
+use Rattle.reading.proofs.Heads.{PatternsBegun, none-begun, one-begun, all-begun, begun-refused, found-pattern, no-pattern-found}
 use Rattle.reading.proofs.PatternBytes.{PatternStands, pattern-stands, one-stands}
 use Rattle.reading.proofs.patterns.read_patterns.Statement.{statement}
 use Rattle.reading.proofs.patterns.read_patterns.Tie as tie
 
 abbrev Inv-loop : tie.InvT-loop
-Inv-loop bytes list₀ extents₀ at₀ n₀ list extents at n = Begun bytes list extents at n
+Inv-loop bytes list₀ extents₀ at₀ n₀ list extents at n = PatternsBegun bytes list extents at n
 
 abbrev μ-loop : tie.MeasureT-loop
 μ-loop bytes list₀ extents₀ at₀ n₀ list extents at n = 32 - n
@@ -50,7 +50,7 @@ blank-rule-requires c κs = search needs
 loop-holds : tie.Need-loop-holds Inv-loop μ-loop
 loop-holds c =
     let file = c .before .before .before .before .args .bytes .now in
-    subst (λ (b : NumberedRule). Begun file (b .patterns) (b .extents) 0 0) (sym (c .before .before .blank-rule .ensures)) (none-begun file)
+    subst (λ (b : NumberedRule). PatternsBegun file (b .patterns) (b .extents) 0 0) (sym (c .before .before .blank-rule .ensures)) (none-begun file)
 
 is-pattern-requires : tie.Need-is-pattern-requires Inv-loop μ-loop
 is-pattern-requires c κs = search needs

@@ -13,11 +13,11 @@ use Rattle.synthesis.proofs.filling.fill.Statement.{statement}
 use Rattle.synthesis.proofs.filling.fill.Tie as tie
 
 abbrev Inv-loop : tie.InvT-loop
-Inv-loop after waiting falsities found n table₀ k₀ table k =
-    (k ≤ n) × (table ≡ rows 255 (answerBy after waiting falsities) (take n found) 256 k ++ drop (256 * k) table₀)
+Inv-loop after enabled falsities found n table₀ k₀ table k =
+    (k ≤ n) × (table ≡ rows 255 (answerBy after enabled falsities) (take n found) 256 k ++ drop (256 * k) table₀)
 
 abbrev μ-loop : tie.MeasureT-loop
-μ-loop after waiting falsities found n table₀ k₀ table k = n - k
+μ-loop after enabled falsities found n table₀ k₀ table k = n - k
 
 -- the table stays as long as it was
 keeps : (c : tie.At-loop Inv-loop μ-loop) → length (c .loop .table) ≡ length (c .before .before .before .before .before .args .table .now)

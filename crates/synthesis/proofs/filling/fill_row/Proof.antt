@@ -5,21 +5,21 @@ use mathlib.Core.List.{_++_}
 use native.Mathlib.Omega.{arith}
 use lib.ListN.{length, take, drop}
 use borrow.Author.Needs.{needs}
-use Rattle.synthesis.specs.Table.{entries}
+use Rattle.synthesis.specs.Table.{entriesOf}
 use Rattle.synthesis.specs.Arrays.{answerBy}
 use Rattle.synthesis.proofs.FillingRows.{entries-next, entries-all}
 use Rattle.synthesis.proofs.filling.fill_row.Statement.{statement}
 use Rattle.synthesis.proofs.filling.fill_row.Tie as tie
 
 abbrev Inv-loop : tie.InvT-loop
-Inv-loop after waiting falsities found n e row₀ c₀ row c =
-    (c ≤ 256) × (length row ≡ 256) × (row ≡ entries 255 (answerBy after waiting falsities) (take n found) e c ++ drop c row₀)
+Inv-loop after enabled falsities found n e row₀ c₀ row c =
+    (c ≤ 256) × (length row ≡ 256) × (row ≡ entriesOf 255 (answerBy after enabled falsities) (take n found) e c ++ drop c row₀)
 
 abbrev μ-loop : tie.MeasureT-loop
-μ-loop after waiting falsities found n e row₀ c₀ row c = 256 - c
+μ-loop after enabled falsities found n e row₀ c₀ row c = 256 - c
 
 loop-holds : tie.Need-loop-holds Inv-loop μ-loop
-unfolding entries
+unfolding entriesOf
 loop-holds c = search needs
 
 reached-requires : tie.Need-reached-requires Inv-loop μ-loop

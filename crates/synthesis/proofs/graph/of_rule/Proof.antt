@@ -2,7 +2,7 @@
 use mathlib.Core.Path.{refl}
 use native.Mathlib.Omega.{arith}
 use borrow.Author.Needs.{needs}
-use Rattle.synthesis.proofs.WaitingLaws.{some-below}
+use Rattle.synthesis.proofs.EnabledLaws.{some-below}
 use Rattle.synthesis.proofs.GraphLaws.{some-node, first-opened, falsities-by-kind}
 use Rattle.synthesis.proofs.graph.of_rule.Statement.{statement}
 use Rattle.synthesis.proofs.graph.of_rule.Tie as tie
@@ -39,25 +39,25 @@ link-all-requires c κs =
     let start = c .before .before .before .before .before .before .before .before .before .before .before in
     (λ k h. some-node (some-below (start .pre) h), refl)
 
-slice-aggregate-wait-all : tie.Need-slice-aggregate-wait-all
-slice-aggregate-wait-all c = search needs
+slice-aggregate-enable-all : tie.Need-slice-aggregate-enable-all
+slice-aggregate-enable-all c = search needs
 
-wait-all-requires : tie.Need-wait-all-requires
-wait-all-requires c κs = search needs
+enable-all-requires : tie.Need-enable-all-requires
+enable-all-requires c κs = search needs
 
 returns : tie.Need-returns
 returns c r num =
-    let waited = c .before in
-    let linked = waited .before .before .before in
+    let was-enabled = c .before in
+    let linked = was-enabled .before .before .before in
     let found = linked .before .before .before .before in
     let opened = found .before .before in
     record {
       first-is = first-opened (num .is-rule) 64 (opened .opening .ensures);
       falsities-are = falsities-by-kind (num .is-rule) (num .nnodes-is) (found .falsities .ensures);
       after-is = linked .link-all .ensures r (num .is-rule) (omega (arith, num .nnodes-is));
-      waiting-is = waited .wait-all .ensures r num;
+      enabled-is = was-enabled .enable-all .ensures r num;
       after-length = search needs;
-      waiting-length = search needs;
+      enabled-length = search needs;
     }
 
 pub of-rule-spec : {M : Type 1} → statement M
@@ -74,6 +74,6 @@ of-rule-spec =
     slice-aggregate-link-all-2
     slice-aggregate-link-all-3
     link-all-requires
-    slice-aggregate-wait-all
-    wait-all-requires
+    slice-aggregate-enable-all
+    enable-all-requires
     returns)

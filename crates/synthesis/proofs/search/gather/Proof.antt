@@ -52,11 +52,11 @@ loop-less c = rw (one-out (c .before)) (out (c .before))
 
 loop-again : tie.Need-loop-again Inv-loop μ-loop
 loop-again c =
-    let turn = c .before in
-    let l = turn .before in
-    rw (one-out turn) (
-      omega (arith, out turn, l .loop .inv .0),
-      gather-step (l .before .args .sets .now) (l .loop .all) (l .loop .rest) _ (member turn) ∙ l .loop .inv .1,
+    let expanded = c .before in
+    let l = expanded .before in
+    rw (one-out expanded) (
+      omega (arith, out expanded, l .loop .inv .0),
+      gather-step (l .before .args .sets .now) (l .loop .all) (l .loop .rest) _ (member expanded) ∙ l .loop .inv .1,
     )
 
 returns : tie.Need-returns Inv-loop μ-loop

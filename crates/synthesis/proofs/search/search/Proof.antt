@@ -13,11 +13,11 @@ use Rattle.synthesis.proofs.search.search.Statement.{statement}
 use Rattle.synthesis.proofs.search.search.Tie as tie
 
 abbrev Inv-loop : tie.InvT-loop
-Inv-loop after waiting falsities first list₀ n₀ k₀ list n k =
-    (k ≤ 128) × (length list ≡ 128) × Holds 128 list n (found 256 (answerBy after waiting falsities) k first)
+Inv-loop after enabled falsities first list₀ n₀ k₀ list n k =
+    (k ≤ 128) × (length list ≡ 128) × Holds 128 list n (found 256 (answerBy after enabled falsities) k first)
 
 abbrev μ-loop : tie.MeasureT-loop
-μ-loop after waiting falsities first list₀ n₀ k₀ list n k = 128 - k
+μ-loop after enabled falsities first list₀ n₀ k₀ list n k = 128 - k
 
 slice-write-list : tie.Need-slice-write-list Inv-loop μ-loop
 slice-write-list c = search needs
@@ -31,8 +31,8 @@ loop-holds c =
       inl (search needs, take-suc-set (start .args .list .now) 0 (start .args .first) (omega arith)),
     )
 
-take-turn-requires : tie.Need-take-turn-requires Inv-loop μ-loop
-take-turn-requires c κs = search needs
+expand-requires : tie.Need-expand-requires Inv-loop μ-loop
+expand-requires c κs = search needs
 
 add-k : tie.Need-add-k Inv-loop μ-loop
 add-k c = search needs
@@ -47,7 +47,7 @@ loop-again c =
     let l = taken .before .before .before in (
       search needs,
       search needs,
-      rw (add-one (l .loop .k)) (taken .take-turn .ensures _ (l .loop .inv .2)),
+      rw (add-one (l .loop .k)) (taken .expand .ensures _ (l .loop .inv .2)),
     )
 
 same-length : tie.Need-same-length Inv-loop μ-loop
@@ -66,7 +66,7 @@ search-spec =
     μ-loop
     slice-write-list
     loop-holds
-    take-turn-requires
+    expand-requires
     add-k
     loop-less
     loop-again

@@ -41,7 +41,7 @@ use Rattle.models.proofs.Slices.{slice-at}
 use Rattle.models.proofs.StructRows as struct
 use Rattle.models.proofs.StepRows as step
 use Rattle.models.proofs.SearchSlices.{Five, AtStart, Tokens, the-cursor, last, earlier, table, seen, pairs, links, slices-vals}
-use Rattle.models.proofs.steps.step_at as step-at
+use Rattle.models.proofs.steps.nth_step as nth-step
 use Rattle.models.proofs.exploring.follow as follow
 use Rattle.models.proofs.exploring.search as search
 use Rattle.models.proofs.exploring.search.Proof.Invariant as state
@@ -50,7 +50,7 @@ use Rattle.models.proofs.exploring.search.Proof.Invariant.{State, steps
 -- the contracts that the walk cites
 module _ {M : Type 1} (𝓤 : URA M) (H : Heap 𝓤) (A : Atoms 𝓤) (mem : Memory → SProp 𝓤) (run : Routine → Fun 𝓤) where
   abbrev pub StepAt : Contract 𝓤
-  StepAt = tripleOf 𝓤 H A step-at.signature (step-at.spec 𝓤 H A mem run)
+  StepAt = tripleOf 𝓤 H A nth-step.signature (nth-step.spec 𝓤 H A mem run)
 
   abbrev pub Follow : Contract 𝓤
   Follow = tripleOf 𝓤 H A follow.signature (follow.spec 𝓤 H A mem run)
@@ -69,8 +69,8 @@ module _ {M : Type 1} (𝓤 : URA M) (H : Heap 𝓤) (A : Atoms 𝓤) (W : Given
   abbrev pub index : ℕ
   index = t .at .step - 1
 
-  abbrev pub to-step-at : StepAt 𝓤 H A mem run .Ghost
-  to-step-at = (((κs .0, tt), (qs .0, tt), tt, (steps κs a, (index, tt)), (slice-vals (steps κs a), (vint w64 index ∷ [], tt))), tt)
+  abbrev pub to-nth-step : StepAt 𝓤 H A mem run .Ghost
+  to-nth-step = (((κs .0, tt), (qs .0, tt), tt, (steps κs a, (index, tt)), (slice-vals (steps κs a), (vint w64 index ∷ [], tt))), tt)
 
   -- what is left meanwhile
   abbrev pub Beside : List (Item 𝓤)
@@ -86,17 +86,17 @@ module _ {M : Type 1} (𝓤 : URA M) (H : Heap 𝓤) (A : Atoms 𝓤) (W : Given
     inside : index < length (steps κs a .now)
     inside = omega (arith, t .searching .step-inside, t .searching .searchable .steps-length)
 
-    asked : ent 𝓤 (⋆ 𝓤 H A (‵ (Steps κs a) ∷ ‵ (flft (κs .0) (qs .0)) ∷ [])) (StepAt 𝓤 H A mem run .pre to-step-at)
+    asked : ent 𝓤 (⋆ 𝓤 H A (‵ (Steps κs a) ∷ ‵ (flft (κs .0) (qs .0)) ∷ [])) (StepAt 𝓤 H A mem run .pre to-nth-step)
     asked =
         qed W (‵ (Steps κs a) ∷ ‵ (flft (κs .0) (qs .0)) ∷ []) ∵ says ! inside $ nothing ! $ move ! (2 ∷ 0 ∷ []) $ join ! $ frame ! $
         nothing ! $ owned ! usize (Is usize) (uint-makes 𝓤 H A W w64) index _ (refl, index-fits) $ fjoin ! $ move ! (1 ∷ 0 ∷ []) $ fjoin ! $ done !
 
-    pub asks : ent 𝓤 (⋆ 𝓤 H A (Owned t)) (sep 𝓤 (StepAt 𝓤 H A mem run .pre to-step-at) (⋆ 𝓤 H A Beside))
+    pub asks : ent 𝓤 (⋆ 𝓤 H A (Owned t)) (sep 𝓤 (StepAt 𝓤 H A mem run .pre to-nth-step) (⋆ 𝓤 H A Beside))
     asks =
         qed W (Owned t) ∵ move ! (6 ∷ []) $
         use1 W (‵ (Steps κs a) ⊛ ‵ (Steps κs a))
         (shr-slice-copy 𝓤 H A W (named 0) (κs .0) step.R .twice (steps κs a) (slice-vals (steps κs a))) $ split ! $
-        move ! (0 ∷ 2 ∷ []) $ use2 W (raw (StepAt 𝓤 H A mem run .pre to-step-at)) asked $ frame ! $ done !
+        move ! (0 ∷ 2 ∷ []) $ use2 W (raw (StepAt 𝓤 H A mem run .pre to-nth-step)) asked $ frame ! $ done !
 
   -- ---- the step is followed
   abbrev LentMarks : Loans → Fml

@@ -119,7 +119,7 @@ module _ {M : Type 1} (𝓤 : URA M) (H : Heap 𝓤) (A : Atoms 𝓤) (W : Given
       qed W (Owned (t .marks) (t .queue)) ∵
       suffices ! _ (ends-at 𝓤 H A search.ended stayed (search.clauses 𝓤 H A mem run) W ((κs, qs, tt, a, vals κs a), tt) (vbool (t .at .dropped))
       (t .at .dropped) (tt, (tt, (tt, (tt, (tt, (t .marks, (t .queue, tt)))))))
-      (tt, (tt, (tt, (tt, (tt, (marks-length κs a begun t, (queue-length κs a begun t, tt)))))))) $ says ! (t .searching .ended none) $
+      (tt, (tt, (tt, (tt, (tt, (marks-length κs a begun t, (queue-length κs a begun t, tt)))))))) $ says ! (t .searching .finished none) $
       nothing ! $ move ! (1 ∷ 2 ∷ 3 ∷ 4 ∷ 5 ∷ 6 ∷ 0 ∷ []) $ group ! 7 $ frame ! $
       -- [steps; last; earlier; table; seen; pairs]
       nothing ! $ move ! (6 ∷ 0 ∷ []) $ fjoin ! $ move ! (5 ∷ 0 ∷ []) $ fjoin ! $ unsaid ! $ unsaid ! $ unsaid ! $ unsaid ! $ unsaid ! $ frame ! $

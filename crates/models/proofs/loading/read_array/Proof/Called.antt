@@ -28,7 +28,7 @@ use denote.Triple.Spec.{tripleOf}
 use denote.Triple.Clauses.{Lasts, lasts}
 use denote.Triple.Walked.{says}
 use Rattle.models.specs.Phone.{stepsAt}
-use Rattle.models.specs.Loading.{Begun, LoadedAs}
+use Rattle.models.specs.Loading.{StepsBegun, LoadedAs}
 use Rattle.models.specs.declared.Step.{Step}
 use Rattle.models.specs.declared.loading.Next.{Next}
 use Rattle.models.proofs.Slices.{slice-at}
@@ -62,7 +62,7 @@ module _ (κ ν : Lft) (b o : ℕ) (γ : GName) (f : List ℕ) (states : ℕ) (b
     abbrev pub to-steps : ReadSteps 𝓤 H A mem run .Ghost
     to-steps = (((κ, (ν, tt)), (q, (fullShare, tt)), tt, a, vals), tt)
 
-    pub asks-steps : states < 2 ^ 64 → Begun f states xs 0 2
+    pub asks-steps : states < 2 ^ 64 → StepsBegun f states xs 0 2
         → ent 𝓤 (⋆ 𝓤 H A ((‵ (flft κ q) ⊛ ‵ (flft ν fullShare)) ∷ ‵ (File κ b o γ f) ∷ ‵ (Records ν b′ 0 δ (length xs) xs) ∷ []))
         (sep 𝓤 (ReadSteps 𝓤 H A mem run .pre to-steps) (sem 𝓤 H A (File κ b o γ f)))
     asks-steps states-fits begun =

@@ -27,7 +27,7 @@ use denote.Triple.Entry.{Vals}
 use denote.Triple.Spec.{tripleOf}
 use denote.Triple.Clauses.{Lasts, lasts}
 use denote.Triple.Walked.{says}
-use Rattle.models.specs.Loading.{Begun, NextRead}
+use Rattle.models.specs.Loading.{StepsBegun, NextRead}
 use Rattle.models.specs.declared.Step.{Step}
 use Rattle.models.specs.declared.loading.Next.{Next}
 use Rattle.models.proofs.Slices.{slice-at}
@@ -56,7 +56,7 @@ module _ (κ : Lft) (b o : ℕ) (γ : GName) (f : List ℕ) (states n at : ℕ) 
   vals = (file-val b o f ∷ [], (vint w64 states ∷ [], (vint w64 n ∷ [], (vint w64 at ∷ [], tt))))
 
   abbrev Told : Next → Type 0
-  Told r = (steps : List Step) → Begun f states steps n at → NextRead f states steps n r
+  Told r = (steps : List Step) → StepsBegun f states steps n at → NextRead f states steps n r
 
   -- what is known of the result r, which the machine has as w
   abbrev pub Answered : Next → Val → Type 0
@@ -66,7 +66,7 @@ module _ (κ : Lft) (b o : ℕ) (γ : GName) (f : List ℕ) (states n at : ℕ) 
     abbrev pub to-next : NextStep 𝓤 H A mem run .Ghost
     to-next = (((κ, tt), (q, tt), tt, a, vals), tt)
 
-    pub asks-next : states < 2 ^ 64 → n < 2 ^ 64 → at < 2 ^ 64 → ((steps : List Step) × Begun f states steps n at)
+    pub asks-next : states < 2 ^ 64 → n < 2 ^ 64 → at < 2 ^ 64 → ((steps : List Step) × StepsBegun f states steps n at)
         → ent 𝓤 (⋆ 𝓤 H A (‵ (flft κ q) ∷ ‵ (File κ b o γ f) ∷ [])) (sep 𝓤 (NextStep 𝓤 H A mem run .pre to-next) (sem 𝓤 H A (File κ b o γ f)))
     asks-next states-fits n-fits at-fits begun =
         qed W (‵ (flft κ q) ∷ ‵ (File κ b o γ f) ∷ []) ∵ move ! (1 ∷ []) $

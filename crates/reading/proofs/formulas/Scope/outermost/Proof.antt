@@ -1,7 +1,7 @@
 -- `Scope::outermost` meets its contract.
 use mathlib.Core.Path.{refl}
 use native.Mathlib.Omega.{arith}
-use Rattle.reading.specs.Answers.{lastFirst, guardsOf}
+use Rattle.reading.specs.Representations.{lastFirst, guardsOf}
 use Rattle.reading.proofs.formulas.Scope.outermost.Statement.{statement}
 use Rattle.reading.proofs.formulas.Scope.outermost.Tie as tie
 

@@ -40,12 +40,12 @@ use Rattle.models.proofs.Meeting.{enters}
 use Rattle.models.proofs.Slices.{slice-at}
 use Rattle.models.proofs.StructRows.{low, vals, tells, makes, typed}
 use Rattle.models.proofs.StepRows.{the-step, R, stepTy, copy}
-use Rattle.models.proofs.steps.step_at.Key.{name as #step-at}
-use Rattle.models.proofs.steps.step_at as step-at
-use Rattle.models.proofs.steps.step_at.Statement as stated
-use Rattle.models.proofs.steps.step_at.Code as code
+use Rattle.models.proofs.steps.nth_step.Key.{name as #nth-step}
+use Rattle.models.proofs.steps.nth_step as nth-step
+use Rattle.models.proofs.steps.nth_step.Statement as stated
+use Rattle.models.proofs.steps.nth_step.Code as code
 
-abbrev stayed : Stays (step-at.ended .signature .params) (step-at.ended .kept)
+abbrev stayed : Stays (nth-step.ended .signature .params) (nth-step.ended .kept)
 stayed = (stay-none-slice (0 ∷ []) tt (plain (λ _. R)) yes, (stay-none (λ _. usize) yes, tt))
 
 module _ {M : Type 1} (𝓤 : URA M) (H : Heap 𝓤) (A : Atoms 𝓤) (W : Given 𝓤 H A) (mem : Memory → SProp 𝓤) (run : Routine → Fun 𝓤) (κ : Lft) (q : Share)
@@ -60,23 +60,23 @@ module _ {M : Type 1} (𝓤 : URA M) (H : Heap 𝓤) (A : Atoms 𝓤) (W : Given
   mach = low the-step elem
 
   -- the machine values that x has
-  abbrev at : Vals step-at.signature (κ, tt)
+  abbrev at : Vals nth-step.signature (κ, tt)
   at = (sliceVal (b, o) (length ys) ∷ [], (vint w64 i ∷ [], tt))
 
   abbrev Post : Val → SProp 𝓤
-  Post = walkOf 𝓤 H A step-at.ended stayed (step-at.clauses 𝓤 H A mem run) .post (((κ, tt), (q, tt), tt, x, at), tt)
+  Post = walkOf 𝓤 H A nth-step.ended stayed (nth-step.clauses 𝓤 H A mem run) .post (((κ, tt), (q, tt), tt, x, at), tt)
 
   exits : Is R elem (mach ∷ []) → ent 𝓤 (⋆ 𝓤 H A (‵ (flft κ q) ∷ ‵ (ShrSlice (named 0) κ R .own (x .0) (at .0)) ∷ ‵ (usize .own i (vint w64 i ∷ []))
       ∷ [])) (Post mach)
   exits g =
       qed W (‵ (flft κ q) ∷ ‵ (ShrSlice (named 0) κ R .own (x .0) (at .0)) ∷ ‵ (usize .own i (vint w64 i ∷ [])) ∷ []) ∵
-      suffices ! _ (ends-at 𝓤 H A step-at.ended stayed (step-at.clauses 𝓤 H A mem run) W (((κ, tt), (q, tt), tt, x, at), tt) mach elem (tt, (tt, tt))
+      suffices ! _ (ends-at 𝓤 H A nth-step.ended stayed (nth-step.clauses 𝓤 H A mem run) W (((κ, tt), (q, tt), tt, x, at), tt) mach elem (tt, (tt, tt))
       (tt, (tt, tt))) $ says ! refl $
       nothing ! $ move ! (1 ∷ 0 ∷ []) $ join ! $ nothing ! $ move ! (3 ∷ 0 ∷ []) $ fjoin ! $ move ! (2 ∷ 0 ∷ []) $ fjoin ! $ move ! (1 ∷ 0 ∷ []) $
       frame ! $ frame ! $ owned ! R (Is R) (makes the-step 𝓤 H A) elem _ g $ done !
 
   module _ (C : Calls 𝓤 H) (Λ : Loops 𝓤 H) where
-    walk : Room R (length ys) → i < 2 ^ 64 → i < length ys → ent 𝓤 (onEntry 𝓤 H A step-at.signature (κ, tt) (q, tt) x at)
+    walk : Room R (length ys) → i < 2 ^ 64 → i < length ys → ent 𝓤 (onEntry 𝓤 H A nth-step.signature (κ, tt) (q, tt) x at)
         (WpFn 𝓤 H C Λ code.function (sliceVal (b, o) (length ys) ∷ vint w64 i ∷ []) Post)
     walk gn gi l =
         let six : i * 6 < 2 ^ 64 = omega (arith, gn .0, gn .1) in
@@ -101,11 +101,11 @@ module _ {M : Type 1} (𝓤 : URA M) (H : Heap 𝓤) (A : Atoms 𝓤) (W : Given
         frees-cell ! 10 10 refl refl $ frees-cell ! 8 8 refl refl $ frees-cell ! 6 6 refl refl $ free0 ! $
         move ! (3 ∷ 1 ∷ []) $ fjoin ! $ move ! (3 ∷ 0 ∷ []) $ fjoin ! $ move ! (3 ∷ []) $ fsplit ! $ keep ! (3 ∷ 2 ∷ 0 ∷ []) $ by ! (exits g)))))))))
 
-pub step-at-spec : {M : Type 1} → stated.statement M
+pub nth-step-spec : {M : Type 1} → stated.statement M
 unfolding code.routine
-step-at-spec 𝓤 H 𝓜 𝓖 𝓡 =
+nth-step-spec 𝓤 H 𝓜 𝓖 𝓡 =
     let W = givenOf 𝓤 H 𝓜 𝓖 in
-    enters 𝓤 H 𝓜 𝓖 𝓡 step-at.ended stayed (step-at.clauses 𝓤 H (𝓖 .A) (𝓜 .mem) (𝓡 .run)) code.env #step-at code.function
+    enters 𝓤 H 𝓜 𝓖 𝓡 nth-step.ended stayed (nth-step.clauses 𝓤 H (𝓖 .A) (𝓜 .mem) (𝓡 .run)) code.env #nth-step code.function
     (code.unfolded 𝓤 H 𝓜 𝓡)
     (λ κs. (slice-vals, (uint-vals w64, tt)))
     (goes-none-slice 𝓤 H (𝓖 .A) W 1 (0 ∷ []) tt (plain (λ _. R)) yes, (goes-none 𝓤 H (𝓖 .A) W 1 (λ _. usize) yes (λ κs x f. refl), tt))

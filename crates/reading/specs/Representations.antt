@@ -11,8 +11,8 @@ use Rattle.reading.specs.File.{Patterns, Symbol, Truth, Falsity, Both, M
 use Rattle.reading.specs.Rule.{Guards}
 use Rattle.reading.specs.Numbered.{kinds, args, padded, noPattern, noExtent}
 use Rattle.reading.specs.declared.Pattern.{Pattern}
-use Rattle.reading.specs.declared.Answer.{Answer}
-use Rattle.reading.specs.declared.Answer as Answer′
+use Rattle.reading.specs.declared.Acceptance.{Acceptance}
+use Rattle.reading.specs.declared.Acceptance as Acceptance′
 use Rattle.reading.specs.declared.patterns.PatternRead.{PatternRead}
 use Rattle.reading.specs.declared.patterns.PatternRead as PatternRead′
 use Rattle.reading.specs.declared.patterns.Head.{Head}
@@ -56,13 +56,13 @@ formulaRead (refused number place) = FormulaRead′.the-variants.Refused number 
 
 -- ---- refusals passed up
 
-abbrev pub patternAnswer : PatternRead → Answer
-patternAnswer (PatternRead′.the-variants.Read p) = Answer′.the-variants.Accepted
-patternAnswer (PatternRead′.the-variants.Refused number place) = Answer′.the-variants.Refused number place
+abbrev pub patternAnswer : PatternRead → Acceptance
+patternAnswer (PatternRead′.the-variants.Read p) = Acceptance′.the-variants.Accepted
+patternAnswer (PatternRead′.the-variants.Refused number place) = Acceptance′.the-variants.Refused number place
 
-abbrev pub formulaAnswer : FormulaRead → Answer
-formulaAnswer (FormulaRead′.the-variants.Read r) = Answer′.the-variants.Accepted
-formulaAnswer (FormulaRead′.the-variants.Refused number place) = Answer′.the-variants.Refused number place
+abbrev pub formulaAnswer : FormulaRead → Acceptance
+formulaAnswer (FormulaRead′.the-variants.Read r) = Acceptance′.the-variants.Accepted
+formulaAnswer (FormulaRead′.the-variants.Refused number place) = Acceptance′.the-variants.Refused number place
 
 -- no caller passes a node up that was read, so any case will do for it
 abbrev pub passedUp : NodeRead → FormulaRead
@@ -73,7 +73,7 @@ passedUp (NodeRead′.the-variants.Refused number place) = FormulaRead′.the-va
 
 abbrev pub headOf : Patterns → Head
 headOf ps = record {
-  answer = Answer′.the-variants.Accepted;
+  answer = Acceptance′.the-variants.Accepted;
   next = ps .next;
   count = length (ps .list);
   list = padded 32 noPattern (ps .list);
@@ -82,7 +82,7 @@ headOf ps = record {
 
 abbrev pub HeadOf : Outcome Patterns → Head → Type 0
 HeadOf (accepted ps) h = h ≡ headOf ps
-HeadOf (refused number place) h = h .answer ≡ Answer′.the-variants.Refused number place
+HeadOf (refused number place) h = h .answer ≡ Acceptance′.the-variants.Refused number place
 
 -- ---- the max nodes around a record
 

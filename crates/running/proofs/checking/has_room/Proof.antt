@@ -2,8 +2,8 @@
 use native.Mathlib.Omega.{arith}
 use borrow.Author.Tests.{le-leb, lt-leb}
 use lib.ListN.{length}
-use Rattle.running.proofs.checking.is_roomy.Statement.{statement}
-use Rattle.running.proofs.checking.is_roomy.Tie as tie
+use Rattle.running.proofs.checking.has_room.Statement.{statement}
+use Rattle.running.proofs.checking.has_room.Tie as tie
 
 returns : tie.Need-returns
 returns c =
@@ -15,5 +15,5 @@ returns-2 c =
     let x = c .before .args in
     rw (le-leb (length (x .scans .now)) (x .output) (omega arith))
 
-pub is-roomy-spec : {M : Type 1} → statement M
-is-roomy-spec = tie.close (tie.spec returns returns-2)
+pub has-room-spec : {M : Type 1} → statement M
+has-room-spec = tie.close (tie.spec returns returns-2)

@@ -106,12 +106,12 @@ module _ {M : Type 1} (𝓤 : URA M) (H : Heap 𝓤) (A : Atoms 𝓤) (W : Given
       abbrev ask : State f states count → NextStep 𝓤 H A mem run .Ghost
       ask t = to-next κ b o γ f states (t .next .n + 1) (t .next .at) 𝓤 H A W mem run q
 
-      pub turn : (t : State f states count)
+      pub iteration : (t : State f states count)
           → (t .next .more ≡ false → ent 𝓤 (⋆ 𝓤 H A (Inv t)) (Wp 𝓤 H (𝓣 .C) (𝓣 .Λ) Locals body.t-3 (atReturn 𝓤 H Locals Post)))
           → ent 𝓤 (⋆ 𝓤 H A (Inv t)) (Wp 𝓤 H (𝓣 .C) (𝓣 .Λ) Locals body.turn-1 (afterTurn 𝓤 H (Below 𝓤 H A (Less (left f states count)) Inv t)
           (AfterLoop 𝓤 H 𝓣 Locals body.t-3 Post)))
       unfolding afterTurn
-      turn t ends =
+      iteration t ends =
           let x = t .next in
           let ys = t .list in
           let zs = set ys (x .n) (x .step) in

@@ -3,22 +3,22 @@ use Prim.Native.Nat.{_-_, _≤_, _<_}
 use native.Mathlib.Omega.{arith}
 use lib.ListN.{length}
 use borrow.Author.Needs.{needs}
-use Rattle.synthesis.proofs.Marking.{MarkedTo, marked-none, marked-next, marked-all}
-use Rattle.synthesis.proofs.graph.mark.Statement.{statement}
-use Rattle.synthesis.proofs.graph.mark.Tie as tie
+use Rattle.synthesis.proofs.EnablingCodes.{CodesEnabledTo, codes-enabled-none, codes-enabled-next, codes-enabled-all}
+use Rattle.synthesis.proofs.graph.enable_codes.Statement.{statement}
+use Rattle.synthesis.proofs.graph.enable_codes.Tie as tie
 
 abbrev Inv-loop : tie.InvT-loop
-Inv-loop p k waiting₀ c₀ waiting c = (c ≤ 256) × MarkedTo c p k waiting₀ waiting
+Inv-loop p k enabled₀ c₀ enabled c = (c ≤ 256) × CodesEnabledTo c p k enabled₀ enabled
 
 abbrev μ-loop : tie.MeasureT-loop
-μ-loop p k waiting₀ c₀ waiting c = 256 - c
+μ-loop p k enabled₀ c₀ enabled c = 256 - c
 
 -- there is an element for every code below 256
-room : (c : tie.In-loop Inv-loop μ-loop) → c .before .loop .c < length (c .before .loop .waiting)
+room : (c : tie.In-loop Inv-loop μ-loop) → c .before .loop .c < length (c .before .loop .enabled)
 room c = omega (arith, c .before .loop .inv .1 .long)
 
 loop-holds : tie.Need-loop-holds Inv-loop μ-loop
-loop-holds c = (search needs, marked-none _ _ _)
+loop-holds c = (search needs, codes-enabled-none _ _ _)
 
 mul-with-node : tie.Need-mul-with-node Inv-loop μ-loop
 mul-with-node c = search needs
@@ -35,11 +35,11 @@ covers-requires c κs = search needs
 with-node-requires : tie.Need-with-node-requires Inv-loop μ-loop
 with-node-requires c κs = search needs
 
-mul-waiting : tie.Need-mul-waiting Inv-loop μ-loop
-mul-waiting c = search needs
+mul-enabled : tie.Need-mul-enabled Inv-loop μ-loop
+mul-enabled c = search needs
 
-slice-write-waiting : tie.Need-slice-write-waiting Inv-loop μ-loop
-slice-write-waiting c = room (c .before .before .before)
+slice-write-enabled : tie.Need-slice-write-enabled Inv-loop μ-loop
+slice-write-enabled c = room (c .before .before .before)
 
 add-c : tie.Need-add-c Inv-loop μ-loop
 add-c c = search needs
@@ -49,17 +49,17 @@ loop-less c = search needs
 
 loop-again : tie.Need-loop-again Inv-loop μ-loop
 loop-again c =
-    let turn = c .before .before .before in
-    (search needs, marked-next _ _ (room turn) (c .before .covers .ensures) (c .with-node .ensures) (turn .before .loop .inv .1))
+    let expanded = c .before .before .before in
+    (search needs, codes-enabled-next _ _ (room expanded) (c .before .covers .ensures) (c .with-node .ensures) (expanded .before .loop .inv .1))
 
 same-length : tie.Need-same-length Inv-loop μ-loop
 same-length c = c .before .loop .inv .1 .long
 
 returns : tie.Need-returns Inv-loop μ-loop
-returns c = marked-all (c .loop-test .left) (c .before .loop .inv .1)
+returns c = codes-enabled-all (c .loop-test .left) (c .before .loop .inv .1)
 
-pub mark-spec : {M : Type 1} → statement M
-mark-spec =
+pub enable-codes-spec : {M : Type 1} → statement M
+enable-codes-spec =
     tie.close
     (tie.spec
     Inv-loop
@@ -70,8 +70,8 @@ mark-spec =
     cast-covers
     covers-requires
     with-node-requires
-    mul-waiting
-    slice-write-waiting
+    mul-enabled
+    slice-write-enabled
     add-c
     loop-less
     loop-again

@@ -9,20 +9,20 @@ use lib.Seq.{getD-set-same, getD-set-other}
 use borrow.Author.Count.{below-more}
 use Rattle.reading.specs.Pattern.{covers}
 use Rattle.reading.specs.declared.Pattern.{Pattern}
-use Rattle.synthesis.specs.Arrays.{withNode, Marked}
+use Rattle.synthesis.specs.Arrays.{withNode, CodesEnabled}
 
 -- the codes below c are done
-pub record MarkedTo (c : ℕ) (p : Pattern) (k : ℕ) (before after : List ℕ) : Type 0 where
+pub record CodesEnabledTo (c : ℕ) (p : Pattern) (k : ℕ) (before after : List ℕ) : Type 0 where
   pub long : length after ≡ length before
   pub done : (j : ℕ) → j < c → getD after j 0 ≡ withNode (getD before j 0) k (covers p j)
   pub rest : (j : ℕ) → c ≤ j → getD after j 0 ≡ getD before j 0
 
-pub marked-none : (p : Pattern) (k : ℕ) (xs : List ℕ) → MarkedTo 0 p k xs xs
-marked-none p k xs = record { long = refl; done = λ j h. absurd (omega arith); rest = λ j h. refl }
+pub codes-enabled-none : (p : Pattern) (k : ℕ) (xs : List ℕ) → CodesEnabledTo 0 p k xs xs
+codes-enabled-none p k xs = record { long = refl; done = λ j h. absurd (omega arith); rest = λ j h. refl }
 
-pub marked-next : {c : ℕ} {p : Pattern} {k : ℕ} {before after : List ℕ} (b : Bool) (e : ℕ) → c < length after → b ≡ covers p c
-    → e ≡ withNode (getD after c 0) k b → MarkedTo c p k before after → MarkedTo (c + 1) p k before (set after c e)
-marked-next {c} {p} {k} {before} {after} b e h q w m = record {
+pub codes-enabled-next : {c : ℕ} {p : Pattern} {k : ℕ} {before after : List ℕ} (b : Bool) (e : ℕ) → c < length after → b ≡ covers p c
+    → e ≡ withNode (getD after c 0) k b → CodesEnabledTo c p k before after → CodesEnabledTo (c + 1) p k before (set after c e)
+codes-enabled-next {c} {p} {k} {before} {after} b e h q w m = record {
   long = length-set after c e ∙ m .long;
   done = below-more (λ j. getD (set after c e) j 0 ≡ withNode (getD before j 0) k (covers p j)) c
       (λ j l. getD-set-other after c j e 0 (λ z. omega (arith, z)) ∙ m .done j l)
@@ -30,5 +30,5 @@ marked-next {c} {p} {k} {before} {after} b e h q w m = record {
   rest = λ j l. getD-set-other after c j e 0 (λ z. omega (arith, z)) ∙ m .rest j (omega arith);
 }
 
-pub marked-all : {c : ℕ} {p : Pattern} {k : ℕ} {before after : List ℕ} → 256 ≤ c → MarkedTo c p k before after → Marked p k before after
-marked-all l m = record { is = λ j h. m .done j (omega arith) }
+pub codes-enabled-all : {c : ℕ} {p : Pattern} {k : ℕ} {before after : List ℕ} → 256 ≤ c → CodesEnabledTo c p k before after → CodesEnabled p k before after
+codes-enabled-all l m = record { is = λ j h. m .done j (omega arith) }

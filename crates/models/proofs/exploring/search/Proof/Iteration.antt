@@ -41,8 +41,8 @@ use Rattle.models.proofs.Reborrowing.{reborrows}
 use Rattle.models.proofs.StructRows as struct
 use Rattle.models.proofs.StepRows as step
 use Rattle.models.proofs.SearchSlices.{AtStart, the-cursor, cursorTy, last, earlier, table, seen, pairs}
-use Rattle.models.proofs.steps.step_at as step-at
-use Rattle.models.proofs.steps.step_at.Symbol.{name as #step-at}
+use Rattle.models.proofs.steps.nth_step as nth-step
+use Rattle.models.proofs.steps.nth_step.Symbol.{name as #nth-step}
 use Rattle.models.proofs.exploring.follow.Symbol.{name as #follow}
 use Rattle.models.proofs.exploring.search as search
 use Rattle.models.proofs.exploring.search.Code.Mir as mir-of
@@ -103,8 +103,8 @@ module _ {M : Type 1} (𝓤 : URA M) (H : Heap 𝓤) (A : Atoms 𝓤) (W : Given
   abbrev index : State κs a → ℕ
   index t = calling.index 𝓤 H A W mem run κs qs a begun t
 
-  abbrev to-step-at : State κs a → StepAt 𝓤 H A mem run .Ghost
-  to-step-at t = calling.to-step-at 𝓤 H A W mem run κs qs a begun t
+  abbrev to-nth-step : State κs a → StepAt 𝓤 H A mem run .Ghost
+  to-nth-step t = calling.to-nth-step 𝓤 H A W mem run κs qs a begun t
 
   abbrev to-follow : State κs a → Step → Val → Loans → Follow 𝓤 H A mem run .Ghost
   to-follow t = calling.to-follow 𝓤 H A W mem run κs qs a begun t
@@ -112,7 +112,7 @@ module _ {M : Type 1} (𝓤 : URA M) (H : Heap 𝓤) (A : Atoms 𝓤) (W : Given
   abbrev Post : Val → SProp 𝓤
   Post = state.Post 𝓤 H A W mem run κs qs a
 
-  module _ (𝓣 : Tables 𝓤 H) (known-step-at : Triple 𝓤 (𝓣 .C #step-at) (StepAt 𝓤 H A mem run))
+  module _ (𝓣 : Tables 𝓤 H) (known-nth-step : Triple 𝓤 (𝓣 .C #nth-step) (StepAt 𝓤 H A mem run))
       (known-follow : Triple 𝓤 (𝓣 .C #follow) (Follow 𝓤 H A mem run)) where
     more : (t : State κs a) → Holds (ltb 0 (t .at .step)) → 0 < t .at .step
     more t = ltb→lt 0 (t .at .step)
@@ -128,14 +128,14 @@ module _ {M : Type 1} (𝓤 : URA M) (H : Heap 𝓤) (A : Atoms 𝓤) (W : Given
         tests ! (reads-local ! 13 refl) (λ some-left.
         sets-local ! (bin ! (reads-field ! 15 3 refl refl refl) (lit ! tt) (more t some-left)) 9 refl
         (tt, record { fits = calling.index-fits 𝓤 H A W mem run κs qs a begun t (more t some-left) }) $
-        use1 W (raw (StepAt 𝓤 H A mem run .pre (to-step-at t)) ⊛ raw (⋆ 𝓤 H A (calling.Beside 𝓤 H A W mem run κs qs a begun t)))
+        use1 W (raw (StepAt 𝓤 H A mem run .pre (to-nth-step t)) ⊛ raw (⋆ 𝓤 H A (calling.Beside 𝓤 H A W mem run κs qs a begun t)))
         (calling.asks 𝓤 H A W mem run κs qs a begun t (more t some-left)) $ split ! $
         -- [what step_at asks; the rest of what is owned; _15; …; _14; …; _0; …]
-        calls-at ! (fmOf 𝓤 H (W .laws) 𝓣) (StepAt 𝓤 H A mem run) known-step-at (to-step-at t)
+        calls-at ! (fmOf 𝓤 H (W .laws) 𝓣) (StepAt 𝓤 H A mem run) known-nth-step (to-nth-step t)
         (and-then ! (reads-local ! 30 refl) (and-then ! (reads-local ! 10 refl) (no-more !))) (λ u.
         use1 W (later (some (λ (s : Step). ((‵ (flft (κs .0) (qs .0)) ⊛ ‵ ftrue) ⊛ ‵ (step.R .own s (u ∷ [])))
-        ⊛ some (λ (ws : Lasts step-at.ended (κs .0, tt) (steps κs a, (index t, tt))).
-        ‵ (lasts step-at.ended (κs .0, tt) (steps κs a, (index t, tt)) ws)
+        ⊛ some (λ (ws : Lasts nth-step.ended (κs .0, tt) (steps κs a, (index t, tt))).
+        ‵ (lasts nth-step.ended (κs .0, tt) (steps κs a, (index t, tt)) ws)
         ⊛ raw (fact 𝓤 (s ≡ getD (steps κs a .now) (index t) noStep)))))) (id⊢ 𝓤 _) $
         await ! tt $ pick ! (λ s. split ! $ move ! (1 ∷ []) $ pick ! (λ ws. split ! $ drop ! $
         heard ! (s ≡ getD (steps κs a .now) (index t) noStep) (λ is. split ! $ move ! (1 ∷ []) $

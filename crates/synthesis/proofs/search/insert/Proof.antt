@@ -1,13 +1,13 @@
 -- `search::note` meets its contract.
 use native.Mathlib.Omega.{arith}
 use borrow.Author.Needs.{needs}
-use Rattle.synthesis.proofs.Finding.{with-grows}
+use Rattle.synthesis.proofs.Finding.{insert-grows}
 use Rattle.synthesis.proofs.HoldsLaws.{held-still, held-old, held-full, held-new}
-use Rattle.synthesis.proofs.search.note.Statement.{statement}
-use Rattle.synthesis.proofs.search.note.Tie as tie
+use Rattle.synthesis.proofs.search.insert.Statement.{statement}
+use Rattle.synthesis.proofs.search.insert.Tie as tie
 
 returns : tie.Need-returns
-returns c l h = held-still 128 _ _ l _ h (c .if1 .taken) (with-grows l _)
+returns c l h = held-still 128 _ _ l _ h (c .if1 .taken) (insert-grows l _)
 
 find-requires : tie.Need-find-requires
 find-requires c κs = search needs
@@ -39,8 +39,8 @@ same-length-3 c = search needs
 returns-4 : tie.Need-returns-4
 returns-4 c l h = held-new 128 _ _ l (c .before .before .before .before .before .before .pre) h _ (omega arith) (omega arith)
 
-pub note-spec : {M : Type 1} → statement M
-note-spec =
+pub insert-spec : {M : Type 1} → statement M
+insert-spec =
     tie.close
     (tie.spec
     returns

@@ -2,9 +2,9 @@
 use Prim.Native.Nat.{_<_}
 use native.Mathlib.Omega.{arith}
 use borrow.Author.Needs.{needs}
-use Rattle.models.proofs.FoundPairs.{noted-old, found-room, noted-new}
-use Rattle.models.proofs.exploring.note.Statement.{statement}
-use Rattle.models.proofs.exploring.note.Tie as tie
+use Rattle.models.proofs.FoundPairs.{enqueued-old, found-room, enqueued-new}
+use Rattle.models.proofs.exploring.enqueue.Statement.{statement}
+use Rattle.models.proofs.exploring.enqueue.Tie as tie
 
 -- where a new pair is noted
 room : (c : tie.Else1) → c .before .before .args .found < 8192
@@ -14,7 +14,7 @@ slice-read-if1 : tie.Need-slice-read-if1
 slice-read-if1 c = search needs
 
 returns : tie.Need-returns
-returns c = noted-old _ _ _ (c .before .before .pre .0) _ (c .if1 .taken)
+returns c = enqueued-old _ _ _ (c .before .before .pre .0) _ (c .if1 .taken)
 
 slice-write-seen : tie.Need-slice-write-seen
 slice-write-seen c = search needs
@@ -38,10 +38,10 @@ same-length-2 : tie.Need-same-length-2
 same-length-2 c = search needs
 
 returns-2 : tie.Need-returns-2
-returns-2 c = noted-new _ _ _ (c .before .before .pre .0) _ (c .before .before .pre .1) (c .if1 .left)
+returns-2 c = enqueued-new _ _ _ (c .before .before .pre .0) _ (c .before .before .pre .1) (c .if1 .left)
 
-pub note-spec : {M : Type 1} → statement M
-note-spec =
+pub enqueue-spec : {M : Type 1} → statement M
+enqueue-spec =
     tie.close
     (tie.spec
     slice-read-if1

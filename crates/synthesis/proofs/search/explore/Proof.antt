@@ -6,28 +6,28 @@ use native.Mathlib.Numerals.{add-one}
 use native.Mathlib.Omega.{arith}
 use lib.ListN.{length}
 use borrow.Author.Needs.{needs}
-use Rattle.synthesis.specs.Search.{noted}
+use Rattle.synthesis.specs.Search.{explored}
 use Rattle.synthesis.specs.Arrays.{answerBy, Holds}
-use Rattle.synthesis.proofs.search.note_row.Statement.{statement}
-use Rattle.synthesis.proofs.search.note_row.Tie as tie
+use Rattle.synthesis.proofs.search.explore.Statement.{statement}
+use Rattle.synthesis.proofs.search.explore.Tie as tie
 
 abbrev Inv-loop : tie.InvT-loop
-Inv-loop after waiting falsities list₀ n e m₀ c₀ list m c =
+Inv-loop after enabled falsities list₀ n e m₀ c₀ list m c =
     (c ≤ 256) × (length list ≡ 128)
-    × ((l : List ℕ) → Holds 128 list₀ n l → Holds 128 list m (noted 256 (answerBy after waiting falsities) e c l))
+    × ((l : List ℕ) → Holds 128 list₀ n l → Holds 128 list m (explored 256 (answerBy after enabled falsities) e c l))
 
 abbrev μ-loop : tie.MeasureT-loop
-μ-loop after waiting falsities list₀ n e m₀ c₀ list m c = 256 - c
+μ-loop after enabled falsities list₀ n e m₀ c₀ list m c = 256 - c
 
 loop-holds : tie.Need-loop-holds Inv-loop μ-loop
-unfolding noted
+unfolding explored
 loop-holds c = (search needs, search needs, λ l h. h)
 
 reached-requires : tie.Need-reached-requires Inv-loop μ-loop
 reached-requires c κs = search needs
 
-note-answer-requires : tie.Need-note-answer-requires Inv-loop μ-loop
-note-answer-requires c κs = search needs
+insert-answer-requires : tie.Need-insert-answer-requires Inv-loop μ-loop
+insert-answer-requires c κs = search needs
 
 add-c : tie.Need-add-c Inv-loop μ-loop
 add-c c = search needs
@@ -36,13 +36,13 @@ loop-less : tie.Need-loop-less Inv-loop μ-loop
 loop-less c = search needs
 
 loop-again : tie.Need-loop-again Inv-loop μ-loop
-unfolding noted answerBy
+unfolding explored answerBy
 loop-again c =
     let told = c .before .before in
     let l = told .before .before .before .before in (
       search needs,
       search needs,
-      λ m h. rw (add-one (l .loop .c), ← told .before .before .reached .ensures) (told .note-answer .ensures _ (l .loop .inv .2 m h)),
+      λ m h. rw (add-one (l .loop .c), ← told .before .before .reached .ensures) (told .insert-answer .ensures _ (l .loop .inv .2 m h)),
     )
 
 same-length : tie.Need-same-length Inv-loop μ-loop
@@ -53,15 +53,15 @@ returns c l h =
     let all : c .before .loop .c ≡ 256 = omega arith in
     rw all at (c .before .loop .inv .2 l h)
 
-pub note-row-spec : {M : Type 1} → statement M
-note-row-spec =
+pub explore-spec : {M : Type 1} → statement M
+explore-spec =
     tie.close
     (tie.spec
     Inv-loop
     μ-loop
     loop-holds
     reached-requires
-    note-answer-requires
+    insert-answer-requires
     add-c
     loop-less
     loop-again
