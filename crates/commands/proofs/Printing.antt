@@ -46,8 +46,8 @@ prints-answer s table r bytes shows written =
 
 pub settled-by-buffer : SettledByBuffer
 unfolding buildingOf synthesisOf
-settled-by-buffer s size = rw (first-bytes s 4096 (omega arith))
+settled-by-buffer s capacity = rw (first-bytes s 4096 (omega arith))
 
 pub judgment-settled-by-buffer : JudgmentSettledByBuffer
 unfolding judgingOf
-judgment-settled-by-buffer s f size = rw (settled-by-buffer s size, settled-by-first-bytes f 4096 (omega arith))
+judgment-settled-by-buffer s f capacity = rw (settled-by-buffer s capacity, settled-by-first-bytes f 4096 (omega arith))

@@ -26,11 +26,11 @@ PrintsAnswer =
 
 -- 2. The 4,096 bytes that each program reads of a rule file settle the answer to the whole of it.
 abbrev pub SettledByBuffer : Type 0
-SettledByBuffer = (s : List ℕ) (size : ℕ) → buildingOf 128 (take 4096 s) size ≡ buildingOf 128 s size
+SettledByBuffer = (s : List ℕ) (capacity : ℕ) → buildingOf 128 (take 4096 s) capacity ≡ buildingOf 128 s capacity
 
 -- So do those that `meets` reads of a rule file and of a model file.
 abbrev pub JudgmentSettledByBuffer : Type 0
-JudgmentSettledByBuffer = (s f : List ℕ) (size : ℕ) → judgingOf 128 (take 4096 s) size (take 4096 f) ≡ judgingOf 128 s size f
+JudgmentSettledByBuffer = (s f : List ℕ) (capacity : ℕ) → judgingOf 128 (take 4096 s) capacity (take 4096 f) ≡ judgingOf 128 s capacity f
 
 -- 3. Under an accepted rule, calls as the contract of `sift` has them sift by the rule, however the scans come in blocks.
 abbrev pub SiftsByRule : Type 0

@@ -69,24 +69,24 @@ module _ (s : List ℕ) (bytes : Bytes s) where
 
   -- ---- building
 
-  module _ (size : ℕ) where
-    build-found : (number place : ℕ) → countedOf (buildingOf 128 s size) ≡ Counted.Refused number place → BuildRefused s size number place
-    build-found number place e = on (ltb size 32768) refl
+  module _ (capacity : ℕ) where
+    build-found : (number place : ℕ) → countedOf (buildingOf 128 s capacity) ≡ Counted.Refused number place → BuildRefused s capacity number place
+    build-found number place e = on (ltb capacity 32768) refl
       where
-        on : (b : Bool) → ltb size 32768 ≡ b → BuildRefused s size number place
+        on : (b : Bool) → ltb capacity 32768 ≡ b → BuildRefused s capacity number place
         on true t =
-            let short : size < 32768 = ltb-true size 32768 t in
-            let same : Counted.Refused 10 0 ≡ Counted.Refused number place = rw (building-short 128 s size short) at e in
+            let short : capacity < 32768 = ltb-true capacity 32768 t in
+            let same : Counted.Refused 10 0 ≡ Counted.Refused number place = rw (building-short 128 s capacity short) at e in
             let number-is : 10 ≡ number = cc in
             let place-is : 0 ≡ place = cc in
             rw (← number-is, ← place-is) (short-table short)
         on false f =
-            let long : 32768 ≤ size = ltb-false size 32768 f in
-            in-rule long (count-found number place (rw (building-enough 128 s size long) at e))
+            let long : 32768 ≤ capacity = ltb-false capacity 32768 f in
+            in-rule long (count-found number place (rw (building-enough 128 s capacity long) at e))
 
-    build-refuses : {number place : ℕ} → BuildRefused s size number place → countedOf (buildingOf 128 s size) ≡ Counted.Refused number place
-    build-refuses (short-table short) = rw (building-short 128 s size short)
-    build-refuses (in-rule long fault) = rw (building-enough 128 s size long) (count-refuses fault)
+    build-refuses : {number place : ℕ} → BuildRefused s capacity number place → countedOf (buildingOf 128 s capacity) ≡ Counted.Refused number place
+    build-refuses (short-table short) = rw (building-short 128 s capacity short)
+    build-refuses (in-rule long fault) = rw (building-enough 128 s capacity long) (count-refuses fault)
 
-    pub build-refused : (number place : ℕ) → (countedOf (buildingOf 128 s size) ≡ Counted.Refused number place) ↔ BuildRefused s size number place
+    pub build-refused : (number place : ℕ) → (countedOf (buildingOf 128 s capacity) ≡ Counted.Refused number place) ↔ BuildRefused s capacity number place
     build-refused number place = (build-found number place, build-refuses)

@@ -24,10 +24,10 @@ pub data CountRefused (s : List ℕ) : (number place : ℕ) → Type 1 where
       → ((es : List ℕ) → length es ≤ 128 → Closed r es → ⊥) → CountRefused s 9 0
 
 -- building, with a table of so many bytes
-pub data BuildRefused (s : List ℕ) (size : ℕ) : (number place : ℕ) → Type 1 where
+pub data BuildRefused (s : List ℕ) (capacity : ℕ) : (number place : ℕ) → Type 1 where
   -- 10, which comes first: the table is too short
-  short-table : size < 32768 → BuildRefused s size 10 0
-  in-rule : {number place : ℕ} → 32768 ≤ size → CountRefused s number place → BuildRefused s size number place
+  short-table : capacity < 32768 → BuildRefused s capacity 10 0
+  in-rule : {number place : ℕ} → 32768 ≤ capacity → CountRefused s number place → BuildRefused s capacity number place
 
 -- what makes a table, a count and a state unfit for a run: byte 256 × k + c is the entry of equation k for the code c
 pub data Unfit (table : List ℕ) (count : ℕ) (s : State) : Type 0 where
@@ -46,8 +46,8 @@ pub data RunRefused (table : List ℕ) (count : ℕ) (s : State) (scans : List �
   unfit : length scans ≤ output → length scans ≤ verdicts → Unfit table count s → RunRefused table count s scans output verdicts 16 0
 
 -- judging a model file under a rule file, with a table of so many bytes
-pub data JudgeRefused (s : List ℕ) (size : ℕ) (f : List ℕ) : (number place : ℕ) → Type 1 where
+pub data JudgeRefused (s : List ℕ) (capacity : ℕ) (f : List ℕ) : (number place : ℕ) → Type 1 where
   -- 10 and 1 to 9: building is refused
-  in-building : {number place : ℕ} → BuildRefused s size number place → JudgeRefused s size f number place
+  in-building : {number place : ℕ} → BuildRefused s capacity number place → JudgeRefused s capacity f number place
   -- 11 to 14: it isn't, and the file is no model
-  in-model : {number place : ℕ} → 32768 ≤ size → Acceptable 128 s → ModelFault f number place → JudgeRefused s size f number place
+  in-model : {number place : ℕ} → 32768 ≤ capacity → Acceptable 128 s → ModelFault f number place → JudgeRefused s capacity f number place

@@ -102,8 +102,8 @@ accepts-exactly limit s table bytes room =
     rw (checks-table limit s (length table) .enough room) (λ (n, e). counted-acceptable limit s bytes n e, acceptable-counted limit s bytes)
 
 pub refuses-unsatisfiable : RefusesUnsatisfiable
-refuses-unsatisfiable limit s size r bytes room read =
-    let same = checks-table limit s size .enough room in
+refuses-unsatisfiable limit s capacity r bytes room read =
+    let same = checks-table limit s capacity .enough room in
     let refused = refused-unsatisfiable limit s bytes r read in
     let refuses = unsatisfiable-refused limit s bytes r read in
     record {

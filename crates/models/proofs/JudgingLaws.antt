@@ -19,13 +19,13 @@ use Rattle.models.specs.declared.Judged.the-variants.{Meets, Breaks}
 use Rattle.models.proofs.DecidedSets.{decided-satisfies}
 
 -- what is judged is the file's rule and the file's model
-pub judging-case : (limit : ℕ) (s f : List ℕ) (size : ℕ) (r : Rule) (n : ℕ) (y : Phone) → ruleOf s ≡ accepted r
-    → countedOf (buildingOf limit s size) ≡ Equations n → phoneOf f ≡ accepted y
-    → judgingOf limit s size f ≡ accepted (record { rule = r; phone = y })
+pub judging-case : (limit : ℕ) (s f : List ℕ) (capacity : ℕ) (r : Rule) (n : ℕ) (y : Phone) → ruleOf s ≡ accepted r
+    → countedOf (buildingOf limit s capacity) ≡ Equations n → phoneOf f ≡ accepted y
+    → judgingOf limit s capacity f ≡ accepted (record { rule = r; phone = y })
 unfolding judgingOf
-judging-case limit s f size r n y read e read′ =
-    let (z, built, long) = counted-accepts (buildingOf limit s size) n e in
-    let same = accepts-as limit s r read z (building-accepts limit s size z built .1) in
+judging-case limit s f capacity r n y read e read′ =
+    let (z, built, long) = counted-accepts (buildingOf limit s capacity) n e in
+    let same = accepts-as limit s r read z (building-accepts limit s capacity z built .1) in
     then-accepts _ (built ∙ ap accepted same) (then-accepts _ read′ refl)
 
 judged-case : (r : Rule) (y : Phone) (answer : Judged) → JudgedAs (accepted (record { rule = r; phone = y })) answer → JudgedExactly r y answer
@@ -42,8 +42,8 @@ judged-case r y answer (inr (q, none)) =
     }
 
 pub judges-exactly : JudgesExactly
-judges-exactly limit s f size r n y answer read e read′ judged =
-    judged-case r y answer (rw (judging-case limit s f size r n y read e read′) at judged)
+judges-exactly limit s f capacity r n y answer read e read′ judged =
+    judged-case r y answer (rw (judging-case limit s f capacity r n y read e read′) at judged)
 
 -- ---- the table
 

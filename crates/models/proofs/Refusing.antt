@@ -11,17 +11,17 @@ use Rattle.models.specs.Readings.{ruleRefusal, modelRefusal, refusalBefo
 use Rattle.models.specs.declared.Judged.{Judged}
 use Rattle.models.specs.declared.Judged as Judged′
 
-module _ (s : List ℕ) (size : ℕ) (answer : Acceptance) where
+module _ (s : List ℕ) (capacity : ℕ) (answer : Acceptance) where
   -- the answer to a model that is refused
   abbrev Refuses : Judged → Type 0
-  Refuses r = r ≡ refusalBefore (countedOf (buildingOf 128 s size)) answer
+  Refuses r = r ≡ refusalBefore (countedOf (buildingOf 128 s capacity)) answer
 
-  pub short-refuses : size < 32768 → Refuses (Judged′.the-variants.Refused 10 0)
-  short-refuses h = rw (building-short 128 s size h)
+  pub short-refuses : capacity < 32768 → Refuses (Judged′.the-variants.Refused 10 0)
+  short-refuses h = rw (building-short 128 s capacity h)
 
-  module _ {counted : Counted} {r : Judged} (enough : 32768 ≤ size) (counts : counted ≡ countedOf (synthesisOf 128 s)) where
+  module _ {counted : Counted} {r : Judged} (enough : 32768 ≤ capacity) (counts : counted ≡ countedOf (synthesisOf 128 s)) where
     pub rule-refuses : {number place : ℕ} → counted ≡ Refused number place → r ≡ ruleRefusal counted → Refuses r
-    rule-refuses e q = rw (building-enough 128 s size enough, ← counts, e) (rw e at q)
+    rule-refuses e q = rw (building-enough 128 s capacity enough, ← counts, e) (rw e at q)
 
     pub model-refuses : {n : ℕ} → counted ≡ Equations n → r ≡ modelRefusal answer → Refuses r
-    model-refuses e q = rw (building-enough 128 s size enough, ← counts, e) q
+    model-refuses e q = rw (building-enough 128 s capacity enough, ← counts, e) q

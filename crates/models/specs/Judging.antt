@@ -40,9 +40,9 @@ pub record RuleAndModel : Type 0 where
   pub phone : Phone
 
 -- What is judged, with a table of so many bytes: 10 and 1 to 9 of building come first, then 11 to 14 of the model.
-unfoldable pub judgingOf : (limit : ℕ) → (rule : List ℕ) → (size : ℕ) → (model : List ℕ) → Outcome RuleAndModel
-judgingOf limit s size f =
-    andThen (buildingOf limit s size) (λ y. andThen (phoneOf f) (λ p. accepted (record { rule = y .rule; phone = p })))
+unfoldable pub judgingOf : (limit : ℕ) → (rule : List ℕ) → (capacity : ℕ) → (model : List ℕ) → Outcome RuleAndModel
+judgingOf limit s capacity f =
+    andThen (buildingOf limit s capacity) (λ y. andThen (phoneOf f) (λ p. accepted (record { rule = y .rule; phone = p })))
 
 -- The answer of each outcome: meets where the model satisfies the rule, breaks where it doesn't, or the refusal with the paper's number
 -- and place.

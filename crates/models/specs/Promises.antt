@@ -94,9 +94,9 @@ pub record JudgedExactly (r : Rule) (y : Phone) (answer : Judged) : Type 1 where
 
 abbrev pub JudgesExactly : Type 1
 JudgesExactly =
-    (limit : ℕ) (s f : List ℕ) (size : ℕ) (r : Rule) (n : ℕ) (y : Phone) (answer : Judged)
-    → ruleOf s ≡ accepted r → countedOf (buildingOf limit s size) ≡ Equations n → phoneOf f ≡ accepted y
-    → JudgedAs (judgingOf limit s size f) answer → JudgedExactly r y answer
+    (limit : ℕ) (s f : List ℕ) (capacity : ℕ) (r : Rule) (n : ℕ) (y : Phone) (answer : Judged)
+    → ruleOf s ≡ accepted r → countedOf (buildingOf limit s capacity) ≡ Equations n → phoneOf f ≡ accepted y
+    → JudgedAs (judgingOf limit s capacity f) answer → JudgedExactly r y answer
 
 -- What judging leaves in the table, in the terms of its contract: where the answer is a refusal, of the rule or of the model, all bytes as they were,
 -- and else exactly what building leaves.
@@ -130,15 +130,15 @@ AcceptsExactly =
     → ((n : ℕ) × (countedOf (buildingOf limit s (length table)) ≡ Equations n)) ↔ Acceptable limit s
 
 -- A rule that was read is refused with 8 exactly when no model satisfies it, exactly when no finite one does, and exactly when no phone model does.
-pub record RefusedAsUnsatisfiable (limit : ℕ) (s : List ℕ) (size : ℕ) (r : Rule) : Type 1 where
-  pub no-model : (countedOf (buildingOf limit s size) ≡ Refused 8 0) ↔ ((m : Model) → Satisfies m r → ⊥)
-  pub no-finite : (countedOf (buildingOf limit s size) ≡ Refused 8 0) ↔ ((m : Model) → Finite m → Satisfies m r → ⊥)
-  pub no-phone : (countedOf (buildingOf limit s size) ≡ Refused 8 0) ↔ ((y : Phone) → PhoneWithinLimits y → Satisfies (modelOf y) r → ⊥)
+pub record RefusedAsUnsatisfiable (limit : ℕ) (s : List ℕ) (capacity : ℕ) (r : Rule) : Type 1 where
+  pub no-model : (countedOf (buildingOf limit s capacity) ≡ Refused 8 0) ↔ ((m : Model) → Satisfies m r → ⊥)
+  pub no-finite : (countedOf (buildingOf limit s capacity) ≡ Refused 8 0) ↔ ((m : Model) → Finite m → Satisfies m r → ⊥)
+  pub no-phone : (countedOf (buildingOf limit s capacity) ≡ Refused 8 0) ↔ ((y : Phone) → PhoneWithinLimits y → Satisfies (modelOf y) r → ⊥)
 
 abbrev pub RefusesUnsatisfiable : Type 1
 RefusesUnsatisfiable =
-    (limit : ℕ) (s : List ℕ) (size : ℕ) (r : Rule) → Bytes s → 256 * limit ≤ size → ruleOf s ≡ accepted r
-    → RefusedAsUnsatisfiable limit s size r
+    (limit : ℕ) (s : List ℕ) (capacity : ℕ) (r : Rule) → Bytes s → 256 * limit ≤ capacity → ruleOf s ≡ accepted r
+    → RefusedAsUnsatisfiable limit s capacity r
 
 -- 5. A model file is accepted exactly as the encoding of a phone model within the limits, and then as that model.
 abbrev pub AcceptsPhones : Type 0

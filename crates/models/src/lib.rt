@@ -110,10 +110,10 @@ fn refuse_model(answer: Acceptance) -> Judged
 }
 
 // What is said where the model is refused: 10 and the refusals of the rule come first.
-fn refuse(rule: &[u8], size: usize, answer: Acceptance) -> Judged
-    ensures { λ r. ⌜ r ≡ refusalBefore (countedOf (buildingOf 128 (now (rule .entry)) size)) answer ⌝ }
+fn refuse(rule: &[u8], capacity: usize, answer: Acceptance) -> Judged
+    ensures { λ r. ⌜ r ≡ refusalBefore (countedOf (buildingOf 128 (now (rule .entry)) capacity)) answer ⌝ }
 {
-    if size < 32768 {
+    if capacity < 32768 {
         return Judged::Refused(10, 0);
     }
     let counted = synthesis::count(rule);

@@ -54,13 +54,13 @@ fn next_step(bytes: &[u8], states: usize, n: usize, at: usize) -> Next
     let StepRead::Read(step) = found else {
         return no_more(records::step_answer(found), n);
     };
-    let size = records::record_length(step);
+    let width = records::record_length(step);
     Next {
         more: true,
         answer: Acceptance::Accepted,
         step,
         n,
-        at: at + size,
+        at: at + width,
     }
 }
 

@@ -117,12 +117,12 @@ module _ (limit mark : ℕ) (s table : List ℕ) where
 -- ---- the promises
 
 -- What holds of each accepted synthesis whose equations are so many, holds of that of the file's rule.
-by-count : (limit : ℕ) (s : List ℕ) (size : ℕ) (P : Synthesis → Type 0) (r : Rule) (n : ℕ) → ruleOf s ≡ accepted r
-    → countedOf (buildingOf limit s size) ≡ Equations n
-    → ((y : Synthesis) → buildingOf limit s size ≡ accepted y → n ≡ length (y .equations) → P y) → P (withEquations limit r)
-by-count limit s size P r n read e holds =
-    let y = counted-accepts (buildingOf limit s size) n e in
-    subst P (accepts-as limit s r read (y .0) (building-accepts limit s size (y .0) (y .1) .1)) (holds (y .0) (y .1) (y .2))
+by-count : (limit : ℕ) (s : List ℕ) (capacity : ℕ) (P : Synthesis → Type 0) (r : Rule) (n : ℕ) → ruleOf s ≡ accepted r
+    → countedOf (buildingOf limit s capacity) ≡ Equations n
+    → ((y : Synthesis) → buildingOf limit s capacity ≡ accepted y → n ≡ length (y .equations) → P y) → P (withEquations limit r)
+by-count limit s capacity P r n read e holds =
+    let y = counted-accepts (buildingOf limit s capacity) n e in
+    subst P (accepts-as limit s r read (y .0) (building-accepts limit s capacity (y .0) (y .1) .1)) (holds (y .0) (y .1) (y .2))
 
 pub table-monitors : TableMonitors
 table-monitors limit mark s table r n below bytes read e =

@@ -147,8 +147,8 @@ answers-count limit s n e =
       few = omega (arith, q, few);
     }) (y .0) (y .1) (y .2)
 
-pub checks-table : (limit : ℕ) (s : List ℕ) (size : ℕ) → ChecksTable limit s size
-checks-table limit s size = record { short = building-short limit s size; enough = building-enough limit s size }
+pub checks-table : (limit : ℕ) (s : List ℕ) (capacity : ℕ) → ChecksTable limit s capacity
+checks-table limit s capacity = record { short = building-short limit s capacity; enough = building-enough limit s capacity }
 
 pub reaches-equations : ReachesEquations
 reaches-equations limit s bytes r n read e =

@@ -13,20 +13,20 @@ use Rattle.synthesis.proofs.Rows.{entries-length, rows-length}
 
 -- ---- a list d whose first n elements are overwritten by p
 
-module _ (p d : List ℕ) (n : ℕ) (size : length p ≡ n) where
+module _ (p d : List ℕ) (n : ℕ) (length-is : length p ≡ n) where
   front-length : n ≤ length d → length (p ++ drop n d) ≡ length d
-  front-length h = length-front d p n (size ∙ sym (length-take-le n d h))
+  front-length h = length-front d p n (length-is ∙ sym (length-take-le n d h))
 
   -- by one element more
   store-next : (v : ℕ) → n < length d → set (p ++ drop n d) n v ≡ (p ++ (v ∷ [])) ++ drop (suc n) d
   store-next v h =
       rw (drop-cons d n 0 h)
-      (set-at p (getD d n 0) (drop (suc n) d) v n size ∙ sym (append-assoc p (v ∷ []) (drop (suc n) d)))
+      (set-at p (getD d n 0) (drop (suc n) d) v n length-is ∙ sym (append-assoc p (v ∷ []) (drop (suc n) d)))
 
   -- by a part of m elements more, which was lent and came back as q
   put-next : (m : ℕ) (q : List ℕ) → putMid n m (p ++ drop n d) q ≡ (p ++ q) ++ drop (n + m) d
   put-next m q =
-      rw (take-at p (drop n d) n size, drop-at p (drop n d) n size, drop-drop m n d) (sym (append-assoc p q (drop (n + m) d)))
+      rw (take-at p (drop n d) n length-is, drop-at p (drop n d) n length-is, drop-drop m n d) (sym (append-assoc p q (drop (n + m) d)))
 
 module _ (mark : ℕ) (answer : ℕ → ℕ → Answer ℕ) (found : List ℕ) where
   -- ---- a row with the entries of the equation e for the first c codes
@@ -45,11 +45,11 @@ module _ (mark : ℕ) (answer : ℕ → ℕ → Answer ℕ) (found : List ℕ) w
   -- ---- a table with the rows of the first k equations
 
   module _ (codes : ℕ) (table₀ table : List ℕ) (k : ℕ) (begun : table ≡ rows mark answer found codes k ++ drop (codes * k) table₀) where
-    size : length (rows mark answer found codes k) ≡ codes * k
-    size = rows-length mark answer found codes k
+    length-is : length (rows mark answer found codes k) ≡ codes * k
+    length-is = rows-length mark answer found codes k
 
     pub rows-keep : codes * k ≤ length table₀ → length table ≡ length table₀
-    rows-keep h = ap length begun ∙ front-length (rows mark answer found codes k) table₀ (codes * k) size h
+    rows-keep h = ap length begun ∙ front-length (rows mark answer found codes k) table₀ (codes * k) length-is h
 
     -- the next row is lent, and comes back filled
     pub rows-next : (e : ℕ) (q : List ℕ) → getD found k 0 ≡ e → q ≡ entriesOf mark answer found e codes
@@ -57,7 +57,7 @@ module _ (mark : ℕ) (answer : ℕ → ℕ → Answer ℕ) (found : List ℕ) w
     unfolding rows
     rows-next e q at is =
         rw (begun, is, add-one k, at, mul-suc codes k, add-sub-cancel-left (codes * k) codes)
-        (put-next (rows mark answer found codes k) table₀ (codes * k) size codes (entriesOf mark answer found e codes))
+        (put-next (rows mark answer found codes k) table₀ (codes * k) length-is codes (entriesOf mark answer found e codes))
 
     pub rows-all : length found ≡ k → table ≡ filled mark answer found codes table₀
     unfolding filled

@@ -33,20 +33,20 @@ module _ (limit : ℕ) (a : List ℕ) (n : ℕ) (l : List ℕ) (room : length a 
   few : n ≤ limit → take n a ≡ l
   few = held-few limit a n l held
 
-  size : n ≤ limit → length (take n a) ≡ n
-  size h = length-take-le n a (omega arith)
+  length-is : n ≤ limit → length (take n a) ≡ n
+  length-is h = length-take-le n a (omega arith)
 
   -- ---- one more equation
 
   pub held-old : (e : ℕ) → n ≤ limit → indexOf e (take n a) < n → Holds limit a n (insert l e)
-  held-old e h old = rw (← few h, insert-old (take n a) e (omega (arith, size h))) (inl (h, refl))
+  held-old e h old = rw (← few h, insert-old (take n a) e (omega (arith, length-is h))) (inl (h, refl))
 
   new : (e : ℕ) → n ≤ limit → n ≤ indexOf e (take n a) → insert l e ≡ take n a ++ (e ∷ [])
-  new e h absent = rw (← few h) (insert-new (take n a) e (λ m. omega (arith, size h)))
+  new e h absent = rw (← few h) (insert-new (take n a) e (λ m. omega (arith, length-is h)))
 
   pub held-full : (e : ℕ) → n ≡ limit → n ≤ indexOf e (take n a) → Holds limit a (suc limit) (insert l e)
   held-full e h absent =
-      rw (new e (omega arith) absent) (inr (refl, omega (arith, size (omega arith), length-append (take n a) (e ∷ []))))
+      rw (new e (omega arith) absent) (inr (refl, omega (arith, length-is (omega arith), length-append (take n a) (e ∷ []))))
 
   pub held-new : (e : ℕ) → n < limit → n ≤ indexOf e (take n a) → Holds limit (set a n e) (n + 1) (insert l e)
   held-new e h absent = rw (new e (omega arith) absent, add-one n) (inl (omega arith, take-suc-set a n e (omega arith)))
@@ -55,7 +55,7 @@ module _ (limit : ℕ) (a : List ℕ) (n : ℕ) (l : List ℕ) (room : length a 
 
   module _ (codes : ℕ) (answer : ℕ → ℕ → Answer ℕ) (k : ℕ) where
     pub held-past : n ≤ limit → n ≤ k → Holds limit a n (expanded codes answer k l)
-    held-past h past = rw (← few h, expanded-none codes answer k (take n a) (omega (arith, size h))) (inl (h, refl))
+    held-past h past = rw (← few h, expanded-none codes answer k (take n a) (omega (arith, length-is h))) (inl (h, refl))
 
     pub held-expanded : n ≤ limit → k < n → expanded codes answer k l ≡ explored codes answer (getD a k 0) codes l
-    held-expanded h inside = rw (← few h, expanded-some codes answer k (take n a) (omega (arith, size h)), getD-take n a k 0 inside)
+    held-expanded h inside = rw (← few h, expanded-some codes answer k (take n a) (omega (arith, length-is h)), getD-take n a k 0 inside)

@@ -32,21 +32,21 @@ synthesis-accepts limit s P holds y e =
 
 -- ---- a table for the rows
 
-pub building-enough : (limit : ℕ) (s : List ℕ) (size : ℕ) → 256 * limit ≤ size → buildingOf limit s size ≡ synthesisOf limit s
+pub building-enough : (limit : ℕ) (s : List ℕ) (capacity : ℕ) → 256 * limit ≤ capacity → buildingOf limit s capacity ≡ synthesisOf limit s
 unfolding buildingOf
-building-enough limit s size h = rw (le-ltb size (256 * limit) h)
+building-enough limit s capacity h = rw (le-ltb capacity (256 * limit) h)
 
-pub building-short : (limit : ℕ) (s : List ℕ) (size : ℕ) → size < 256 * limit → buildingOf limit s size ≡ refused 10 0
+pub building-short : (limit : ℕ) (s : List ℕ) (capacity : ℕ) → capacity < 256 * limit → buildingOf limit s capacity ≡ refused 10 0
 unfolding buildingOf
-building-short limit s size h = rw (lt-ltb size (256 * limit) h)
+building-short limit s capacity h = rw (lt-ltb capacity (256 * limit) h)
 
 -- building accepts where there is room for the rows and synthesis accepts
-pub building-accepts : (limit : ℕ) (s : List ℕ) (size : ℕ) (y : Synthesis) → buildingOf limit s size ≡ accepted y
-    → (256 * limit ≤ size) × (synthesisOf limit s ≡ accepted y)
+pub building-accepts : (limit : ℕ) (s : List ℕ) (capacity : ℕ) (y : Synthesis) → buildingOf limit s capacity ≡ accepted y
+    → (256 * limit ≤ capacity) × (synthesisOf limit s ≡ accepted y)
 unfolding buildingOf
-building-accepts limit s size y e =
-    let ten = passes (ltb size (256 * limit)) 10 0 (synthesisOf limit s) e in
-    (ltb-false size (256 * limit) (ten .0), ten .1)
+building-accepts limit s capacity y e =
+    let ten = passes (ltb capacity (256 * limit)) 10 0 (synthesisOf limit s) e in
+    (ltb-false capacity (256 * limit) (ten .0), ten .1)
 
 -- ---- a file that is a rule: accepted, or one of two refusals
 

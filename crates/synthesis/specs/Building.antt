@@ -33,8 +33,8 @@ unfoldable pub synthesisOf : (limit : ℕ) → List ℕ → Outcome Synthesis
 synthesisOf limit s = andThen (ruleOf s) (synthesisOfRule limit)
 
 -- the same with a table of so many bytes for the rows: 10 comes first
-unfoldable pub buildingOf : (limit : ℕ) → List ℕ → (size : ℕ) → Outcome Synthesis
-buildingOf limit s size = refuse (ltb size (256 * limit)) 10 0 (synthesisOf limit s)
+unfoldable pub buildingOf : (limit : ℕ) → List ℕ → (capacity : ℕ) → Outcome Synthesis
+buildingOf limit s capacity = refuse (ltb capacity (256 * limit)) 10 0 (synthesisOf limit s)
 
 -- The answer of each outcome: the count of equations, or the refusal with the paper's number and place.
 abbrev pub countedOf : Outcome Synthesis → Counted

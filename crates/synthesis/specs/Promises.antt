@@ -69,9 +69,9 @@ abbrev pub AnswersCount : Type 0
 AnswersCount = (limit : ℕ) (s : List ℕ) (n : ℕ) → countedOf (synthesisOf limit s) ≡ Equations n → Counts limit s n
 
 -- Building looks at the table first; with one that is long enough it answers as counting does.
-pub record ChecksTable (limit : ℕ) (s : List ℕ) (size : ℕ) : Type 0 where
-  pub short : size < 256 * limit → buildingOf limit s size ≡ refused 10 0
-  pub enough : 256 * limit ≤ size → buildingOf limit s size ≡ synthesisOf limit s
+pub record ChecksTable (limit : ℕ) (s : List ℕ) (capacity : ℕ) : Type 0 where
+  pub short : capacity < 256 * limit → buildingOf limit s capacity ≡ refused 10 0
+  pub enough : 256 * limit ≤ capacity → buildingOf limit s capacity ≡ synthesisOf limit s
 
 -- A building that is refused leaves the table as it was, every byte.
 abbrev pub RefusedUnchanged : Type 0
