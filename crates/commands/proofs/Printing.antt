@@ -8,12 +8,12 @@ use lib.ListN.{length}
 use Rattle.reading.specs.Rule.{Bytes}
 use Rattle.reading.specs.File.{Outcome, accepted, refused, ruleOf}
 use Rattle.reading.specs.Numbered.{readingOf}
-use Rattle.reading.proofs.Accepted.{reading-accepts}
-use Rattle.reading.proofs.Prefix.{first-bytes}
+use Rattle.reading.proofs.Accepting.Accepted.{reading-accepts}
+use Rattle.reading.proofs.Settling.Prefix.{first-bytes}
 use Rattle.synthesis.specs.Building.{equationsOf, Synthesis, synthesisOf, buildingOf, countedOf, tableAfter}
-use Rattle.synthesis.proofs.Synthesized.{synthesis-accepts, building-accepts}
+use Rattle.synthesis.proofs.Tables.Synthesized.{synthesis-accepts, building-accepts}
 use Rattle.models.specs.Judging.{judgingOf}
-use Rattle.models.proofs.Settled.{settled-by-first-bytes}
+use Rattle.models.proofs.Files.Settled.{settled-by-first-bytes}
 use Rattle.listing.specs.Positions.{linesFrom}
 use Rattle.listing.proofs.AllLines.{lists-rule}
 use Rattle.commands.specs.Printing.{textFor, ListingStops, Stops, printed}

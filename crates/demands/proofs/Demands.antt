@@ -7,12 +7,12 @@ use native.Mathlib.Omega.{arith}
 use lib.ListN.{length}
 use Rattle.reading.specs.Rule.{Rule, RuleWithinLimits, encode}
 use Rattle.reading.specs.File.{accepted, ruleOf}
-use Rattle.reading.proofs.Encoding.{encoding-is-bytes}
-use Rattle.reading.proofs.Accepted.{reading-accepts, answer-accepted}
-use Rattle.reading.proofs.FaultsRefused as rules
+use Rattle.reading.proofs.Accepting.Encoding.{encoding-is-bytes}
+use Rattle.reading.proofs.Accepting.Accepted.{reading-accepts, answer-accepted}
+use Rattle.reading.proofs.Refusing.FaultsRefused as rules
 use Rattle.synthesis.specs.Building.{buildingOf, countedOf, tableAfter}
 use Rattle.synthesis.specs.declared.Counted.the-variants as Counted
-use Rattle.synthesis.proofs.Built as building
+use Rattle.synthesis.proofs.Tables.Built as building
 use Rattle.running.specs.Running.{resultOf}
 use Rattle.running.specs.Calls.{Call, History, outcomeOf, Calls, OnTable, OnTableOrRefused}
 use Rattle.running.specs.declared.Checked.the-variants as Checked
@@ -21,11 +21,11 @@ use Rattle.running.proofs.BuiltTables.{never-unfit}
 use Rattle.running.proofs.Leaving as running
 use Rattle.running.proofs.DemandTwo.{drops-exactly}
 use Rattle.models.specs.Phone.{encodePhone}
-use Rattle.models.proofs.Encoding.{encode-bytes, phone-reads, answers-accepted}
-use Rattle.models.proofs.FileFaults as models
-use Rattle.models.proofs.Acceptance.{accepts-exactly}
-use Rattle.models.proofs.JudgingLaws as judging
-use Rattle.models.proofs.TablesEnforce.{tables-enforce}
+use Rattle.models.proofs.Files.Encoding.{encode-bytes, phone-reads, answers-accepted}
+use Rattle.models.proofs.Files.FileFaults as models
+use Rattle.models.proofs.Verdicts.Acceptance.{accepts-exactly}
+use Rattle.models.proofs.Verdicts.JudgingLaws as judging
+use Rattle.models.proofs.Verdicts.TablesEnforce.{tables-enforce}
 use Rattle.demands.specs.Refusals.{RunRefused, short-buffer, unfit}
 use Rattle.demands.specs.Demands.{DemandOne, DemandTwo, DemandThree}
 use Rattle.demands.proofs.Refused.{count-refused, build-refused}

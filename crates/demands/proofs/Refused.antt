@@ -11,16 +11,16 @@ use lib.ListN.{length}
 use borrow.Author.Tests.{ltb-true, ltb-false}
 use Rattle.reading.specs.Rule.{Rule, Bytes}
 use Rattle.reading.specs.File.{accepted, refused, ruleOf}
-use Rattle.reading.proofs.Outcomes.{found, never-refused, refused-by}
-use Rattle.reading.proofs.Accepted.{reading-accepts}
-use Rattle.reading.proofs.FaultsRefused.{answer-refused, refuses-at-the-fault}
+use Rattle.reading.proofs.Basics.Outcomes.{found, never-refused, refused-by}
+use Rattle.reading.proofs.Accepting.Accepted.{reading-accepts}
+use Rattle.reading.proofs.Refusing.FaultsRefused.{answer-refused, refuses-at-the-fault}
 use Rattle.synthesis.specs.Answering.{unsatisfiable}
 use Rattle.synthesis.specs.Building.{equationsOf, synthesisOfRule, synthesisOf, buildingOf, countedOf}
 use Rattle.synthesis.specs.declared.Counted.the-variants as Counted
-use Rattle.synthesis.proofs.Synthesized.{building-enough, building-short, synthesis-of, counted-refuses}
-use Rattle.synthesis.proofs.Equations.{refuses-too-many}
-use Rattle.models.specs.Model.{Model, Finite, Satisfies}
-use Rattle.models.proofs.Acceptance.{satisfiable, refuses-unsatisfiable}
+use Rattle.synthesis.proofs.Tables.Synthesized.{building-enough, building-short, synthesis-of, counted-refuses}
+use Rattle.synthesis.proofs.Tables.Equations.{refuses-too-many}
+use Rattle.enforcement.specs.Model.{Model, Finite, Satisfies}
+use Rattle.models.proofs.Verdicts.Acceptance.{satisfiable, refuses-unsatisfiable}
 use Rattle.demands.specs.Refusals.{CountRefused, in-file, unsatisfiable as no-model, too-many, BuildRefused, short-table, in-rule}
 
 module _ (s : List ℕ) (bytes : Bytes s) where

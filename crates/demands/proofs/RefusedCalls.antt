@@ -8,9 +8,9 @@ use native.Mathlib.Omega.{arith}
 use lib.ListN.{length}
 use Rattle.reading.specs.Rule.{Bytes}
 use Rattle.reading.specs.File.{Outcome, accepted, refused}
-use Rattle.reading.proofs.Outcomes.{found, never-refused, refused-by}
+use Rattle.reading.proofs.Basics.Outcomes.{found, never-refused, refused-by}
 use Rattle.synthesis.specs.Building.{buildingOf, countedOf}
-use Rattle.synthesis.proofs.Synthesized.{building-accepts, counted-accepts, counted-refuses}
+use Rattle.synthesis.proofs.Tables.Synthesized.{building-accepts, counted-accepts, counted-refuses}
 use Rattle.running.specs.Running.{hasRoom, fits, Run, runOf, checkedOf, resultOf}
 use Rattle.running.specs.declared.State.{State}
 use Rattle.running.specs.declared.Checked.the-variants as Checked
@@ -19,8 +19,8 @@ use Rattle.models.specs.Phone.{phoneOf}
 use Rattle.models.specs.Judging.{RuleAndModel, judgingOf, JudgedAs}
 use Rattle.models.specs.declared.Judged.{Judged}
 use Rattle.models.specs.declared.Judged.the-variants as Judged′
-use Rattle.models.proofs.Acceptance.{accepts-exactly}
-use Rattle.models.proofs.FileFaults.{model-refused, refuses-at-the-fault}
+use Rattle.models.proofs.Verdicts.Acceptance.{accepts-exactly}
+use Rattle.models.proofs.Files.FileFaults.{model-refused, refuses-at-the-fault}
 use Rattle.demands.specs.Refusals.{RunRefused, short-buffer, unfit, JudgeRefused, in-building, in-model}
 use Rattle.demands.proofs.Refused.{build-refused}
 use Rattle.demands.proofs.UnfitTables.{unfit-not-well, found-unfit}

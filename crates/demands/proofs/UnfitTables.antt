@@ -11,11 +11,11 @@ use native.Mathlib.Omega.{arith}
 use lib.Dec.{eqb, ltb}
 use lib.ListN.{length, getD}
 use borrow.Author.Tests.{eqb-false, ltb-false}
-use Rattle.reading.proofs.Outcomes.{neither}
+use Rattle.reading.proofs.Basics.Outcomes.{neither}
 use Rattle.running.specs.Running.{inRange, WellFormedTable}
 use Rattle.running.specs.declared.State.{State}
 use Rattle.running.proofs.Tables.{in-range}
-use Rattle.models.proofs.BoundedTests.{every, every-fails, every-is}
+use Rattle.models.proofs.Phones.BoundedTests.{every, every-fails, every-is}
 use Rattle.demands.specs.Refusals.{Unfit, no-equations, many-equations, no-such-equation, short-rows, bad-entry}
 
 -- the table is well formed for the count, and the state is under it

@@ -20,11 +20,12 @@ use Rattle.running.specs.Calls.{Call, History, outcomeOf, Calls, OnTable, OnTab
 use Rattle.running.specs.Promises.{Sifted, Unchanged, OnlyFronts}
 use Rattle.running.specs.declared.State.{State}
 use Rattle.running.specs.declared.Checked.the-variants as Checked
-use Rattle.models.specs.Model.{suppressing}
+use Rattle.enforcement.specs.Model.{suppressing}
 use Rattle.models.specs.Phone.{Phone, modelOf, PhoneWithinLimits, encodePhone, phoneOf}
 use Rattle.models.specs.Faults.{Fault as ModelFault}
 use Rattle.models.specs.Judging.{stored, modelReadingOf, judgingOf, JudgedAs, tableJudged}
-use Rattle.models.specs.Promises.{Enforces, WalksBehind, Acceptable, JudgedExactly}
+use Rattle.enforcement.specs.Promises.{Enforces, WalksBehind}
+use Rattle.models.specs.Promises.{Acceptable, JudgedExactly}
 use Rattle.models.specs.declared.Judged.{Judged}
 use Rattle.models.specs.declared.Judged.the-variants as Judged′
 use Rattle.demands.specs.Refusals.{CountRefused, BuildRefused, RunRefused, JudgeRefused}

@@ -9,7 +9,7 @@ use Rattle.reading.specs.Rule.{Rule, RuleWithinLimits, encode}
 use Rattle.reading.specs.Faults.{Fault as RuleFault}
 use Rattle.synthesis.specs.Promises.{Closed}
 use Rattle.running.specs.declared.State.{State}
-use Rattle.models.specs.Model.{Model, Finite, Satisfies}
+use Rattle.enforcement.specs.Model.{Model, Finite, Satisfies}
 use Rattle.models.specs.Faults.{Fault as ModelFault}
 use Rattle.models.specs.Promises.{Acceptable}
 

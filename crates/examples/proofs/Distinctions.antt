@@ -7,11 +7,11 @@ use native.Mathlib.Omega.{arith}
 use lib.ListN.{getD}
 use Rattle.reading.specs.Rule.{Rule}
 use Rattle.synthesis.specs.Violation.{ViolatesRule, by-body}
-use Rattle.models.specs.Model.{silent, Walk, stay, code-first, Finite, Satisfies, Bisimilar}
+use Rattle.enforcement.specs.Model.{silent, Walk, stay, code-first, Finite, Satisfies, Bisimilar}
 use Rattle.models.specs.Phone.{modelOf}
-use Rattle.models.proofs.Walks.{walk-append}
-use Rattle.models.proofs.PhoneStates.{phones-finite}
-use Rattle.models.proofs.QuietModels.{Quiet, quiet-satisfies}
+use Rattle.enforcement.proofs.Walks.{walk-append}
+use Rattle.models.proofs.Phones.PhoneStates.{phones-finite}
+use Rattle.enforcement.proofs.QuietModels.{Quiet, quiet-satisfies}
 use Rattle.examples.specs.Examples.{poolRule}
 use Rattle.examples.specs.ModelExamples.{counting, stillPhone, idlePhone, Distinctions}
 use Rattle.examples.proofs.PhoneSteps.{step-at, every-step}

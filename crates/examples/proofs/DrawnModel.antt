@@ -4,8 +4,8 @@ use mathlib.Core.Path.{_≡_, sym, subst}
 use mathlib.Core.List.{List}
 use native.Mathlib.Omega.{arith}
 use Rattle.synthesis.specs.Monitor.{lookup}
-use Rattle.models.specs.Model.{Label, silent, code, Model, Bisimilar}
-use Rattle.models.specs.Model.{Response, passed, suppressed, suppressing, Behind, silent-step, passed-step, suppressed-step, monitored}
+use Rattle.enforcement.specs.Model.{Label, silent, code, Model, Bisimilar}
+use Rattle.enforcement.specs.Model.{Response, passed, suppressed, suppressing, Behind, silent-step, passed-step, suppressed-step, monitored}
 use Rattle.models.specs.Phone.{StepIn, modelOf}
 use Rattle.examples.specs.Examples.{PoolRows}
 use Rattle.examples.specs.ModelExamples.{breakingPhone, drawnPhone}

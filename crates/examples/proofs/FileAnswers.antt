@@ -13,8 +13,8 @@ use Rattle.synthesis.specs.Table.{entriesOf}
 use Rattle.synthesis.specs.Building.{equationsOf, synthesisOf, countedOf}
 use Rattle.synthesis.specs.declared.Counted.{Counted}
 use Rattle.synthesis.specs.declared.Counted.the-variants.{Equations, Refused}
-use Rattle.synthesis.proofs.Rows.{filled-row}
-use Rattle.synthesis.proofs.Synthesized.{withEquations, accepts-with-equations, refuses-eight, building-enough}
+use Rattle.synthesis.proofs.Tables.Rows.{filled-row}
+use Rattle.synthesis.proofs.Tables.Synthesized.{withEquations, accepts-with-equations, refuses-eight, building-enough}
 use Rattle.examples.specs.Examples.{tableLeft, Answers, Refuses, Reads}
 
 module _ (s : List ℕ) where

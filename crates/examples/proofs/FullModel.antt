@@ -10,8 +10,8 @@ use Rattle.reading.specs.Rule.{All}
 use Rattle.reading.specs.File.{accepted, refused}
 use Rattle.models.specs.Phone.{WellFormedStep, encodeSteps, statesOf, phoneOf}
 use Rattle.models.specs.declared.Step.{Step}
-use Rattle.models.proofs.StepBytes.{steps-full}
-use Rattle.models.proofs.Encoding.{states-read}
+use Rattle.models.proofs.Files.StepBytes.{steps-full}
+use Rattle.models.proofs.Files.Encoding.{states-read}
 use Rattle.examples.specs.ModelExamples.{step}
 use Rattle.examples.specs.RefusalExamples.{times}
 

@@ -5,7 +5,7 @@ use mathlib.Core.List.{List, [], _∷_}
 use native.Mathlib.Omega.{arith}
 use lib.ListN.{length, getD}
 use Rattle.reading.specs.Rule.{All}
-use Rattle.models.specs.Model.{Label}
+use Rattle.enforcement.specs.Model.{Label}
 use Rattle.models.specs.Phone.{labelOf, noStep, StepIn}
 use Rattle.models.specs.declared.Step.{Step}
 

@@ -11,17 +11,17 @@ use Rattle.reading.specs.Rule.{Formula, falsity, both, necessity, variable, Byt
 use Rattle.reading.specs.File.{accepted}
 use Rattle.synthesis.specs.Violation.{coveredBy, ViolatesRule, by-falsity, by-first, by-code, by-body}
 use Rattle.synthesis.specs.Monitor.{lookup}
-use Rattle.models.specs.Model.{Label, silent, code, Walk, stay, silent-first, code-first, Weak, SatisfiesWith, Satisfies, SatisfiesDecided}
-use Rattle.models.specs.Model.{suppressing}
+use Rattle.enforcement.specs.Model.{Label, silent, code, Walk, stay, silent-first, code-first, Weak, SatisfiesWith, Satisfies, SatisfiesDecided}
+use Rattle.enforcement.specs.Model.{suppressing}
 use Rattle.models.specs.Phone.{Phone, StepIn, modelOf, statesOf, stepsAt, phoneOf}
 use Rattle.models.specs.Judging.{judgingOf, JudgedAs}
-use Rattle.models.specs.Promises.{Enforces}
+use Rattle.enforcement.specs.Promises.{Enforces}
 use Rattle.models.specs.declared.Judged.the-variants.{Meets, Breaks}
-use Rattle.models.proofs.SatisfactionLaws.{satisfies-safe}
-use Rattle.models.proofs.DecidedSets.{decided-satisfies}
-use Rattle.models.proofs.BisimulationLaws.{bisimilar-alike}
-use Rattle.models.proofs.TablesEnforce.{tables-enforce}
-use Rattle.models.proofs.JudgingLaws.{judging-case}
+use Rattle.enforcement.proofs.SatisfactionLaws.{satisfies-safe}
+use Rattle.models.proofs.Phones.DecidedSets.{decided-satisfies}
+use Rattle.enforcement.proofs.BisimulationLaws.{bisimilar-alike}
+use Rattle.models.proofs.Verdicts.TablesEnforce.{tables-enforce}
+use Rattle.models.proofs.Verdicts.JudgingLaws.{judging-case}
 use Rattle.examples.specs.Examples.{tableLeft, poolFile, poolRule}
 use Rattle.examples.specs.ModelExamples.{behind, JudgesPool, breakingFile, breakingPhone, Breaking}
 use Rattle.examples.specs.ModelExamples.{meetingFile, meetingPhone, Meeting, ModelExamples}

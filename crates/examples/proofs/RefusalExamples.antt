@@ -11,7 +11,7 @@ use Rattle.synthesis.specs.Answering.{firstOf, answerOf, unsatisfiable}
 use Rattle.synthesis.specs.Search.{explored, found}
 use Rattle.synthesis.specs.Building.{equationsOf, buildingOf}
 use Rattle.synthesis.specs.declared.Counted.the-variants.{Equations}
-use Rattle.synthesis.proofs.Synthesized.{counted-accepts}
+use Rattle.synthesis.proofs.Tables.Synthesized.{counted-accepts}
 use Rattle.models.specs.Phone.{statesOf, stepsAt, phoneOf}
 use Rattle.models.specs.Judging.{judgingOf}
 use Rattle.examples.specs.Examples.{pattern, rule, Reads, poolFile}

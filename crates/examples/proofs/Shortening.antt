@@ -13,8 +13,8 @@ use Rattle.synthesis.specs.Search.{explored, found}
 use Rattle.synthesis.specs.Monitor.{rowOf, lookup}
 use Rattle.synthesis.specs.Table.{entriesOf}
 use Rattle.synthesis.specs.Building.{equationsOf}
-use Rattle.models.specs.Model.{Label, silent, code, Walk, stay, silent-first, code-first}
-use Rattle.models.specs.Model.{Response, passed, suppressed, suppressing, passed-step, suppressed-step}
+use Rattle.enforcement.specs.Model.{Label, silent, code, Walk, stay, silent-first, code-first}
+use Rattle.enforcement.specs.Model.{Response, passed, suppressed, suppressing, passed-step, suppressed-step}
 use Rattle.models.specs.Phone.{StepIn, modelOf, statesOf, stepsAt, phoneOf}
 use Rattle.examples.specs.Examples.{tableLeft}
 use Rattle.examples.specs.ModelExamples.{behind, neverFile, neverRule, shorteningFile, shorteningPhone, Shortening}

@@ -10,7 +10,7 @@ use Rattle.reading.specs.File.{accepted}
 use Rattle.synthesis.specs.Violation.{ViolatesRule}
 use Rattle.synthesis.specs.Monitor.{lookup}
 use Rattle.synthesis.specs.declared.Counted.the-variants.{Equations}
-use Rattle.models.specs.Model.{code, Model, Walk, Finite, Satisfies, Bisimilar, suppressing, monitored}
+use Rattle.enforcement.specs.Model.{code, Model, Walk, Finite, Satisfies, Bisimilar, suppressing, monitored}
 use Rattle.models.specs.Phone.{Phone, modelOf, phoneOf}
 use Rattle.models.specs.Judging.{judgingOf, JudgedAs}
 use Rattle.models.specs.declared.Step.{Step}

@@ -12,9 +12,9 @@ use Rattle.reading.specs.Pattern.{extentOf}
 use Rattle.reading.specs.Numbered.{numbered, noExtent}
 use Rattle.reading.specs.declared.Extent.{Extent}
 use Rattle.reading.specs.declared.NumberedRule.{NumberedRule}
-use Rattle.reading.proofs.NumberedLaws.{padded-long}
+use Rattle.reading.proofs.Numbering.NumberedLaws.{padded-long}
 use Rattle.synthesis.specs.Monitor.{rowOf, meaning}
-use Rattle.synthesis.proofs.Rows.{row-none}
+use Rattle.synthesis.proofs.Tables.Rows.{row-none}
 use Rattle.listing.specs.Text.{text, decimal}
 use Rattle.listing.specs.Runs.{runsFrom, RunTo}
 use Rattle.listing.specs.Lines.{spaced, line, answerText, runLines, rowLines, patternLine, patternLines, listing}

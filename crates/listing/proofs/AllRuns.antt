@@ -8,8 +8,8 @@ use lib.Dec.{ltb}
 use lib.ListN.{length, getD, drop}
 use borrow.Author.Tests.{ltb-true, ltb-false}
 use Rattle.reading.specs.Rule.{All}
-use Rattle.reading.proofs.AllLaws.{all-map}
-use Rattle.reading.proofs.ListLaws.{getD-inside}
+use Rattle.reading.proofs.Basics.AllLaws.{all-map}
+use Rattle.reading.proofs.Basics.ListLaws.{getD-inside}
 use Rattle.synthesis.specs.Monitor.{rowOf, meaning}
 use Rattle.listing.specs.Runs.{CodeRun, codeRun, runsFrom, runs, RunTo}
 use Rattle.listing.specs.Promises.{Longest, Consecutive, Groups, ShowsAnswers}

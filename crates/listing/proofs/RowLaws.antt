@@ -9,7 +9,7 @@ use lib.Dec.{leb}
 use lib.ListN.{length, drop, length-take, length-drop}
 use borrow.Author.Tests.{leb-true, leb-false}
 use Rattle.synthesis.specs.Monitor.{rowOf}
-use Rattle.synthesis.proofs.Rows.{row-is, row-none}
+use Rattle.synthesis.proofs.Tables.Rows.{row-is, row-none}
 
 module _ (codes : ℕ) (table : List ℕ) (k : ℕ) where
   abbrev Whole : Type 0

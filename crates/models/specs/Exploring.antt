@@ -9,7 +9,7 @@ use lib.Dec.{eqb}
 use lib.ListN.{length, getD}
 use Rattle.synthesis.specs.Monitor.{Answer, dropped, next}
 use Rattle.running.specs.Running.{occurrences}
-use Rattle.models.specs.Model.{silent, code, Model}
+use Rattle.enforcement.specs.Model.{silent, code, Model}
 use Rattle.models.specs.Phone.{Phone, noStep, PhoneWithinLimits}
 use Rattle.models.specs.Judging.{stored}
 use Rattle.models.specs.declared.Step.{Step}

@@ -10,7 +10,7 @@ use Rattle.reading.specs.File.{Outcome, accepted, refused, andThen}
 use Rattle.reading.specs.Numbered.{padded}
 use Rattle.reading.specs.declared.Acceptance.the-variants.{Accepted, Refused}
 use Rattle.synthesis.specs.Building.{buildingOf}
-use Rattle.models.specs.Model.{SatisfiesDecided}
+use Rattle.enforcement.specs.Model.{SatisfiesDecided}
 use Rattle.models.specs.Phone.{Phone, noStep, modelOf, phoneOf}
 use Rattle.models.specs.declared.PhoneModel.{PhoneModel}
 use Rattle.models.specs.declared.ModelReading.{ModelReading}

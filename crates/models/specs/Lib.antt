@@ -1,5 +1,4 @@
 -- In the order in which to read them. `Readings`, `Loading`, `Exploring` and `Searching` serve the crate's own functions alone.
-pub mod Model
 pub mod Phone
 pub mod Faults
 pub mod Judging

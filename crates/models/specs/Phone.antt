@@ -8,7 +8,7 @@ use lib.Dec.{eqb, ltb, leb}
 use lib.ListN.{length, getD}
 use Rattle.reading.specs.Rule.{All}
 use Rattle.reading.specs.File.{Outcome, accepted, refuse, andThen}
-use Rattle.models.specs.Model.{Label, silent, code, Model}
+use Rattle.enforcement.specs.Model.{Label, silent, code, Model}
 use Rattle.models.specs.declared.Step.{Step}
 
 -- ---- phone models

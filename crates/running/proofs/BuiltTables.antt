@@ -4,10 +4,10 @@ use mathlib.Core.Path.{sym, _∙_, ap}
 use native.Mathlib.Omega.{arith}
 use lib.ListN.{length}
 use Rattle.synthesis.specs.Building.{buildingOf, countedOf}
-use Rattle.synthesis.proofs.Synthesized.{building-accepts, building-enough, counted-accepts}
-use Rattle.synthesis.proofs.Rows.{row-at}
-use Rattle.synthesis.proofs.Equations.{answers-count}
-use Rattle.synthesis.proofs.Built.{left, table-rest, entries-in-range}
+use Rattle.synthesis.proofs.Tables.Synthesized.{building-accepts, building-enough, counted-accepts}
+use Rattle.synthesis.proofs.Tables.Rows.{row-at}
+use Rattle.synthesis.proofs.Tables.Equations.{answers-count}
+use Rattle.synthesis.proofs.Tables.Built.{left, table-rest, entries-in-range}
 use Rattle.running.specs.Promises.{BuiltWellFormed, NeverUnfit}
 use Rattle.running.proofs.Tables.{other-well-formed}
 use Rattle.running.proofs.Refusals.{runs-on-tables}

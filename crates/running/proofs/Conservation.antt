@@ -6,7 +6,7 @@ use native.Mathlib.Omega.{arith}
 use lib.ListN.{length, length-append}
 use Rattle.reading.specs.File.{refused}
 use Rattle.synthesis.specs.Monitor.{Answer, kept, verdicts}
-use Rattle.synthesis.proofs.Runs.{run-induction, verdicts-length}
+use Rattle.synthesis.proofs.Monitors.Runs.{run-induction, verdicts-length}
 use Rattle.running.specs.Running.{answerIn, occurrences}
 use Rattle.running.specs.Calls.{Call, History, withVerdict}
 use Rattle.running.specs.Promises.{Conserved, Conserves, CallsConserve}

@@ -5,7 +5,7 @@ use mathlib.Core.List.{List}
 use native.Mathlib.Omega.{arith}
 use lib.ListN.{length}
 use Rattle.synthesis.specs.Monitor.{Answer, kept, verdicts}
-use Rattle.synthesis.proofs.Runs.{run-induction}
+use Rattle.synthesis.proofs.Monitors.Runs.{run-induction}
 use Rattle.running.specs.Running.{occurrences}
 
 -- a scan is kept, or its verdict is 1

@@ -7,15 +7,15 @@ use native.Mathlib.Omega.{arith}
 use lib.ListN.{length, getD, take}
 use lib.Seq.{length-take-le, getD-take}
 use Rattle.reading.specs.Rule.{Rule, Bytes}
-use Rattle.reading.proofs.AllLaws.{all-getD, all-of}
-use Rattle.reading.proofs.ByteLaws.{byte-at}
+use Rattle.reading.proofs.Basics.AllLaws.{all-getD, all-of}
+use Rattle.reading.proofs.Basics.ByteLaws.{byte-at}
 use Rattle.synthesis.specs.Violation.{ViolatesRule}
 use Rattle.synthesis.specs.Monitor.{Answer, verdicts, Monitors, lookup}
-use Rattle.synthesis.proofs.Runs.{verdicts-length}
-use Rattle.synthesis.proofs.Verdicts.{verdicts-range, verdicts-take, dropped-at}
-use Rattle.synthesis.proofs.MonitorLaws.{drops-violations, kept-safe}
-use Rattle.synthesis.proofs.Renaming.{renamed-monitors}
-use Rattle.synthesis.proofs.Built.{left, table-monitors}
+use Rattle.synthesis.proofs.Monitors.Runs.{verdicts-length}
+use Rattle.synthesis.proofs.Monitors.Verdicts.{verdicts-range, verdicts-take, dropped-at}
+use Rattle.synthesis.proofs.Monitors.MonitorLaws.{drops-violations, kept-safe}
+use Rattle.synthesis.proofs.Monitors.Renaming.{renamed-monitors}
+use Rattle.synthesis.proofs.Tables.Built.{left, table-monitors}
 use Rattle.running.specs.Running.{start, moved, answerIn, WellFormedTable}
 use Rattle.running.specs.Calls.{History, Calls, OnTableOrRefused, withVerdict}
 use Rattle.running.specs.Promises.{Sifted, DropsExactly}

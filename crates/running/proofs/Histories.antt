@@ -7,11 +7,11 @@ use lib.ListN.{length, take, drop}
 use lib.Seq.{take-append-seam, take-at}
 use Rattle.reading.specs.Rule.{Bytes}
 use Rattle.reading.specs.File.{accepted, refused}
-use Rattle.reading.proofs.ByteLaws.{bytes-append}
-use Rattle.reading.proofs.Outcomes.{never-accepted}
+use Rattle.reading.proofs.Basics.ByteLaws.{bytes-append}
+use Rattle.reading.proofs.Basics.Outcomes.{never-accepted}
 use Rattle.synthesis.specs.Monitor.{kept, verdicts, ended}
-use Rattle.synthesis.proofs.Renaming.{Renames, renamed-runs}
-use Rattle.synthesis.proofs.Runs.{kept-append, verdicts-append, ended-append, verdicts-length}
+use Rattle.synthesis.proofs.Monitors.Renaming.{Renames, renamed-runs}
+use Rattle.synthesis.proofs.Monitors.Runs.{kept-append, verdicts-append, ended-append, verdicts-length}
 use Rattle.running.specs.Running.{start, answerIn, WellFormedTable, Run, runFrom}
 use Rattle.running.specs.Calls.{Call, History, noCalls, outcomeOf, withOutcome, withCall, Calls, none, call, OnTable, OnTableOrRefused}
 use Rattle.running.specs.declared.State.{State}

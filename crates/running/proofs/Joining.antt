@@ -6,7 +6,7 @@ use mathlib.Core.List.{List, _++_}
 use lib.ListN.{length-append}
 use Rattle.reading.specs.File.{accepted}
 use Rattle.synthesis.specs.Monitor.{kept, verdicts, ended}
-use Rattle.synthesis.proofs.Runs.{kept-append, verdicts-append, ended-append}
+use Rattle.synthesis.proofs.Monitors.Runs.{kept-append, verdicts-append, ended-append}
 use Rattle.running.specs.Running.{answerIn, fits, runFrom, runOf, resultOf}
 use Rattle.running.specs.Promises.{Together, TwoCalls}
 use Rattle.running.specs.declared.State.{State}

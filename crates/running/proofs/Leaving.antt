@@ -7,10 +7,10 @@ use native.Mathlib.Omega.{arith}
 use lib.ListN.{length, drop, length-append, length-drop}
 use lib.Seq.{take-append-seam, drop-append-seam, take-at, drop-at}
 use Rattle.reading.specs.File.{accepted}
-use Rattle.reading.proofs.AllLaws.{all-getD}
+use Rattle.reading.proofs.Basics.AllLaws.{all-getD}
 use Rattle.synthesis.specs.Monitor.{kept, verdicts}
-use Rattle.synthesis.proofs.Runs.{verdicts-length}
-use Rattle.synthesis.proofs.Verdicts.{verdicts-range}
+use Rattle.synthesis.proofs.Monitors.Runs.{verdicts-length}
+use Rattle.synthesis.proofs.Monitors.Verdicts.{verdicts-range}
 use Rattle.running.specs.Running.{answerIn, runFrom, resultOf, overlay}
 use Rattle.running.specs.Promises.{Unchanged, RefusedUnchanged, OnlyFronts, RestUnchanged}
 use Rattle.running.specs.declared.State.{State}

@@ -10,7 +10,7 @@ use lib.Dec.{eqb}
 use lib.ListN.{length, getD, take, set, length-append, length-set}
 use lib.Seq.{take-all, take-suc, length-take-le, set-getD}
 use Rattle.synthesis.specs.Monitor.{dropped, next, kept, verdicts, ended, rowOf}
-use Rattle.synthesis.proofs.Runs.{kept-last, ended-last, verdicts-last, kept-drop, ended-drop, verdicts-drop, verdicts-length}
+use Rattle.synthesis.proofs.Monitors.Runs.{kept-last, ended-last, verdicts-last, kept-drop, ended-drop, verdicts-drop, verdicts-length}
 use Rattle.running.specs.Running.{answerIn, runFrom, overlay}
 use Rattle.running.specs.declared.State.{State}
 use Rattle.running.proofs.Overlays.{overlay-set}

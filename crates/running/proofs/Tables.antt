@@ -12,8 +12,8 @@ use lib.ListN.{length, getD, take, drop, length-take, List·getD-eq-default}
 use lib.Seq.{length-take-le, getD-take}
 use borrow.Author.Tests.{eqb-true, eqb-false, ltb-true, lt-ltb, leb-true, le-leb}
 use Rattle.synthesis.specs.Monitor.{dropped, next, cases, ended, rowOf, meaning}
-use Rattle.synthesis.proofs.Rows.{row-is, row-at}
-use Rattle.synthesis.proofs.Runs.{run-induction}
+use Rattle.synthesis.proofs.Tables.Rows.{row-is, row-at}
+use Rattle.synthesis.proofs.Monitors.Runs.{run-induction}
 use Rattle.running.specs.Running.{moved, answerIn, inRange, entriesInRange, isWellFormed, WellFormedTable, fits}
 use Rattle.running.specs.declared.State.{State}
 

@@ -7,7 +7,7 @@ use native.Mathlib.Omega.{arith}
 use lib.Dec.{eqb}
 use lib.ListN.{length}
 use Rattle.synthesis.specs.Monitor.{Answer, kept, verdicts}
-use Rattle.synthesis.proofs.Runs.{run-induction}
+use Rattle.synthesis.proofs.Monitors.Runs.{run-induction}
 use Rattle.running.specs.Running.{occurrences}
 use Rattle.running.specs.Calls.{withVerdict}
 

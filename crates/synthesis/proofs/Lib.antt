@@ -1,36 +1,6 @@
--- The theory: sets, opening and violation, monitors, the search and the table, and the promises.
-pub mod NodeSetLaws
-pub mod MemberLaws
-pub mod Extension
-pub mod NodeWise
-pub mod OpeningLaws
-pub mod AnsweringLaws
-pub mod ViolationLaws
-pub mod EquationLaws
-pub mod Runs
-pub mod Verdicts
-pub mod RuleMonitor
-pub mod Indices
-pub mod Finding
-pub mod FindingOrder
-pub mod Numbering
-pub mod Rows
-pub mod MonitorLaws
-pub mod Renaming
+-- The parts of the argument, in the order in which they build on each other.
+pub mod Unfolding
+pub mod Monitors
+pub mod Numberings
 pub mod Tables
-pub mod Synthesized
-pub mod Equations
-pub mod Built
--- What the proofs of the functions use.
-pub mod HoldsLaws
-pub mod FillingRows
-pub mod Gathering
-pub mod SetsByTest
-pub mod EnablingCodes
-pub mod NodeArrays
-pub mod OpeningArrays
-pub mod Linking
-pub mod EnabledLaws
-pub mod GraphLaws
-pub mod PlanLaws
-pub mod BuildingWays
+pub mod Functions

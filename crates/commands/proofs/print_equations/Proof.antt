@@ -1,6 +1,6 @@
 -- `print_equations` meets its contract: the answer is that of `build`, and the table the one that it leaves.
 use borrow.Author.Needs.{needs}
-use Rattle.reading.proofs.ByteLaws.{slice-bytes}
+use Rattle.reading.proofs.Basics.ByteLaws.{slice-bytes}
 use Rattle.commands.proofs.print_equations.Statement.{statement}
 use Rattle.commands.proofs.print_equations.Tie as tie
 

@@ -1,9 +1,9 @@
 -- `judge` meets its contract: each return is a row of what judging answers and leaves.
 use borrow.Author.Needs.{needs}
 use Rattle.reading.specs.Rule.{Bytes}
-use Rattle.reading.proofs.ByteLaws.{slice-bytes}
-use Rattle.models.proofs.Judgment.{judges-model-refused, judges-rule-refused, Accepts, both-accepted}
-use Rattle.models.proofs.Judgment.{model-has-phone, table-well-formed, judges-meets, judges-breaks}
+use Rattle.reading.proofs.Basics.ByteLaws.{slice-bytes}
+use Rattle.models.proofs.Verdicts.Judgment.{judges-model-refused, judges-rule-refused, Accepts, both-accepted}
+use Rattle.models.proofs.Verdicts.Judgment.{model-has-phone, table-well-formed, judges-meets, judges-breaks}
 use Rattle.models.proofs.judge.Statement.{statement}
 use Rattle.models.proofs.judge.Tie as tie
 

@@ -4,11 +4,11 @@ use Prim.Native.Nat.{ℕ}
 use mathlib.Core.List.{List}
 use borrow.Author.Needs.{needs}
 use Rattle.reading.specs.File.{accepted}
-use Rattle.reading.proofs.ByteLaws.{slice-bytes}
+use Rattle.reading.proofs.Basics.ByteLaws.{slice-bytes}
 use Rattle.models.specs.Phone.{statesOf}
 use Rattle.models.specs.Loading.{StepsBegun}
 use Rattle.models.specs.declared.PhoneModel.{PhoneModel}
-use Rattle.models.proofs.FileWays.{states-found, none-begun, states-refused, loaded-accepted, loaded-refused}
+use Rattle.models.proofs.Files.FileWays.{states-found, none-begun, states-refused, loaded-accepted, loaded-refused}
 use Rattle.models.proofs.read_model.Statement.{statement}
 use Rattle.models.proofs.read_model.Tie as tie
 

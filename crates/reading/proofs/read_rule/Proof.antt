@@ -1,6 +1,6 @@
 -- `read_rule` meets its contract: each return is the reading of what the file says.
 use borrow.Author.Needs.{needs}
-use Rattle.reading.proofs.Ways.{head-refused, formula-refused, AfterFormula, after-formula, few-left, bytes-follow, file-accepted}
+use Rattle.reading.proofs.Functions.Ways.{head-refused, formula-refused, AfterFormula, after-formula, few-left, bytes-follow, file-accepted}
 use Rattle.reading.proofs.read_rule.Statement.{statement}
 use Rattle.reading.proofs.read_rule.Tie as tie
 

@@ -2,7 +2,7 @@
 use native.Mathlib.Omega.{arith}
 use borrow.Author.Needs.{needs}
 use Rattle.synthesis.specs.Building.{synthesisOf}
-use Rattle.synthesis.proofs.BuildingWays.{too-short, not-counted, Counts, counts, is-filled}
+use Rattle.synthesis.proofs.Functions.BuildingWays.{too-short, not-counted, Counts, counts, is-filled}
 use Rattle.synthesis.proofs.build.Statement.{statement}
 use Rattle.synthesis.proofs.build.Tie as tie
 

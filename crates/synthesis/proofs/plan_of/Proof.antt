@@ -1,7 +1,7 @@
 -- `plan_of` meets its contract: each return is the plan of what is made of the file.
 use borrow.Author.Needs.{needs}
-use Rattle.reading.proofs.ByteLaws.{slice-bytes}
-use Rattle.synthesis.proofs.PlanLaws.{Read, unread-plan, read-is, read-some, unsatisfiable-plan, many-plan, counted-plan}
+use Rattle.reading.proofs.Basics.ByteLaws.{slice-bytes}
+use Rattle.synthesis.proofs.Functions.PlanLaws.{Read, unread-plan, read-is, read-some, unsatisfiable-plan, many-plan, counted-plan}
 use Rattle.synthesis.proofs.plan_of.Statement.{statement}
 use Rattle.synthesis.proofs.plan_of.Tie as tie
 

@@ -2,7 +2,7 @@
 use native.Mathlib.Nat.{add-sub-cancel-left}
 use native.Mathlib.Omega.{arith}
 use borrow.Author.Needs.{needs}
-use Rattle.synthesis.proofs.Rows.{row-is, row-none}
+use Rattle.synthesis.proofs.Tables.Rows.{row-is, row-none}
 use Rattle.synthesis.proofs.row.Statement.{statement}
 use Rattle.synthesis.proofs.row.Tie as tie
 

@@ -1,6 +1,6 @@
 -- `print_judged` meets its contract: the answer is that of `judge`.
 use borrow.Author.Needs.{needs}
-use Rattle.reading.proofs.ByteLaws.{slice-bytes}
+use Rattle.reading.proofs.Basics.ByteLaws.{slice-bytes}
 use Rattle.commands.proofs.judging.print_judged.Statement.{statement}
 use Rattle.commands.proofs.judging.print_judged.Tie as tie
 

@@ -4,7 +4,7 @@ use native.Mathlib.Omega.{arith}
 use lib.ListN.{length}
 use borrow.Author.Needs.{needs}
 use Rattle.io.proofs.Counting.{front}
-use Rattle.reading.proofs.ByteLaws.{slice-bytes}
+use Rattle.reading.proofs.Basics.ByteLaws.{slice-bytes}
 use Rattle.running.proofs.Outcomes.{kept-room}
 use Rattle.commands.proofs.sifting.sift_block.Statement.{statement}
 use Rattle.commands.proofs.sifting.sift_block.Tie as tie

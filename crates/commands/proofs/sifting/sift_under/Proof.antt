@@ -3,7 +3,7 @@ use mathlib.Core.Path.{sym, _∙_, subst}
 use lib.ListN.{length}
 use borrow.Author.Needs.{needs}
 use Rattle.reading.specs.Rule.{Bytes}
-use Rattle.reading.proofs.ByteLaws.{slice-bytes}
+use Rattle.reading.proofs.Basics.ByteLaws.{slice-bytes}
 use Rattle.synthesis.specs.Building.{buildingOf}
 use Rattle.running.specs.Calls.{noCalls, none}
 use Rattle.running.specs.Running.{WellFormedTable}

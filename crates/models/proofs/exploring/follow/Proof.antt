@@ -10,9 +10,9 @@ use Rattle.models.specs.Exploring.{leadsTo, linksOf}
 use Rattle.models.specs.Searching.{remaining, rowAt, Searching}
 use Rattle.models.specs.declared.Step.{Step}
 use Rattle.models.specs.declared.exploring.Cursor.{Cursor}
-use Rattle.models.proofs.FoundPairs.{found-few}
-use Rattle.models.proofs.Searches.{index-inside, index-before, worklist, row-inside, label-inside, target-inside, next-inside}
-use Rattle.models.proofs.Searches.{followed-dropped, followed-on, followed-next}
+use Rattle.models.proofs.Pairs.FoundPairs.{found-few}
+use Rattle.models.proofs.Pairs.Searches.{index-inside, index-before, worklist, row-inside, label-inside, target-inside, next-inside}
+use Rattle.models.proofs.Pairs.Searches.{followed-dropped, followed-on, followed-next}
 use Rattle.models.proofs.exploring.follow.Statement.{statement}
 use Rattle.models.proofs.exploring.follow.Tie as tie
 

@@ -1,8 +1,8 @@
 -- `exploring::never_drops` meets its contract.
 use native.Mathlib.Omega.{arith}
 use borrow.Author.Needs.{needs}
-use Rattle.models.proofs.FoundPairs.{found-few, worklist-none}
-use Rattle.models.proofs.Searches.{searching-first, stored-searched}
+use Rattle.models.proofs.Pairs.FoundPairs.{found-few, worklist-none}
+use Rattle.models.proofs.Pairs.Searches.{searching-first, stored-searched}
 use Rattle.models.proofs.exploring.never_drops.Statement.{statement}
 use Rattle.models.proofs.exploring.never_drops.Tie as tie
 

@@ -25,11 +25,11 @@ use denote.Triple.Statement.{Triple}
 use denote.Triple.Table.{cited}
 use denote.Triple.Walked.{needs, goes-dropped, goes-slice}
 use denote.Exit.{yes}
-use Rattle.models.proofs.Locals.{passes-slice, reads-local, sets-local}
-use Rattle.models.proofs.Meeting.{enters}
-use Rattle.models.proofs.StructRows as struct
-use Rattle.models.proofs.StepRows as step
-use Rattle.models.proofs.SearchSlices.{AtStart, slices-spell, slices-tell, rooms-of, the-cursor, Rooms, seen, pairs}
+use Rattle.models.proofs.Compiled.Locals.{passes-slice, reads-local, sets-local}
+use Rattle.models.proofs.Compiled.Meeting.{enters}
+use Rattle.models.proofs.Compiled.StructRows as struct
+use Rattle.models.proofs.Compiled.StepRows as step
+use Rattle.models.proofs.Compiled.SearchSlices.{AtStart, slices-spell, slices-tell, rooms-of, the-cursor, Rooms, seen, pairs}
 use Rattle.models.proofs.steps.nth_step.Symbol as nth-step-def
 use Rattle.models.proofs.steps.nth_step.Symbol.{name as #nth-step}
 use Rattle.models.proofs.steps.nth_step.Met as nth-step-thm

@@ -35,13 +35,13 @@ use denote.Triple.Statement.{Triple}
 use denote.Triple.Table.{cited}
 use denote.Triple.Walked.{needs, goes-dropped, goes-gave-slice}
 use denote.Exit.{yes}
-use Rattle.models.proofs.Locals.{passes-slice, reads-local, sets-local}
-use Rattle.models.proofs.Exits.{frees-cell}
-use Rattle.models.proofs.Meeting.{enters}
-use Rattle.models.proofs.Reborrowing.{reborrows}
-use Rattle.models.proofs.StructRows as struct
-use Rattle.models.proofs.StepRows as step
-use Rattle.models.proofs.SearchSlices.{AtStart, slices-spell, slices-tell, rooms-of, the-cursor, Rooms}
+use Rattle.models.proofs.Compiled.Locals.{passes-slice, reads-local, sets-local}
+use Rattle.models.proofs.Compiled.Exits.{frees-cell}
+use Rattle.models.proofs.Compiled.Meeting.{enters}
+use Rattle.models.proofs.Compiled.Reborrowing.{reborrows}
+use Rattle.models.proofs.Compiled.StructRows as struct
+use Rattle.models.proofs.Compiled.StepRows as step
+use Rattle.models.proofs.Compiled.SearchSlices.{AtStart, slices-spell, slices-tell, rooms-of, the-cursor, Rooms}
 use Rattle.models.proofs.exploring.search.Symbol as search-def
 use Rattle.models.proofs.exploring.search.Symbol.{name as #search}
 use Rattle.models.proofs.exploring.search.Met as search-thm

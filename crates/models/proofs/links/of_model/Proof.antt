@@ -5,7 +5,7 @@ use lib.ListN.{getD}
 use borrow.Author.Needs.{needs}
 use Rattle.models.specs.Phone.{noStep, WellFormedStep}
 use Rattle.models.specs.Exploring.{linksOf}
-use Rattle.models.proofs.LinkLaws.{stored-step, stored-few, LinkedSoFar, linked-none, linked-next, linked-stored}
+use Rattle.models.proofs.Pairs.LinkLaws.{stored-step, stored-few, LinkedSoFar, linked-none, linked-next, linked-stored}
 use Rattle.models.proofs.links.of_model.Statement.{statement}
 use Rattle.models.proofs.links.of_model.Tie as tie
 

@@ -7,8 +7,8 @@ use borrow.Author.Needs.{needs}
 use Rattle.reading.specs.File.{Outcome, accepted}
 use Rattle.models.specs.Phone.{stepAt, recordLength}
 use Rattle.models.specs.declared.Step.{Step}
-use Rattle.models.proofs.FileWays.{step-found, all-read, step-refused, step-read}
-use Rattle.models.proofs.StepBytes.{step-fits}
+use Rattle.models.proofs.Files.FileWays.{step-found, all-read, step-refused, step-read}
+use Rattle.models.proofs.Files.StepBytes.{step-fits}
 use Rattle.models.proofs.loading.next_step.Statement.{statement}
 use Rattle.models.proofs.loading.next_step.Tie as tie
 

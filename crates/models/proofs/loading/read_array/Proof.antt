@@ -44,15 +44,15 @@ use Rattle.models.specs.Phone.{stepsAt}
 use Rattle.models.specs.Loading.{StepsBegun, LoadedAs}
 use Rattle.models.specs.declared.Step.{Step}
 use Rattle.models.specs.declared.loading.Next.{Next}
-use Rattle.models.proofs.Locals.{passes-slice, passes-word, reads-local, reads-field, sets-local}
-use Rattle.models.proofs.Landing.{init-as}
-use Rattle.models.proofs.Exits.{frees-cell}
-use Rattle.models.proofs.Meeting.{enters}
-use Rattle.models.proofs.Slices.{slice-at}
-use Rattle.models.proofs.StructRows.{vals, makes, typed}
-use Rattle.models.proofs.StepRows.{the-step, R, behindTy, AR, arrayTy, array-low, array-told, array-made, array-typed}
-use Rattle.models.proofs.NextRow.{the-next}
-use Rattle.models.proofs.ReaderSlices.{file-val, File, Records}
+use Rattle.models.proofs.Compiled.Locals.{passes-slice, passes-word, reads-local, reads-field, sets-local}
+use Rattle.models.proofs.Compiled.Landing.{init-as}
+use Rattle.models.proofs.Compiled.Exits.{frees-cell}
+use Rattle.models.proofs.Compiled.Meeting.{enters}
+use Rattle.models.proofs.Compiled.Slices.{slice-at}
+use Rattle.models.proofs.Compiled.StructRows.{vals, makes, typed}
+use Rattle.models.proofs.Compiled.StepRows.{the-step, R, behindTy, AR, arrayTy, array-low, array-told, array-made, array-typed}
+use Rattle.models.proofs.Compiled.NextRow.{the-next}
+use Rattle.models.proofs.Compiled.ReaderSlices.{file-val, File, Records}
 use Rattle.models.proofs.loading.read_steps.Symbol as steps-def
 use Rattle.models.proofs.loading.read_steps.Symbol.{name as #read-steps}
 use Rattle.models.proofs.loading.read_steps.Met as steps-thm

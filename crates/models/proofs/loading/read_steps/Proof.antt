@@ -40,16 +40,16 @@ use Rattle.models.specs.Phone.{stepsAt}
 use Rattle.models.specs.Loading.{StepsBegun, LoadedAs}
 use Rattle.models.specs.declared.Step.{Step}
 use Rattle.models.specs.declared.loading.Next.{Next}
-use Rattle.models.proofs.Locals.{passes-slice, passes-word, reads-local, sets-local}
-use Rattle.models.proofs.Loop.{loops-down}
-use Rattle.models.proofs.Landing.{init-as}
-use Rattle.models.proofs.Exits.{frees-cell, frees-room}
-use Rattle.models.proofs.Meeting.{enters}
-use Rattle.models.proofs.Slices.{slice-at}
-use Rattle.models.proofs.StructRows.{low, makes, typed}
-use Rattle.models.proofs.StepRows.{R}
-use Rattle.models.proofs.NextRow.{the-next, N, IsNext}
-use Rattle.models.proofs.ReaderSlices.{file-val, File, Records}
+use Rattle.models.proofs.Compiled.Locals.{passes-slice, passes-word, reads-local, sets-local}
+use Rattle.models.proofs.Compiled.Loop.{loops-down}
+use Rattle.models.proofs.Compiled.Landing.{init-as}
+use Rattle.models.proofs.Compiled.Exits.{frees-cell, frees-room}
+use Rattle.models.proofs.Compiled.Meeting.{enters}
+use Rattle.models.proofs.Compiled.Slices.{slice-at}
+use Rattle.models.proofs.Compiled.StructRows.{low, makes, typed}
+use Rattle.models.proofs.Compiled.StepRows.{R}
+use Rattle.models.proofs.Compiled.NextRow.{the-next, N, IsNext}
+use Rattle.models.proofs.Compiled.ReaderSlices.{file-val, File, Records}
 use Rattle.models.proofs.loading.next_step.Symbol as next-def
 use Rattle.models.proofs.loading.next_step.Symbol.{name as #next-step}
 use Rattle.models.proofs.loading.next_step.Met as next-thm

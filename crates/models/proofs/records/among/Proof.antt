@@ -1,5 +1,5 @@
 -- `records::among` meets its contract: each return is a row of the table.
-use Rattle.models.proofs.RecordChecks.{from-outside, to-outside, both-among}
+use Rattle.models.proofs.Files.RecordChecks.{from-outside, to-outside, both-among}
 use borrow.Author.Needs.{needs}
 use Rattle.models.proofs.records.among.Statement.{statement}
 use Rattle.models.proofs.records.among.Tie as tie

@@ -1,7 +1,7 @@
 -- `records::read_code_step` meets its contract: a cut record is refused, and else `among` answers.
 use Prim.Native.Nat.{_+_}
 use native.Mathlib.Omega.{arith}
-use Rattle.models.proofs.RecordChecks.{step-cut, step-whole}
+use Rattle.models.proofs.Files.RecordChecks.{step-cut, step-whole}
 use borrow.Author.Needs.{needs}
 use Rattle.models.proofs.records.read_code_step.Statement.{statement}
 use Rattle.models.proofs.records.read_code_step.Tie as tie

@@ -1,5 +1,5 @@
 -- `records::read_silent_step` meets its contract: a cut record is refused, and else `among` answers.
-use Rattle.models.proofs.RecordChecks.{step-cut, step-whole}
+use Rattle.models.proofs.Files.RecordChecks.{step-cut, step-whole}
 use borrow.Author.Needs.{needs}
 use Rattle.models.proofs.records.read_silent_step.Statement.{statement}
 use Rattle.models.proofs.records.read_silent_step.Tie as tie

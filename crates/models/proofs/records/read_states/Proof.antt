@@ -1,6 +1,6 @@
 -- `records::read_states` meets its contract: each return is a row of the table.
 use native.Mathlib.Omega.{arith}
-use Rattle.models.proofs.RecordChecks.{file-empty, other-kind, states-cut, no-states, states-over, states-whole}
+use Rattle.models.proofs.Files.RecordChecks.{file-empty, other-kind, states-cut, no-states, states-over, states-whole}
 use borrow.Author.Needs.{needs}
 use Rattle.models.proofs.records.read_states.Statement.{statement}
 use Rattle.models.proofs.records.read_states.Tie as tie

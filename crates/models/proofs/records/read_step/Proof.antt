@@ -7,8 +7,8 @@ use lib.Dec.{eqb}
 use lib.ListN.{getD}
 use borrow.Author.Tests.{eqb-true, eqb-false, not-true, not-false}
 use borrow.Author.Needs.{needs}
-use Rattle.models.proofs.StepLaws.{a-step}
-use Rattle.models.proofs.RecordChecks.{no-step, no-step-left, code-step, silent-step}
+use Rattle.models.proofs.Files.StepLaws.{a-step}
+use Rattle.models.proofs.Files.RecordChecks.{no-step, no-step-left, code-step, silent-step}
 use Rattle.models.proofs.records.read_step.Statement.{statement}
 use Rattle.models.proofs.records.read_step.Tie as tie
 

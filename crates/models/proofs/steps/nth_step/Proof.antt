@@ -34,12 +34,12 @@ use denote.Triple.Walked.{says, needs, Stays, stay-none-slice, stay-none, walkOf
 use denote.Exit.{yes}
 use Rattle.models.specs.declared.Step.{Step}
 use Rattle.models.specs.Phone.{noStep}
-use Rattle.models.proofs.Locals.{passes-slice, passes-word, reads-local, reads-field, sets-local}
-use Rattle.models.proofs.Exits.{frees-cell}
-use Rattle.models.proofs.Meeting.{enters}
-use Rattle.models.proofs.Slices.{slice-at}
-use Rattle.models.proofs.StructRows.{low, vals, tells, makes, typed}
-use Rattle.models.proofs.StepRows.{the-step, R, stepTy, copy}
+use Rattle.models.proofs.Compiled.Locals.{passes-slice, passes-word, reads-local, reads-field, sets-local}
+use Rattle.models.proofs.Compiled.Exits.{frees-cell}
+use Rattle.models.proofs.Compiled.Meeting.{enters}
+use Rattle.models.proofs.Compiled.Slices.{slice-at}
+use Rattle.models.proofs.Compiled.StructRows.{low, vals, tells, makes, typed}
+use Rattle.models.proofs.Compiled.StepRows.{the-step, R, stepTy, copy}
 use Rattle.models.proofs.steps.nth_step.Key.{name as #nth-step}
 use Rattle.models.proofs.steps.nth_step as nth-step
 use Rattle.models.proofs.steps.nth_step.Statement as stated

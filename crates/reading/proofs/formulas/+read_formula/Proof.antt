@@ -5,9 +5,9 @@ use borrow.Author.Needs.{needs}
 use borrow.Fn.Kinds.{In}
 use borrow.Fn.PlainCycle.{Measures, is, falls, and}
 use Rattle.reading.specs.Representations.{guardsOf}
-use Rattle.reading.proofs.Scopes.{guards-length}
-use Rattle.reading.proofs.Parts.{Found, found-is, rest-left, node-refused, is-leaf, is-variable, is-bound}
-use Rattle.reading.proofs.Parts.{is-necessity, is-max, first-refused, is-both}
+use Rattle.reading.proofs.Functions.Scopes.{guards-length}
+use Rattle.reading.proofs.Functions.Parts.{Found, found-is, rest-left, node-refused, is-leaf, is-variable, is-bound}
+use Rattle.reading.proofs.Functions.Parts.{is-necessity, is-max, first-refused, is-both}
 use Rattle.reading.proofs.formulas.read_formula.Reads as reads
 use Rattle.reading.proofs.formulas.read_formula.Kinds as kinds
 use Rattle.reading.proofs.formulas.+read_formula.Lts-read_formula as lts

@@ -1,7 +1,7 @@
 -- `formulas::read_necessity` meets its contract: each return is a row of the table.
 use Prim.Native.Nat.{_+_}
 use native.Mathlib.Omega.{arith}
-use Rattle.reading.proofs.Checks.{necessity-cut, no-such-pattern, necessity-read}
+use Rattle.reading.proofs.Accepting.Checks.{necessity-cut, no-such-pattern, necessity-read}
 use borrow.Author.Needs.{needs}
 use Rattle.reading.proofs.formulas.read_necessity.Statement.{statement}
 use Rattle.reading.proofs.formulas.read_necessity.Tie as tie

@@ -1,6 +1,6 @@
 -- `formulas::read_node` meets its contract: each return is a row of the table.
-use Rattle.reading.proofs.Checks.{file-ended, kind-0, kind-over, late-pattern, no-node-left, node-necessity, node-variable}
-use Rattle.reading.proofs.NodeBytes.{node-bare}
+use Rattle.reading.proofs.Accepting.Checks.{file-ended, kind-0, kind-over, late-pattern, no-node-left, node-necessity, node-variable}
+use Rattle.reading.proofs.Accepting.NodeBytes.{node-bare}
 use borrow.Author.Needs.{needs}
 use Rattle.reading.proofs.formulas.read_node.Statement.{statement}
 use Rattle.reading.proofs.formulas.read_node.Tie as tie

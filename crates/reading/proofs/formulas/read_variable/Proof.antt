@@ -1,7 +1,7 @@
 -- `formulas::read_variable` meets its contract: each return is a row of the table.
 use Prim.Native.Nat.{_+_}
 use native.Mathlib.Omega.{arith}
-use Rattle.reading.proofs.Checks.{variable-cut, no-such-max-of, not-guarded-of, variable-read-of}
+use Rattle.reading.proofs.Accepting.Checks.{variable-cut, no-such-max-of, not-guarded-of, variable-read-of}
 use borrow.Author.Needs.{needs}
 use Rattle.reading.proofs.formulas.read_variable.Statement.{statement}
 use Rattle.reading.proofs.formulas.read_variable.Tie as tie

@@ -1,7 +1,7 @@
 -- `reading::patterns::extent` meets its contract: by the laws of extents the numbers fit, and are what it has to return.
 use native.Mathlib.Omega.{arith}
 use borrow.Author.Needs.{needs}
-use Rattle.reading.proofs.Extents.{lowest-code, code-count, lowest-fits, count-fits}
+use Rattle.reading.proofs.Measures.Extents.{lowest-code, code-count, lowest-fits, count-fits}
 use Rattle.reading.proofs.patterns.extent.Statement.{statement}
 use Rattle.reading.proofs.patterns.extent.Tie as tie
 

@@ -1,5 +1,5 @@
 -- `patterns::read_pattern` meets its contract: each return is a row of the table.
-use Rattle.reading.proofs.Checks.{no-pattern-left, pattern-cut, no-kind, first-over, last-over, first-past-last, pattern-read}
+use Rattle.reading.proofs.Accepting.Checks.{no-pattern-left, pattern-cut, no-kind, first-over, last-over, first-past-last, pattern-read}
 use borrow.Author.Needs.{needs}
 use Rattle.reading.proofs.patterns.read_pattern.Statement.{statement}
 use Rattle.reading.proofs.patterns.read_pattern.Tie as tie

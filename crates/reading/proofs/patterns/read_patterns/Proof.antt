@@ -8,8 +8,8 @@ use borrow.Author.Needs.{needs}
 use Rattle.reading.specs.File.{accepted, isPattern, patternAt}
 use Rattle.reading.specs.Representations.{patternAnswer}
 use Rattle.reading.specs.declared.NumberedRule.{NumberedRule}
-use Rattle.reading.proofs.Heads.{PatternsBegun, none-begun, one-begun, all-begun, begun-refused, found-pattern, no-pattern-found}
-use Rattle.reading.proofs.PatternBytes.{PatternStands, pattern-stands, one-stands}
+use Rattle.reading.proofs.Functions.Heads.{PatternsBegun, none-begun, one-begun, all-begun, begun-refused, found-pattern, no-pattern-found}
+use Rattle.reading.proofs.Accepting.PatternBytes.{PatternStands, pattern-stands, one-stands}
 use Rattle.reading.proofs.patterns.read_patterns.Statement.{statement}
 use Rattle.reading.proofs.patterns.read_patterns.Tie as tie
 

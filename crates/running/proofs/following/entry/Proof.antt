@@ -4,7 +4,7 @@ use mathlib.Core.Path.{sym}
 use native.Mathlib.Omega.{arith}
 use borrow.Author.Needs.{needs}
 use lib.ListN.{length, List·getD-eq-default}
-use Rattle.reading.proofs.ListLaws.{getD-inside}
+use Rattle.reading.proofs.Basics.ListLaws.{getD-inside}
 use Rattle.running.proofs.following.entry.Statement.{statement}
 use Rattle.running.proofs.following.entry.Tie as tie
 

@@ -2,7 +2,7 @@
 use native.Mathlib.Omega.{arith}
 use borrow.Author.Needs.{needs}
 use borrow.Author.Tests.{eq-eqb, ne-eqb}
-use Rattle.synthesis.proofs.Indices.{take-index-le}
+use Rattle.synthesis.proofs.Numberings.Indices.{take-index-le}
 use Rattle.synthesis.proofs.filling.entry.Statement.{statement}
 use Rattle.synthesis.proofs.filling.entry.Tie as tie
 

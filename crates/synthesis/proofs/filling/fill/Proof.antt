@@ -8,7 +8,7 @@ use lib.Seq.{getD-take, length-take-le}
 use borrow.Author.Needs.{needs}
 use Rattle.synthesis.specs.Table.{rows}
 use Rattle.synthesis.specs.Arrays.{answerBy}
-use Rattle.synthesis.proofs.FillingRows.{rows-keep, rows-next, rows-all}
+use Rattle.synthesis.proofs.Functions.FillingRows.{rows-keep, rows-next, rows-all}
 use Rattle.synthesis.proofs.filling.fill.Statement.{statement}
 use Rattle.synthesis.proofs.filling.fill.Tie as tie
 

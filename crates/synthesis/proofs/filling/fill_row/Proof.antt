@@ -7,7 +7,7 @@ use lib.ListN.{length, take, drop}
 use borrow.Author.Needs.{needs}
 use Rattle.synthesis.specs.Table.{entriesOf}
 use Rattle.synthesis.specs.Arrays.{answerBy}
-use Rattle.synthesis.proofs.FillingRows.{entries-next, entries-all}
+use Rattle.synthesis.proofs.Functions.FillingRows.{entries-next, entries-all}
 use Rattle.synthesis.proofs.filling.fill_row.Statement.{statement}
 use Rattle.synthesis.proofs.filling.fill_row.Tie as tie
 

@@ -5,9 +5,9 @@ use native.Mathlib.Omega.{arith}
 use borrow.Fn.Kinds.{In}
 use borrow.Fn.PlainCycle.{Measures, is, falls, and}
 use Rattle.synthesis.specs.Arrays.{SomeNode}
-use Rattle.synthesis.proofs.OpeningArrays.{node-in-64, kinds-are-64, args-are-64, some-next, some-second, some-variable}
-use Rattle.synthesis.proofs.OpeningArrays.{opening-both, opening-max, opening-variable}
-use Rattle.synthesis.proofs.OpeningArrays.{opening-falsity, opening-necessity, opening-truth}
+use Rattle.synthesis.proofs.Functions.OpeningArrays.{node-in-64, kinds-are-64, args-are-64, some-next, some-second, some-variable}
+use Rattle.synthesis.proofs.Functions.OpeningArrays.{opening-both, opening-max, opening-variable}
+use Rattle.synthesis.proofs.Functions.OpeningArrays.{opening-falsity, opening-necessity, opening-truth}
 use Rattle.synthesis.proofs.graph.opening.Reads as reads
 use Rattle.synthesis.proofs.graph.opening.Kinds as kinds
 use Rattle.synthesis.proofs.graph.+opening.Lts-opening as lts

@@ -1,7 +1,7 @@
 -- `graph::wait` meets its contract: a row for a necessity and one for any other node.
 use native.Mathlib.Omega.{arith}
 use borrow.Author.Needs.{needs}
-use Rattle.synthesis.proofs.EnabledLaws.{pattern-in-32, enabled-necessity, enabled-other}
+use Rattle.synthesis.proofs.Functions.EnabledLaws.{pattern-in-32, enabled-necessity, enabled-other}
 use Rattle.synthesis.proofs.graph.enable.Statement.{statement}
 use Rattle.synthesis.proofs.graph.enable.Tie as tie
 

@@ -6,7 +6,7 @@ use lib.ListN.{length}
 use borrow.Author.Needs.{needs}
 use Rattle.reading.specs.Rule.{Rule}
 use Rattle.synthesis.specs.Arrays.{IsNumbered, EnabledBelow}
-use Rattle.synthesis.proofs.EnabledLaws.{some-below, enabled-none, enabled-all}
+use Rattle.synthesis.proofs.Functions.EnabledLaws.{some-below, enabled-none, enabled-all}
 use Rattle.synthesis.proofs.graph.enable_all.Statement.{statement}
 use Rattle.synthesis.proofs.graph.enable_all.Tie as tie
 

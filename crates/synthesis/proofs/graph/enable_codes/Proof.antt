@@ -3,7 +3,7 @@ use Prim.Native.Nat.{_-_, _≤_, _<_}
 use native.Mathlib.Omega.{arith}
 use lib.ListN.{length}
 use borrow.Author.Needs.{needs}
-use Rattle.synthesis.proofs.EnablingCodes.{CodesEnabledTo, codes-enabled-none, codes-enabled-next, codes-enabled-all}
+use Rattle.synthesis.proofs.Functions.EnablingCodes.{CodesEnabledTo, codes-enabled-none, codes-enabled-next, codes-enabled-all}
 use Rattle.synthesis.proofs.graph.enable_codes.Statement.{statement}
 use Rattle.synthesis.proofs.graph.enable_codes.Tie as tie
 

@@ -5,7 +5,7 @@ use native.Mathlib.Omega.{arith}
 use lib.ListN.{getD}
 use borrow.Author.Needs.{needs}
 use Rattle.synthesis.specs.Arrays.{HasKind}
-use Rattle.synthesis.proofs.SetsByTest.{none-yet, kind-next}
+use Rattle.synthesis.proofs.Functions.SetsByTest.{none-yet, kind-next}
 use Rattle.synthesis.proofs.graph.falsities.Statement.{statement}
 use Rattle.synthesis.proofs.graph.falsities.Tie as tie
 

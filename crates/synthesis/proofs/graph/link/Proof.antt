@@ -2,8 +2,8 @@
 use mathlib.Core.Path.{refl}
 use native.Mathlib.Omega.{arith}
 use borrow.Author.Needs.{needs}
-use Rattle.synthesis.proofs.OpeningArrays.{node-in-64, kinds-are-64, some-next}
-use Rattle.synthesis.proofs.Linking.{linked-max, linked-necessity, linked-other}
+use Rattle.synthesis.proofs.Functions.OpeningArrays.{node-in-64, kinds-are-64, some-next}
+use Rattle.synthesis.proofs.Functions.Linking.{linked-max, linked-necessity, linked-other}
 use Rattle.synthesis.proofs.graph.link.Statement.{statement}
 use Rattle.synthesis.proofs.graph.link.Tie as tie
 

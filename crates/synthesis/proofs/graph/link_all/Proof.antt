@@ -6,7 +6,7 @@ use lib.ListN.{length}
 use borrow.Author.Needs.{needs}
 use Rattle.reading.specs.Rule.{Rule}
 use Rattle.synthesis.specs.Arrays.{IsRule, Linked}
-use Rattle.synthesis.proofs.Linking.{linked-none, linked-all}
+use Rattle.synthesis.proofs.Functions.Linking.{linked-none, linked-all}
 use Rattle.synthesis.proofs.graph.link_all.Statement.{statement}
 use Rattle.synthesis.proofs.graph.link_all.Tie as tie
 

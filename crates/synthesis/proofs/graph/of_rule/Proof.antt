@@ -2,8 +2,8 @@
 use mathlib.Core.Path.{refl}
 use native.Mathlib.Omega.{arith}
 use borrow.Author.Needs.{needs}
-use Rattle.synthesis.proofs.EnabledLaws.{some-below}
-use Rattle.synthesis.proofs.GraphLaws.{some-node, first-opened, falsities-by-kind}
+use Rattle.synthesis.proofs.Functions.EnabledLaws.{some-below}
+use Rattle.synthesis.proofs.Functions.GraphLaws.{some-node, first-opened, falsities-by-kind}
 use Rattle.synthesis.proofs.graph.of_rule.Statement.{statement}
 use Rattle.synthesis.proofs.graph.of_rule.Tie as tie
 

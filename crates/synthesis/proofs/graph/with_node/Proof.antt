@@ -1,6 +1,6 @@
 -- `graph::with_node` meets its contract.
 use borrow.Author.Needs.{needs}
-use Rattle.synthesis.proofs.SetsByTest.{insert-is}
+use Rattle.synthesis.proofs.Functions.SetsByTest.{insert-is}
 use Rattle.synthesis.proofs.graph.with_node.Statement.{statement}
 use Rattle.synthesis.proofs.graph.with_node.Tie as tie
 

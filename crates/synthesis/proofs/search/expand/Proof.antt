@@ -1,8 +1,8 @@
 -- `search::take_turn` meets its contract.
 use native.Mathlib.Omega.{arith}
 use borrow.Author.Needs.{needs}
-use Rattle.synthesis.proofs.Finding.{expanded-grows}
-use Rattle.synthesis.proofs.HoldsLaws.{held-still, held-past, held-expanded}
+use Rattle.synthesis.proofs.Numberings.Finding.{expanded-grows}
+use Rattle.synthesis.proofs.Functions.HoldsLaws.{held-still, held-past, held-expanded}
 use Rattle.synthesis.proofs.search.expand.Statement.{statement}
 use Rattle.synthesis.proofs.search.expand.Tie as tie
 

@@ -4,7 +4,7 @@ use mathlib.Core.Path.{_≡_, sym}
 use native.Mathlib.Omega.{arith}
 use borrow.Author.Count.{below-more}
 use borrow.Author.Needs.{needs}
-use Rattle.synthesis.proofs.Indices.{AbsentBelow, take-index, take-absent}
+use Rattle.synthesis.proofs.Numberings.Indices.{AbsentBelow, take-index, take-absent}
 use Rattle.synthesis.proofs.search.find.Statement.{statement}
 use Rattle.synthesis.proofs.search.find.Tie as tie
 

@@ -5,8 +5,8 @@ use native.Mathlib.Omega.{arith}
 use lib.Count.{trailingZeros}
 use Rattle.synthesis.specs.NodeSet.{Has, union, intersection}
 use Rattle.synthesis.specs.Arrays.{gathered}
-use Rattle.synthesis.proofs.NodeSetLaws.{toggled, toggled-lt, lowest-out}
-use Rattle.synthesis.proofs.Gathering.{gather-step, gather-none, lowest-lt, has-lowest}
+use Rattle.synthesis.proofs.Unfolding.NodeSetLaws.{toggled, toggled-lt, lowest-out}
+use Rattle.synthesis.proofs.Functions.Gathering.{gather-step, gather-none, lowest-lt, has-lowest}
 use Rattle.synthesis.proofs.search.gather.Statement.{statement}
 use Rattle.synthesis.proofs.search.gather.Tie as tie
 

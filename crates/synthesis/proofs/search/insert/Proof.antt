@@ -1,8 +1,8 @@
 -- `search::note` meets its contract.
 use native.Mathlib.Omega.{arith}
 use borrow.Author.Needs.{needs}
-use Rattle.synthesis.proofs.Finding.{insert-grows}
-use Rattle.synthesis.proofs.HoldsLaws.{held-still, held-old, held-full, held-new}
+use Rattle.synthesis.proofs.Numberings.Finding.{insert-grows}
+use Rattle.synthesis.proofs.Functions.HoldsLaws.{held-still, held-old, held-full, held-new}
 use Rattle.synthesis.proofs.search.insert.Statement.{statement}
 use Rattle.synthesis.proofs.search.insert.Tie as tie
 

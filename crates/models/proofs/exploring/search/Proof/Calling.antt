@@ -35,12 +35,12 @@ use Rattle.models.specs.Phone.{noStep}
 use Rattle.models.specs.Searching.{Searching, remaining}
 use Rattle.models.specs.declared.Step.{Step}
 use Rattle.models.specs.declared.exploring.Cursor.{Cursor}
-use Rattle.models.proofs.Loop.{Less}
-use Rattle.models.proofs.LentAgain.{OnLoan, lends-again-at, comes-back-at}
-use Rattle.models.proofs.Slices.{slice-at}
-use Rattle.models.proofs.StructRows as struct
-use Rattle.models.proofs.StepRows as step
-use Rattle.models.proofs.SearchSlices.{Five, AtStart, Tokens, the-cursor, last, earlier, table, seen, pairs, links, slices-vals}
+use Rattle.models.proofs.Compiled.Loop.{Less}
+use Rattle.models.proofs.Compiled.LentAgain.{OnLoan, lends-again-at, comes-back-at}
+use Rattle.models.proofs.Compiled.Slices.{slice-at}
+use Rattle.models.proofs.Compiled.StructRows as struct
+use Rattle.models.proofs.Compiled.StepRows as step
+use Rattle.models.proofs.Compiled.SearchSlices.{Five, AtStart, Tokens, the-cursor, last, earlier, table, seen, pairs, links, slices-vals}
 use Rattle.models.proofs.steps.nth_step as nth-step
 use Rattle.models.proofs.exploring.follow as follow
 use Rattle.models.proofs.exploring.search as search

@@ -29,12 +29,12 @@ use denote.Triple.Walked.{says, Stays, stay-slice, walkOf, ends-at}
 use Rattle.models.specs.Searching.{Searching, remaining}
 use Rattle.models.specs.declared.Step.{Step}
 use Rattle.models.specs.declared.exploring.Cursor.{Cursor}
-use Rattle.models.proofs.Slices.{slice-at}
-use Rattle.models.proofs.StructRows as struct
-use Rattle.models.proofs.StepRows as step
-use Rattle.models.proofs.Exits.{unsaid}
-use Rattle.models.proofs.SearchSlices.{AtStart, slice-rows, Tokens, five-dropped, the-cursor}
-use Rattle.models.proofs.SearchSlices.{last, earlier, table, seen, pairs, links, slices-vals}
+use Rattle.models.proofs.Compiled.Slices.{slice-at}
+use Rattle.models.proofs.Compiled.StructRows as struct
+use Rattle.models.proofs.Compiled.StepRows as step
+use Rattle.models.proofs.Compiled.Exits.{unsaid}
+use Rattle.models.proofs.Compiled.SearchSlices.{AtStart, slice-rows, Tokens, five-dropped, the-cursor}
+use Rattle.models.proofs.Compiled.SearchSlices.{last, earlier, table, seen, pairs, links, slices-vals}
 use Rattle.models.proofs.exploring.search as search
 
 -- at exit nothing is had of what is shared or plain

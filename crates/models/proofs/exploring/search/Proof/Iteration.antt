@@ -33,14 +33,14 @@ use denote.Triple.Entry.{Args}
 use denote.Triple.Statement.{Triple}
 use Rattle.models.specs.Phone.{noStep}
 use Rattle.models.specs.declared.Step.{Step}
-use Rattle.models.proofs.Locals.{reads-local, reads-field, sets-local}
-use Rattle.models.proofs.Loop.{tests, Less, AfterLoop, loops-down}
-use Rattle.models.proofs.Landing.{store-as}
-use Rattle.models.proofs.Exits.{frees-cell, frees-room}
-use Rattle.models.proofs.Reborrowing.{reborrows}
-use Rattle.models.proofs.StructRows as struct
-use Rattle.models.proofs.StepRows as step
-use Rattle.models.proofs.SearchSlices.{AtStart, the-cursor, cursorTy, last, earlier, table, seen, pairs}
+use Rattle.models.proofs.Compiled.Locals.{reads-local, reads-field, sets-local}
+use Rattle.models.proofs.Compiled.Loop.{tests, Less, AfterLoop, loops-down}
+use Rattle.models.proofs.Compiled.Landing.{store-as}
+use Rattle.models.proofs.Compiled.Exits.{frees-cell, frees-room}
+use Rattle.models.proofs.Compiled.Reborrowing.{reborrows}
+use Rattle.models.proofs.Compiled.StructRows as struct
+use Rattle.models.proofs.Compiled.StepRows as step
+use Rattle.models.proofs.Compiled.SearchSlices.{AtStart, the-cursor, cursorTy, last, earlier, table, seen, pairs}
 use Rattle.models.proofs.steps.nth_step as nth-step
 use Rattle.models.proofs.steps.nth_step.Symbol.{name as #nth-step}
 use Rattle.models.proofs.exploring.follow.Symbol.{name as #follow}

@@ -40,11 +40,11 @@ use denote.Triple.Statement.{Contract}
 use denote.Triple.Walked.{says, Stays, gave-slice, walkOf, ends-at}
 use Rattle.models.specs.Searching.{Searched}
 use Rattle.models.specs.declared.Step.{Step}
-use Rattle.models.proofs.Exits.{unsaid}
-use Rattle.models.proofs.Slices.{slice-at}
-use Rattle.models.proofs.StructRows as struct
-use Rattle.models.proofs.StepRows as step
-use Rattle.models.proofs.SearchSlices.{AtStart, slice-rows, Tokens, five-dropped, the-cursor, table, seen, pairs, links, slices-vals}
+use Rattle.models.proofs.Compiled.Exits.{unsaid}
+use Rattle.models.proofs.Compiled.Slices.{slice-at}
+use Rattle.models.proofs.Compiled.StructRows as struct
+use Rattle.models.proofs.Compiled.StepRows as step
+use Rattle.models.proofs.Compiled.SearchSlices.{AtStart, slice-rows, Tokens, five-dropped, the-cursor, table, seen, pairs, links, slices-vals}
 use Rattle.models.proofs.exploring.search as search
 use Rattle.models.proofs.exploring.search_array as search-array
 

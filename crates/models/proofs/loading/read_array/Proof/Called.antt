@@ -31,11 +31,11 @@ use Rattle.models.specs.Phone.{stepsAt}
 use Rattle.models.specs.Loading.{StepsBegun, LoadedAs}
 use Rattle.models.specs.declared.Step.{Step}
 use Rattle.models.specs.declared.loading.Next.{Next}
-use Rattle.models.proofs.Slices.{slice-at}
-use Rattle.models.proofs.StructRows.{low, told}
-use Rattle.models.proofs.StepRows.{R}
-use Rattle.models.proofs.NextRow.{the-next, N, IsNext}
-use Rattle.models.proofs.ReaderSlices.{file-val, File, Records}
+use Rattle.models.proofs.Compiled.Slices.{slice-at}
+use Rattle.models.proofs.Compiled.StructRows.{low, told}
+use Rattle.models.proofs.Compiled.StepRows.{R}
+use Rattle.models.proofs.Compiled.NextRow.{the-next, N, IsNext}
+use Rattle.models.proofs.Compiled.ReaderSlices.{file-val, File, Records}
 use Rattle.models.proofs.loading.read_steps as read-steps
 
 module _ {M : Type 1} (𝓤 : URA M) (H : Heap 𝓤) (A : Atoms 𝓤) (mem : Memory → SProp 𝓤) (run : Routine → Fun 𝓤) where

@@ -21,8 +21,8 @@ use denote.Slice.{finally}
 use denote.Lend.{Held, lends-slice, slice-back}
 use denote.Index.{row, whole-in, whole-out}
 use Rattle.models.specs.declared.Step.{Step}
-use Rattle.models.proofs.StepRows.{R, AR, arrayTy, array-low, lies, back, array-known}
-use Rattle.models.proofs.ReaderSlices.{Records}
+use Rattle.models.proofs.Compiled.StepRows.{R, AR, arrayTy, array-low, lies, back, array-known}
+use Rattle.models.proofs.Compiled.ReaderSlices.{Records}
 
 module _ {M : Type 1} (𝓤 : URA M) (H : Heap 𝓤) (A : Atoms 𝓤) (W : Given 𝓤 H A) (ν : Lft) (b : ℕ) (xs : List Step) (long : length xs ≡ 512) where
   -- the slice, and the claim on what is lent

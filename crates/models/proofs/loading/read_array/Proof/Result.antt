@@ -12,9 +12,9 @@ use Rattle.models.specs.declared.Step.{Step}
 use Rattle.models.specs.declared.loading.Next.{Next}
 use Rattle.models.specs.declared.loading.Loaded.{Loaded}
 use Rattle.models.proofs.Step as Step′
-use Rattle.models.proofs.StructRows.{PlainStruct, row-of}
-use Rattle.models.proofs.StepRows.{R, AR, array-low}
-use Rattle.models.proofs.NextRow.{IsNext, answer-low, answer-is, n-fits}
+use Rattle.models.proofs.Compiled.StructRows.{PlainStruct, row-of}
+use Rattle.models.proofs.Compiled.StepRows.{R, AR, array-low}
+use Rattle.models.proofs.Compiled.NextRow.{IsNext, answer-low, answer-is, n-fits}
 use Rattle.models.proofs.loading.Loaded as T
 use Rattle.models.proofs.loading.Loaded.Laws as T′
 

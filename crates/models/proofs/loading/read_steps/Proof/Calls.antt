@@ -30,11 +30,11 @@ use denote.Triple.Walked.{says}
 use Rattle.models.specs.Loading.{StepsBegun, NextRead}
 use Rattle.models.specs.declared.Step.{Step}
 use Rattle.models.specs.declared.loading.Next.{Next}
-use Rattle.models.proofs.Slices.{slice-at}
-use Rattle.models.proofs.StructRows.{low, makes, told}
-use Rattle.models.proofs.StepRows.{the-step, R}
-use Rattle.models.proofs.NextRow.{the-next, N, IsNext}
-use Rattle.models.proofs.ReaderSlices.{file-val, File}
+use Rattle.models.proofs.Compiled.Slices.{slice-at}
+use Rattle.models.proofs.Compiled.StructRows.{low, makes, told}
+use Rattle.models.proofs.Compiled.StepRows.{the-step, R}
+use Rattle.models.proofs.Compiled.NextRow.{the-next, N, IsNext}
+use Rattle.models.proofs.Compiled.ReaderSlices.{file-val, File}
 use Rattle.models.proofs.loading.next_step as next-step
 use Rattle.models.proofs.steps.put_step as put-step
 

@@ -29,17 +29,17 @@ use denote.Triple.Call.{calls-at, calls-at-last}
 use Rattle.models.specs.Loading.{NextRead}
 use Rattle.models.specs.declared.Step.{Step}
 use Rattle.models.specs.declared.loading.Next.{Next}
-use Rattle.models.proofs.Locals.{reads-local, reads-field, sets-local}
-use Rattle.models.proofs.Reborrowing.{reborrows}
-use Rattle.models.proofs.Slices.{slice-at}
-use Rattle.models.proofs.StructRows.{low, typed}
-use Rattle.models.proofs.StepRows.{R, behindTy}
-use Rattle.models.proofs.NextRow.{the-next, nextTy, IsNext, step-is, n-fits, at-fits}
-use Rattle.models.proofs.ReaderSlices.{file-val, File, Records}
-use Rattle.models.proofs.LentAgain.{OnLoan, lends-again-at, comes-back-at}
-use Rattle.models.proofs.Loop.{tests, Less, AfterLoop}
-use Rattle.models.proofs.Landing.{init-as, store-as}
-use Rattle.models.proofs.FileWays.{begun-length}
+use Rattle.models.proofs.Compiled.Locals.{reads-local, reads-field, sets-local}
+use Rattle.models.proofs.Compiled.Reborrowing.{reborrows}
+use Rattle.models.proofs.Compiled.Slices.{slice-at}
+use Rattle.models.proofs.Compiled.StructRows.{low, typed}
+use Rattle.models.proofs.Compiled.StepRows.{R, behindTy}
+use Rattle.models.proofs.Compiled.NextRow.{the-next, nextTy, IsNext, step-is, n-fits, at-fits}
+use Rattle.models.proofs.Compiled.ReaderSlices.{file-val, File, Records}
+use Rattle.models.proofs.Compiled.LentAgain.{OnLoan, lends-again-at, comes-back-at}
+use Rattle.models.proofs.Compiled.Loop.{tests, Less, AfterLoop}
+use Rattle.models.proofs.Compiled.Landing.{init-as, store-as}
+use Rattle.models.proofs.Files.FileWays.{begun-length}
 use Rattle.models.proofs.loading.next_step.Symbol.{name as #next-step}
 use Rattle.models.proofs.steps.put_step.Symbol.{name as #put-step}
 use Rattle.models.proofs.loading.read_steps.Code.Mir as body

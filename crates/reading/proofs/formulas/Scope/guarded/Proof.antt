@@ -1,7 +1,7 @@
 -- `Scope::guarded` meets its contract.
 use mathlib.Core.Path.{refl}
 use native.Mathlib.Omega.{arith}
-use Rattle.reading.proofs.Scopes.{guards-necessity}
+use Rattle.reading.proofs.Functions.Scopes.{guards-necessity}
 use Rattle.reading.proofs.formulas.Scope.guarded.Statement.{statement}
 use Rattle.reading.proofs.formulas.Scope.guarded.Tie as tie
 

@@ -2,7 +2,7 @@
 use mathlib.Core.Path.{refl, _∙_}
 use native.Mathlib.Omega.{arith}
 use lib.ListN.{length-set}
-use Rattle.reading.proofs.Scopes.{push, guards-max}
+use Rattle.reading.proofs.Functions.Scopes.{push, guards-max}
 use borrow.Author.Needs.{needs}
 use Rattle.reading.proofs.formulas.Scope.inside_max.Statement.{statement}
 use Rattle.reading.proofs.formulas.Scope.inside_max.Tie as tie

@@ -1,7 +1,7 @@
 -- `Scope::max_of` meets its contract.
 use mathlib.Core.Path.{sym}
 use native.Mathlib.Omega.{arith}
-use Rattle.reading.proofs.Scopes.{getD-lastFirst}
+use Rattle.reading.proofs.Functions.Scopes.{getD-lastFirst}
 use borrow.Author.Needs.{needs}
 use Rattle.reading.proofs.formulas.Scope.max_of.Statement.{statement}
 use Rattle.reading.proofs.formulas.Scope.max_of.Tie as tie

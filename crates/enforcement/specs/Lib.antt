@@ -1,0 +1,3 @@
+-- In the order in which to read them.
+pub mod Model
+pub mod Promises

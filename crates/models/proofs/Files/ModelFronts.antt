@@ -1,0 +1,125 @@
+-- Where a model stands at the front of a file, reading comes to its end, and a step that is accepted there makes it a longer one. A model that
+-- begins with it and a record has that record as a step.
+use mathlib.Core.Path.{_≡_, refl, sym, ap, _∙_}
+use mathlib.Core.Bool.{Bool, true, false}
+use mathlib.Core.List.{List, [], _∷_, _++_, append-nil, append-assoc}
+use Prim.Native.Nat.{ℕ, suc, _+_, _≤_, _<_}
+use native.Mathlib.Omega.{arith}
+use lib.Dec.{eqb}
+use lib.ListN.{length, take, drop, length-append, take-append-drop}
+use lib.Seq.{length-take-le, take-add, take-at}
+use Rattle.reading.specs.Rule.{All, Bytes}
+use Rattle.reading.specs.File.{accepted, refused}
+use Rattle.reading.proofs.Basics.AllLaws.{all-append}
+use Rattle.models.specs.Phone.{WellFormedStep, recordBytes, encodeStep, encodeSteps, encodePhone}
+use Rattle.models.specs.Phone.{statesOf, stepAt, recordLength, stepsAt, phoneOf}
+use Rattle.models.specs.Faults.{ModelBefore, BeginsModel}
+use Rattle.models.specs.declared.Step.{Step}
+use Rattle.models.proofs.Files.StepBytes.{length-step, step-stands, refused-after}
+use Rattle.models.proofs.Files.Encoding.{states-read}
+
+-- ---- encodings of steps
+
+encode-append : (xs ys : List Step) → encodeSteps (xs ++ ys) ≡ encodeSteps xs ++ encodeSteps ys
+encode-append [] ys = refl
+encode-append (x ∷ xs) ys = rw (encode-append xs ys, append-assoc (encodeStep x) (encodeSteps xs) (encodeSteps ys))
+
+-- two records with which the same bytes begin
+same-record : (b b′ : Bool) (x y : Step) {p q : List ℕ} → recordBytes b x ++ p ≡ recordBytes b′ y ++ q
+    → (x .from ≡ y .from) × (x .to ≡ y .to) × (p ≡ q)
+same-record true true x y e = (cc, cc, cc)
+same-record true false x y e = let z : _≡_ {A = ℕ} 18 17 = cc in absurd (omega arith)
+same-record false true x y e = let z : _≡_ {A = ℕ} 17 18 = cc in absurd (omega arith)
+same-record false false x y e = (cc, cc, cc)
+
+no-record : (b : Bool) (x : Step) (p : List ℕ) → recordBytes b x ++ p ≡ [] → ⊥
+no-record true x p e = let z : _≡_ {A = ℕ} 0 1 = cc in omega arith
+no-record false x p e = let z : _≡_ {A = ℕ} 0 1 = cc in omega arith
+
+module _ (states : ℕ) where
+  -- what follows steps in the bytes of steps are the bytes of steps
+  steps-left : (xs ys : List Step) (p : List ℕ) → encodeSteps xs ++ p ≡ encodeSteps ys → All (WellFormedStep states) ys
+      → (zs : List Step) × All (WellFormedStep states) zs × (p ≡ encodeSteps zs)
+  steps-left [] ys p e all = (ys, all, e)
+  steps-left (x ∷ xs) [] p e all =
+      absurd (no-record (eqb (x .label) 256) x (encodeSteps xs ++ p) (sym (append-assoc (encodeStep x) (encodeSteps xs) p) ∙ e))
+  steps-left (x ∷ xs) (y ∷ ys) p e all =
+      let whole = sym (append-assoc (encodeStep x) (encodeSteps xs) p) ∙ e in
+      steps-left xs ys p (same-record (eqb (x .label) 256) (eqb (y .label) 256) x y whole .2) (all .1)
+
+  -- a record with which the bytes of steps begin
+  first-among : (x : Step) (p : List ℕ) (zs : List Step) → All (WellFormedStep states) zs → encodeStep x ++ p ≡ encodeSteps zs
+      → (x .from < states) × (x .to < states)
+  first-among x p [] all e = absurd (no-record (eqb (x .label) 256) x p e)
+  first-among x p (z ∷ zs) all e =
+      let same = same-record (eqb (x .label) 256) (eqb (z .label) 256) x z e in
+      (rw (same .0) (all .0 .from), rw (same .1) (all .0 .to))
+
+-- ---- a model at the front of a file
+
+module _ {f : List ℕ} {at n : ℕ} (m : ModelBefore f at n) where
+  whole : f ≡ encodePhone (m .phone) ++ drop at f
+  whole = sym (take-append-drop at f) ∙ ap (λ p. p ++ drop at f) (m .bytes-are)
+
+  -- and the record of a step after it
+  with-record : (x : Step) → drop at f ≡ encodeStep x ++ drop (at + recordLength x) f
+      → take (at + recordLength x) f ≡ encodePhone (m .phone) ++ encodeStep x
+  with-record x from =
+      let rest = drop (at + recordLength x) f in
+      take-add at (recordLength x) f ∙ rw (m .bytes-are, from, take-at (encodeStep x) rest (recordLength x) (length-step x))
+
+  -- what is refused after the model is what the file is refused with
+  pub refused-there : at ≤ length f → (left : ℕ) → left + n ≡ 512 → {number place : ℕ}
+      → stepsAt left f (m .phone .states) at ≡ refused number place → phoneOf f ≡ refused number place
+  unfolding phoneOf
+  refused-there inside left all {number} {place} e =
+      let well = m .within-limits .well-formed in
+      let first : statesOf f ≡ accepted (m .phone .states) = ap statesOf whole ∙ states-read _ _ (well .some-states) (well .few-states) in
+      let steps : stepsAt 512 f (m .phone .states) 2 ≡ refused number place =
+      refused-after f (m .phone .states) (m .phone .steps) 2 at left 512 (drop at f) (well .steps) (ap (drop 2) whole)
+      (omega (arith, ap length (m .bytes-are), length-take-le at f inside)) (omega (arith, m .steps-are)) e in
+      rw (first, steps)
+
+  -- with a step that is accepted there it is a longer one
+  pub step-longer : Bytes f → at < length f → n < 512 → (left : ℕ) (x : Step) → stepAt f (m .phone .states) at left ≡ accepted x
+      → (longer : ModelBefore f (at + recordLength x) (suc n)) × (longer .phone .states ≡ m .phone .states)
+  step-longer bytes inside few left x e =
+      let well = m .within-limits .well-formed in
+      let stands = step-stands f (m .phone .states) at left x bytes inside e in
+      let steps = m .phone .steps ++ x ∷ [] in
+      let counted : length steps ≡ suc n = length-append (m .phone .steps) (x ∷ []) ∙ omega (arith, m .steps-are) in (
+        record {
+          phone = record { states = m .phone .states; steps = steps };
+          within-limits = record {
+            well-formed = record {
+              some-states = well .some-states;
+              few-states = well .few-states;
+              steps = all-append _ (m .phone .steps) (x ∷ []) (well .steps) (stands .well-formed, tt);
+            };
+            few-steps = omega arith;
+          };
+          steps-are = counted;
+          bytes-are = with-record x (stands .bytes) ∙ rw (encode-append (m .phone .steps) (x ∷ []), append-nil (encodeStep x));
+        },
+        refl,
+      )
+
+  pub model-begins : BeginsModel (take at f)
+  model-begins = record {
+    phone = m .phone;
+    well-formed = m .within-limits .well-formed;
+    rest = [];
+    bytes-are = append-nil (take at f) ∙ m .bytes-are;
+  }
+
+  -- a model that begins with this one and a record has the record as a step
+  pub begins-among : (x : Step) → drop at f ≡ encodeStep x ++ drop (at + recordLength x) f → BeginsModel (take (at + recordLength x) f)
+      → (x .from < m .phone .states) × (x .to < m .phone .states)
+  begins-among x from g =
+      let joined : (encodePhone (m .phone) ++ encodeStep x) ++ g .rest ≡ encodePhone (g .phone) =
+      ap (λ p. p ++ g .rest) (sym (with-record x from)) ∙ g .bytes-are in
+      let same : g .phone .states ≡ m .phone .states = cc in
+      let more : (encodeSteps (m .phone .steps) ++ encodeStep x) ++ g .rest ≡ encodeSteps (g .phone .steps) = cc in
+      let (zs, all, is) = steps-left (m .phone .states) (m .phone .steps) (g .phone .steps) (encodeStep x ++ g .rest)
+      (sym (append-assoc (encodeSteps (m .phone .steps)) (encodeStep x) (g .rest)) ∙ more) (rw same at (g .well-formed .steps)) in
+      first-among (m .phone .states) x (g .rest) zs all is

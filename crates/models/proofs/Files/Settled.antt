@@ -1,0 +1,109 @@
+-- Two files that agree in 2,051 bytes say the same, and 2,050 aren't enough.
+use mathlib.Core.Path.{_≡_, refl, _∙_}
+use mathlib.Core.List.{List, [], _∷_, _++_}
+use Prim.Native.Nat.{ℕ, zero, suc, _+_, _*_, _≤_}
+use native.Mathlib.Omega.{arith}
+use lib.ListN.{length, replicate, length-replicate}
+use lib.Seq.{take-at}
+use borrow.Author.Tests.{lt-ltb, ne-eqb}
+use Rattle.reading.specs.Rule.{All}
+use Rattle.reading.proofs.Basics.ByteLaws.{bytes-append}
+use Rattle.reading.specs.File.{accepted, refused}
+use Rattle.reading.proofs.Settling.Agreement.{Agree, inside, settled}
+use Rattle.reading.proofs.Basics.Outcomes.{then-agree, both-agree}
+use Rattle.models.specs.Phone.{Phone, WellFormedStep, WellFormedPhone, encodeSteps, encodePhone}
+use Rattle.models.specs.Phone.{statesOf, stepAt, recordLength, stepsAt, phoneOf}
+use Rattle.models.specs.Promises.{SettledByFirstBytes, NotByFewer}
+use Rattle.models.specs.declared.Step.{Step}
+use Rattle.models.proofs.Files.StepLaws.{record-bounds}
+use Rattle.models.proofs.Files.StepBytes.{steps-full}
+use Rattle.models.proofs.Files.Encoding.{states-read, phone-reads, encode-bytes}
+
+module _ (f g : List ℕ) (a : Agree 2051 f g) where
+  states-agree : statesOf f ≡ statesOf g
+  unfolding statesOf
+  states-agree =
+      rw (
+        ne-eqb (length f) 0 (λ z. omega (arith, a .long)),
+        ne-eqb (length g) 0 (λ z. omega (arith, a .long′)),
+        ne-eqb (length f) 1 (λ z. omega (arith, a .long)),
+        ne-eqb (length g) 1 (λ z. omega (arith, a .long′)),
+        a .same 0 (omega arith),
+        a .same 1 (omega arith),
+      )
+
+  -- a record is read to its end, or only its kind where no step is left
+  step-agrees : (states at left : ℕ) → at + 4 * left ≤ 2050 → stepAt f states at left ≡ stepAt g states at left
+  step-agrees states at zero h = rw (a .same at (omega arith))
+  step-agrees states at (suc left) h =
+      let three = inside 2051 f g a (at + 3) (omega arith) in
+      let two = inside 2051 f g a (at + 2) (omega arith) in
+      rw (
+        a .same at (omega arith),
+        three .0,
+        three .1,
+        two .0,
+        two .1,
+        a .same (at + 1) (omega arith),
+        a .same (at + 2) (omega arith),
+        a .same (at + 3) (omega arith),
+      )
+
+  steps-agree : (left states at : ℕ) → at + 4 * left ≤ 2050 → stepsAt left f states at ≡ stepsAt left g states at
+  unfolding stepsAt
+  steps-agree zero states at h =
+      rw (lt-ltb at (length f) (omega (arith, a .long)), lt-ltb at (length g) (omega (arith, a .long′)), step-agrees states at zero h)
+  steps-agree (suc left) states at h =
+      rw (lt-ltb at (length f) (omega (arith, a .long)), lt-ltb at (length g) (omega (arith, a .long′)))
+      (both-agree (stepAt f states at (suc left)) (stepAt g states at (suc left)) _ _ (step-agrees states at (suc left) h) (λ x e.
+      rw (steps-agree left states (at + recordLength x) (omega (arith, record-bounds x .1)))))
+
+  phone-agrees : phoneOf f ≡ phoneOf g
+  unfolding phoneOf
+  phone-agrees = rw states-agree (then-agree (statesOf g) _ _ (λ states e. rw (steps-agree 512 states 2 (omega arith))))
+
+pub settled-by-first-bytes : SettledByFirstBytes
+settled-by-first-bytes = settled phoneOf 2051 phone-agrees
+
+-- ---- fewer are too few
+
+-- After 512 steps one more is refused, whatever they are.
+full-refused : (y : Phone) → WellFormedPhone y → length (y .steps) ≡ 512
+    → phoneOf (encodePhone y ++ (17 ∷ [])) ≡ refused 14 (length (encodePhone y))
+unfolding phoneOf
+full-refused y w full =
+    let f = encodePhone y ++ (17 ∷ []) in
+    let states : statesOf f ≡ accepted (y .states) = states-read (y .states) _ (w .some-states) (w .few-states) in
+    let place : 2 + length (encodeSteps (y .steps)) ≡ length (encodePhone y) = omega arith in
+    rw (states, steps-full f (y .states) (y .steps) 2 512 17 [] (w .steps) full refl, place)
+
+-- a step from state 0 to itself
+selfLoop : Step
+selfLoop = record { from = 0; label = 0; to = 0 }
+
+self-loops-well-formed : (n : ℕ) → All (WellFormedStep 1) (replicate n selfLoop)
+unfolding selfLoop
+self-loops-well-formed zero = tt
+self-loops-well-formed (suc n) = (record { from = omega arith; label = omega arith; to = omega arith }, self-loops-well-formed n)
+
+self-loops-length : (n : ℕ) → length (encodeSteps (replicate n selfLoop)) ≡ 4 * n
+unfolding selfLoop
+self-loops-length zero = refl
+self-loops-length (suc n) = omega (arith, self-loops-length n)
+
+-- 512 of them, and the kind of one more
+pub not-by-fewer : NotByFewer
+not-by-fewer = on 512 refl
+  where
+    on : (n : ℕ) → n ≡ 512 → NotByFewer
+    on n e =
+        let y : Phone = record { states = 1; steps = replicate n selfLoop } in
+        let full : length (y .steps) ≡ 512 = length-replicate n selfLoop ∙ e in
+        let w : WellFormedPhone y = record { some-states = omega arith; few-states = omega arith; steps = self-loops-well-formed n } in
+        let long : length (encodePhone y) ≡ 2050 = omega (arith, self-loops-length n) in (
+          encodePhone y ++ (17 ∷ []),
+          y,
+          bytes-append (encodePhone y) (17 ∷ []) (encode-bytes y w) (omega arith, tt),
+          rw (take-at (encodePhone y) (17 ∷ []) 2050 long) (phone-reads y (record { well-formed = w; few-steps = omega arith })),
+          rw (← long) (full-refused y w full),
+        )

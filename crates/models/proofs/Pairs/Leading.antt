@@ -1,0 +1,121 @@
+-- Where a step leads beside an equation, by its label and the equation's row.
+use Prim.Native.Nat.{ℕ, _+_, _*_, _≤_, _<_}
+use mathlib.Core.Path.{_≡_, refl, _∙_}
+use mathlib.Core.Logic.{_⊎_, inl, inr}
+use mathlib.Core.Bool.{Bool, true, false}
+use mathlib.Core.List.{List}
+use native.Mathlib.Omega.{arith}
+use lib.Dec.{eqb}
+use lib.ListN.{length, getD, drop, length-take, length-drop}
+use borrow.Author.Tests.{eqb-true, eqb-false, eq-eqb, ne-eqb}
+use Rattle.reading.proofs.Basics.ListLaws.{getD-inside}
+use Rattle.synthesis.specs.Monitor.{dropped, next, rowOf, meaning, lookup}
+use Rattle.synthesis.specs.Promises.{RowInRange}
+use Rattle.synthesis.proofs.Tables.Rows.{row-is}
+use Rattle.running.specs.Running.{WellFormedTable}
+use Rattle.synthesis.proofs.Tables.Rows.{row-at}
+use Rattle.enforcement.specs.Model.{silent, code, Model}
+use Rattle.models.specs.Phone.{labelOf}
+use Rattle.models.specs.Exploring.{PairReached, silently, keeping, NeverDrops, leadsTo}
+use Rattle.models.proofs.Phones.PhoneCodes.{label-silent, label-code}
+
+-- ---- entries
+
+meaning-dropped : (mark x : ℕ) → meaning mark x ≡ dropped → x ≡ mark
+meaning-dropped mark x h = on (eqb x mark) refl
+  where
+    on : (b : Bool) → eqb x mark ≡ b → x ≡ mark
+    on true q = eqb-true x mark q
+    on false q = let e : next x ≡ dropped = rw q at h in absurd (let z : _≡_ {A = ℕ} 0 1 = cc in omega arith)
+
+meaning-next : (mark x e : ℕ) → meaning mark x ≡ next e → x ≡ e
+meaning-next mark x e h = on (eqb x mark) refl
+  where
+    on : (b : Bool) → eqb x mark ≡ b → x ≡ e
+    on true q = let z : dropped ≡ next e = rw q at h in absurd (let z : _≡_ {A = ℕ} 0 1 = cc in omega arith)
+    on false q = let z : next x ≡ next e = rw q at h in cc
+
+-- ---- any row
+
+module _ (row : List ℕ) (e label : ℕ) where
+  pub leads-silently : label ≡ 256 → leadsTo row e label ≡ e
+  leads-silently h = rw (eq-eqb label 256 h)
+
+  pub leads-by-code : (label ≡ 256 → ⊥) → leadsTo row e label ≡ getD row label 255
+  leads-by-code other = rw (ne-eqb label 256 other)
+
+  -- to an equation, unless it is dropped
+  pub leads-inside : (count : ℕ) → RowInRange 255 count row → e < count → label ≤ 256 → (leadsTo row e label ≡ 255 → ⊥)
+      → leadsTo row e label < count
+  leads-inside count fits inside h kept = on (eqb label 256) refl
+    where
+      on : (b : Bool) → eqb label 256 ≡ b → leadsTo row e label < count
+      on true q = rw q inside
+      on false q =
+          let byte : label < 256 = omega (arith, eqb-false label 256 q) in
+          rw q (known (rw (getD-inside row label 0 255 (omega (arith, fits .whole))) at (fits .range label byte)) (rw q at kept))
+        where
+          known : (getD row label 255 ≡ 255) ⊎ (getD row label 255 < count) → (getD row label 255 ≡ 255 → ⊥) → getD row label 255 < count
+          known (inl z) other = absurd (other z)
+          known (inr a) other = a
+
+-- ---- the rows of a table
+
+-- in range for its count, and so for a limit on it
+pub row-in-range : (limit count : ℕ) (table : List ℕ) → WellFormedTable limit 255 count table → (k : ℕ) → k < count
+    → (most : ℕ) → count ≤ most → RowInRange 255 most (rowOf 256 table k)
+row-in-range limit count table wf k h most under = record {
+  whole = rw (row-is 256 table k room) (omega (arith, length-take 256 (drop (256 * k) table), length-drop (256 * k) table));
+  range = λ c b. rw (row-at table k c 0 room b) (wider (getD table (256 * k + c) 0) (wf .range k c h b));
+}
+  where
+    room : 256 * k + 256 ≤ length table
+    room = omega (arith, wf .room)
+
+    wider : (x : ℕ) → (x ≡ 255) ⊎ (x < count) → (x ≡ 255) ⊎ (x < most)
+    wider x (inl e) = inl e
+    wider x (inr a) = inr (omega arith)
+
+module _ (table : List ℕ) where
+  abbrev pub stepsTo : (e label : ℕ) → ℕ
+  stepsTo e label = leadsTo (rowOf 256 table e) e label
+
+  -- ---- from labels of steps
+
+  module _ (e label : ℕ) where
+    pub stays : labelOf label ≡ silent → stepsTo e label ≡ e
+    stays h = leads-silently (rowOf 256 table e) e label (label-silent label h)
+
+    by-code : (c : ℕ) → labelOf label ≡ code c → stepsTo e label ≡ getD (rowOf 256 table e) c 255
+    by-code c h = let x = label-code label c h in rw (← x .0) (leads-by-code (rowOf 256 table e) e label (x .1))
+
+    pub follows : (c e′ : ℕ) → labelOf label ≡ code c → lookup 256 255 table e c ≡ next e′ → stepsTo e label ≡ e′
+    follows c e′ h q = by-code c h ∙ meaning-next 255 (getD (rowOf 256 table e) c 255) e′ q
+
+    pub is-dropped : (c : ℕ) → labelOf label ≡ code c → lookup 256 255 table e c ≡ dropped → stepsTo e label ≡ 255
+    is-dropped c h q = by-code c h ∙ meaning-dropped 255 (getD (rowOf 256 table e) c 255) q
+
+  -- ---- from pairs that are reached
+
+  module _ (m : Model) (s t : m .State) (e label : ℕ) (reached : PairReached (lookup 256 255 table) 0 m s e)
+      (step : m .Step s (labelOf label) t) where
+    abbrev x : ℕ
+    x = getD (rowOf 256 table e) label 255
+
+    pub reached-on : (stepsTo e label ≡ 255 → ⊥) → PairReached (lookup 256 255 table) 0 m t (stepsTo e label)
+    reached-on kept = on (eqb label 256) refl
+      where
+        on : (b : Bool) → eqb label 256 ≡ b → PairReached (lookup 256 255 table) 0 m t (stepsTo e label)
+        on true q = rw q (silently reached (rw q at step))
+        on false q =
+            let answer : lookup 256 255 table e label ≡ next x = rw (ne-eqb x 255 (rw q at kept)) in
+            rw q (keeping reached (rw q at step) answer)
+
+    pub drops-one : e < 255 → stepsTo e label ≡ 255 → NeverDrops (lookup 256 255 table) 0 m → ⊥
+    drops-one inside h never = on (eqb label 256) refl
+      where
+        on : (b : Bool) → eqb label 256 ≡ b → ⊥
+        on true q = let z : e ≡ 255 = rw q at h in omega arith
+        on false q =
+            let answer : lookup 256 255 table e label ≡ dropped = rw (eq-eqb x 255 (rw q at h)) in
+            never s t e label reached (rw q at step) answer

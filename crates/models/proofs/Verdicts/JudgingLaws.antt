@@ -1,0 +1,64 @@
+-- Judging an accepted rule and model answers exactly whether the model satisfies the rule, and what judging leaves in the table hangs on its answer.
+use Prim.Native.Nat.{ℕ}
+use mathlib.Core.Path.{_≡_, refl, ap, _∙_}
+use mathlib.Core.Logic.{_⊎_, inl, inr}
+use mathlib.Core.List.{List}
+use native.Mathlib.Omega.{arith}
+use lib.ListN.{length}
+use Rattle.reading.specs.Rule.{Rule}
+use Rattle.reading.specs.File.{Outcome, accepted, refused, ruleOf}
+use Rattle.reading.proofs.Basics.Outcomes.{then-accepts}
+use Rattle.synthesis.specs.Building.{buildingOf, countedOf, tableAfter}
+use Rattle.synthesis.specs.declared.Counted.the-variants.{Equations}
+use Rattle.synthesis.proofs.Tables.Synthesized.{building-accepts, counted-accepts, accepts-as}
+use Rattle.models.specs.Phone.{Phone, phoneOf}
+use Rattle.models.specs.Judging.{RuleAndModel, judgingOf, JudgedAs, tableJudged}
+use Rattle.models.specs.Promises.{JudgedExactly, JudgesExactly, TableLeft, RefusedUnchanged}
+use Rattle.models.specs.declared.Judged.{Judged}
+use Rattle.models.specs.declared.Judged.the-variants.{Meets, Breaks}
+use Rattle.models.proofs.Phones.DecidedSets.{decided-satisfies}
+
+-- what is judged is the file's rule and the file's model
+pub judging-case : (limit : ℕ) (s f : List ℕ) (capacity : ℕ) (r : Rule) (n : ℕ) (y : Phone) → ruleOf s ≡ accepted r
+    → countedOf (buildingOf limit s capacity) ≡ Equations n → phoneOf f ≡ accepted y
+    → judgingOf limit s capacity f ≡ accepted (record { rule = r; phone = y })
+unfolding judgingOf
+judging-case limit s f capacity r n y read e read′ =
+    let (z, built, long) = counted-accepts (buildingOf limit s capacity) n e in
+    let same = accepts-as limit s r read z (building-accepts limit s capacity z built .1) in
+    then-accepts _ (built ∙ ap accepted same) (then-accepts _ read′ refl)
+
+judged-case : (r : Rule) (y : Phone) (answer : Judged) → JudgedAs (accepted (record { rule = r; phone = y })) answer → JudgedExactly r y answer
+judged-case r y answer (inl (q, sat)) =
+    let meets = decided-satisfies y r .0 sat in
+    record {
+      meets = (λ e. meets, λ e. q);
+      breaks = (λ e. absurd (let z : _≡_ {A = ℕ} 0 1 = cc in omega arith), λ none. absurd (none meets));
+    }
+judged-case r y answer (inr (q, none)) =
+    record {
+      meets = (λ e. absurd (let z : _≡_ {A = ℕ} 0 1 = cc in omega arith), λ sat. absurd (none (decided-satisfies y r .1 sat)));
+      breaks = (λ e sat. none (decided-satisfies y r .1 sat), λ e. q);
+    }
+
+pub judges-exactly : JudgesExactly
+judges-exactly limit s f capacity r n y answer read e read′ judged =
+    judged-case r y answer (rw (judging-case limit s f capacity r n y read e read′) at judged)
+
+-- ---- the table
+
+table-left : (o : Outcome RuleAndModel) (answer : Judged) (before built : List ℕ) → JudgedAs o answer
+    → TableLeft answer before built (tableJudged o built before)
+table-left (accepted x) answer before built (inl (q, sat)) =
+    record { refused = λ e. absurd (let z : _≡_ {A = ℕ} 0 1 = cc in omega arith); judged = λ e. refl }
+table-left (accepted x) answer before built (inr (q, none)) =
+    record { refused = λ e. absurd (let z : _≡_ {A = ℕ} 0 1 = cc in omega arith); judged = λ e. refl }
+table-left (refused number place) answer before built q = record { refused = λ e. refl; judged = λ e. absurd (neither e) }
+  where
+    neither : (answer ≡ Meets) ⊎ (answer ≡ Breaks) → ⊥
+    neither (inl e) = let z : _≡_ {A = ℕ} 0 1 = cc in omega arith
+    neither (inr e) = let z : _≡_ {A = ℕ} 0 1 = cc in omega arith
+
+pub refused-unchanged : RefusedUnchanged
+refused-unchanged limit mark s f table answer judged =
+    table-left (judgingOf limit s (length table) f) answer table (tableAfter mark (buildingOf limit s (length table)) table) judged

@@ -1,0 +1,6 @@
+-- Outcomes, places and lists.
+pub mod Outcomes
+pub mod AllLaws
+pub mod ByteLaws
+pub mod ListLaws
+pub mod Places

@@ -1,0 +1,6 @@
+-- What patterns cover, and their extents.
+pub mod Codes
+pub mod Counting
+pub mod Bits
+pub mod Products
+pub mod Extents

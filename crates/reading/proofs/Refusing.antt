@@ -1,0 +1,11 @@
+-- A file is refused exactly where a clause of `Fault` has it so.
+pub mod Contexts
+pub mod Records
+pub mod Beginnings
+pub mod LeftToRight
+pub mod ReadTo
+pub mod RecordsHere
+pub mod FaultsFound
+pub mod GoingOn
+pub mod OneFault
+pub mod FaultsRefused

@@ -1,0 +1,158 @@
+-- Whole records from their bytes. The kind of a record settles how long it is, so that bytes are whole records in one way only, and records whose bytes
+-- begin those of others begin these. The records of a rule are its patterns, and then the symbols of its formula.
+use mathlib.Core.Path.{_≡_, refl, sym, ap, _∙_}
+use mathlib.Core.Logic.{_⊎_, inl, inr}
+use mathlib.Core.Bool.{cond}
+use mathlib.Core.List.{List, [], _∷_, _++_, map, map-append, append-assoc, append-nil}
+use Prim.Native.Nat.{ℕ, suc, _≤_}
+use native.Mathlib.Omega.{arith}
+use lib.Dec.{eqb}
+use lib.ListN.{length, getD, drop, length-append}
+use Rattle.reading.specs.Rule.{Formula, truth, falsity, both, necessity, max, variable, Rule, encodePatterns, encodeFormula, encode}
+use Rattle.reading.specs.File.{Symbol, Truth, Falsity, Both, Max, Necessity, Variable}
+use Rattle.reading.specs.Faults.{Record, pattern, node, recordBytes, recordsBytes, patternsIn, nodesIn}
+use Rattle.reading.specs.declared.Pattern.{Pattern}
+use Rattle.reading.proofs.Refusing.Contexts.{symbols}
+
+-- ---- the first record
+
+-- the record with which the bytes begin, and the rest of them
+firstRecord : List ℕ → Record × List ℕ
+firstRecord s =
+    let k = getD s 0 0 in
+    cond (eqb k 1) (pattern (record { mask = getD s 1 0; first = getD s 2 0; last = getD s 3 0 }), drop 4 s)
+    (cond (eqb k 2) (node Truth, drop 1 s)
+    (cond (eqb k 3) (node Falsity, drop 1 s)
+    (cond (eqb k 4) (node Both, drop 1 s)
+    (cond (eqb k 5) (node (Necessity (getD s 1 0)), drop 2 s)
+    (cond (eqb k 6) (node Max, drop 1 s)
+    (node (Variable (getD s 1 0)), drop 2 s))))))
+
+first-record : (x : Record) (rest : List ℕ) → firstRecord (recordBytes x ++ rest) ≡ (x, rest)
+unfolding firstRecord
+first-record (pattern p) rest = refl
+first-record (node Truth) rest = refl
+first-record (node Falsity) rest = refl
+first-record (node Both) rest = refl
+first-record (node Max) rest = refl
+first-record (node (Necessity p)) rest = refl
+first-record (node (Variable d)) rest = refl
+
+pub record-some : (x : Record) → 1 ≤ length (recordBytes x)
+record-some (pattern p) = omega arith
+record-some (node Truth) = omega arith
+record-some (node Falsity) = omega arith
+record-some (node Both) = omega arith
+record-some (node Max) = omega arith
+record-some (node (Necessity p)) = omega arith
+record-some (node (Variable d)) = omega arith
+
+-- ---- lists of records
+
+pub bytes-of-both : (xs ys : List Record) → recordsBytes (xs ++ ys) ≡ recordsBytes xs ++ recordsBytes ys
+bytes-of-both [] ys = refl
+bytes-of-both (x ∷ xs) ys =
+    ap (λ (l : List ℕ). recordBytes x ++ l) (bytes-of-both xs ys) ∙ sym (append-assoc (recordBytes x) (recordsBytes xs) (recordsBytes ys))
+
+pub front-of-records : (xs ys : List Record) (rest : List ℕ) → recordsBytes xs ++ rest ≡ recordsBytes ys
+    → (zs : List Record) × (ys ≡ xs ++ zs) × (rest ≡ recordsBytes zs)
+front-of-records [] ys rest e = (ys, refl, e)
+front-of-records (x ∷ xs) [] rest e =
+    absurd (omega (
+      arith,
+      ap length e,
+      length-append (recordBytes x ++ recordsBytes xs) rest,
+      length-append (recordBytes x) (recordsBytes xs),
+      record-some x,
+    ))
+front-of-records (x ∷ xs) (y ∷ ys) rest e =
+    let same : _≡_ {A = Record × List ℕ} (x, recordsBytes xs ++ rest) (y, recordsBytes ys) =
+    sym (first-record x (recordsBytes xs ++ rest))
+    ∙ (ap firstRecord (sym (append-assoc (recordBytes x) (recordsBytes xs) rest) ∙ e)
+    ∙ first-record y (recordsBytes ys)) in
+    let (zs, are, left) = front-of-records xs ys rest (ap (λ (z : Record × List ℕ). z .1) same) in
+    let head : x ≡ y = ap (λ (z : Record × List ℕ). z .0) same in
+    (zs, cc, left)
+
+pub same-records : (xs ys : List Record) → recordsBytes xs ≡ recordsBytes ys → xs ≡ ys
+same-records xs ys e =
+    let (zs, are, left) = front-of-records xs ys [] (append-nil (recordsBytes xs) ∙ e) in on zs are left
+  where
+    on : (zs : List Record) → ys ≡ xs ++ zs → [] ≡ recordsBytes zs → xs ≡ ys
+    on [] are left = sym (are ∙ append-nil xs)
+    on (z ∷ zs) are left = absurd (omega (arith, ap length left, length-append (recordBytes z) (recordsBytes zs), record-some z))
+
+-- ---- the records of a rule
+
+abbrev pub records : List Pattern → List Symbol → List Record
+records ps xs = map pattern ps ++ map node xs
+
+pattern-bytes : (ps : List Pattern) → recordsBytes (map pattern ps) ≡ encodePatterns ps
+pattern-bytes [] = refl
+pattern-bytes (p ∷ ps) = ap (λ (l : List ℕ). recordBytes (pattern p) ++ l) (pattern-bytes ps)
+
+formula-bytes : (f : Formula) → recordsBytes (map node (symbols f)) ≡ encodeFormula f
+formula-bytes truth = refl
+formula-bytes falsity = refl
+formula-bytes (both f g) =
+    ap (λ (l : List ℕ). 4 ∷ l)
+    (ap recordsBytes (map-append node (symbols f) (symbols g))
+    ∙ (bytes-of-both (map node (symbols f)) (map node (symbols g)) ∙ rw (formula-bytes f, formula-bytes g)))
+formula-bytes (necessity p f) = ap (λ (l : List ℕ). 5 ∷ p ∷ l) (formula-bytes f)
+formula-bytes (max f) = ap (λ (l : List ℕ). 6 ∷ l) (formula-bytes f)
+formula-bytes (variable d) = refl
+
+pub rule-bytes : (r : Rule) → recordsBytes (records (r .patterns) (symbols (r .formula))) ≡ encode r
+rule-bytes r =
+    bytes-of-both (map pattern (r .patterns)) (map node (symbols (r .formula))) ∙ rw (pattern-bytes (r .patterns), formula-bytes (r .formula))
+
+pub patterns-in : (ps : List Pattern) (xs : List Symbol) → patternsIn (records ps xs) ≡ length ps
+patterns-in [] [] = refl
+patterns-in [] (x ∷ xs) = patterns-in [] xs
+patterns-in (p ∷ ps) xs = ap suc (patterns-in ps xs)
+
+pub nodes-in : (ps : List Pattern) (xs : List Symbol) → nodesIn (records ps xs) ≡ length xs
+nodes-in [] [] = refl
+nodes-in [] (x ∷ xs) = ap suc (nodes-in [] xs)
+nodes-in (p ∷ ps) xs = nodes-in ps xs
+
+pub more-nodes : (ps : List Pattern) (xs ys : List Symbol) → records ps (xs ++ ys) ≡ records ps xs ++ map node ys
+more-nodes ps xs ys =
+    ap (λ (l : List Record). map pattern ps ++ l) (map-append node xs ys) ∙ sym (append-assoc (map pattern ps) (map node xs) (map node ys))
+
+pub one-more-pattern : (ps : List Pattern) (p : Pattern) → records (ps ++ p ∷ []) [] ≡ records ps [] ++ pattern p ∷ []
+one-more-pattern [] p = refl
+one-more-pattern (q ∷ ps) p = ap (λ (l : List Record). pattern q ∷ l) (one-more-pattern ps p)
+
+-- patterns and symbols follow from the records
+pub one-shape : (ps qs : List Pattern) (xs ys : List Symbol) → records ps xs ≡ records qs ys → (ps ≡ qs) × (xs ≡ ys)
+one-shape [] [] [] [] e = (refl, refl)
+one-shape [] [] [] (y ∷ ys) e = let z : _≡_ {A = ℕ} 0 1 = cc in absurd (omega arith)
+one-shape [] [] (x ∷ xs) [] e = let z : _≡_ {A = ℕ} 0 1 = cc in absurd (omega arith)
+one-shape [] [] (x ∷ xs) (y ∷ ys) e = let (p, q) = one-shape [] [] xs ys cc in (refl, cc)
+one-shape [] (q ∷ qs) [] ys e = let z : _≡_ {A = ℕ} 0 1 = cc in absurd (omega arith)
+one-shape [] (q ∷ qs) (x ∷ xs) ys e = let z : _≡_ {A = ℕ} 0 1 = cc in absurd (omega arith)
+one-shape (p ∷ ps) [] xs [] e = let z : _≡_ {A = ℕ} 0 1 = cc in absurd (omega arith)
+one-shape (p ∷ ps) [] xs (y ∷ ys) e = let z : _≡_ {A = ℕ} 0 1 = cc in absurd (omega arith)
+one-shape (p ∷ ps) (q ∷ qs) xs ys e = let (r, same) = one-shape ps qs xs ys cc in (cc, same)
+
+-- A front of a rule's records has some of the patterns and no symbol, or all patterns and some of the symbols.
+abbrev pub FrontOf : List Pattern → List Symbol → List Record → Type 0
+FrontOf ps xs zs =
+    ((qs : List Pattern) × (others : List Pattern) × (ps ≡ qs ++ others) × (zs ≡ records qs []))
+    ⊎ ((ys : List Symbol) × (others : List Symbol) × (xs ≡ ys ++ others) × (zs ≡ records ps ys))
+
+symbols-front : (xs : List Symbol) (zs rest : List Record) → map node xs ≡ zs ++ rest
+    → (ys : List Symbol) × (others : List Symbol) × (xs ≡ ys ++ others) × (zs ≡ map node ys)
+symbols-front xs [] rest e = ([], xs, refl, refl)
+symbols-front [] (z ∷ zs) rest e = let z : _≡_ {A = ℕ} 0 1 = cc in absurd (omega arith)
+symbols-front (x ∷ xs) (z ∷ zs) rest e = let (ys, others, is, are) = symbols-front xs zs rest cc in (x ∷ ys, others, cc, cc)
+
+pub front-shape : (ps : List Pattern) (xs : List Symbol) (zs rest : List Record) → records ps xs ≡ zs ++ rest → FrontOf ps xs zs
+front-shape ps xs [] rest e = inl ([], ps, refl, refl)
+front-shape [] xs (z ∷ zs) rest e = inr (symbols-front xs (z ∷ zs) rest e)
+front-shape (p ∷ ps) xs (z ∷ zs) rest e = on (front-shape ps xs zs rest cc)
+  where
+    on : FrontOf ps xs zs → FrontOf (p ∷ ps) xs (z ∷ zs)
+    on (inl (qs, others, is, are)) = inl (p ∷ qs, others, cc, cc)
+    on (inr (ys, others, is, are)) = inr (ys, others, is, cc)

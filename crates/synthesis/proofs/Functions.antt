@@ -1,0 +1,13 @@
+-- What the proofs of the functions use.
+pub mod HoldsLaws
+pub mod FillingRows
+pub mod Gathering
+pub mod SetsByTest
+pub mod EnablingCodes
+pub mod NodeArrays
+pub mod OpeningArrays
+pub mod Linking
+pub mod EnabledLaws
+pub mod GraphLaws
+pub mod PlanLaws
+pub mod BuildingWays

@@ -1,0 +1,87 @@
+-- Opening the maxes of a rule and the formulas after its necessities, one node after the other.
+use Prim.Native.Nat.{ℕ, suc, _+_, _≤_, _<_}
+use mathlib.Core.Path.{_≡_, refl, sym, _∙_, ap₂}
+use mathlib.Core.List.{List, _∷_}
+use native.Mathlib.Numerals.{add-one}
+use native.Mathlib.Omega.{arith}
+use lib.ListN.{length, getD, set, replicate}
+use lib.Seq.{getD-set-same, getD-set-other}
+use borrow.Author.Count.{below-more}
+use Rattle.reading.specs.Rule.{Formula, necessity, max, size, Rule}
+use Rattle.reading.specs.Nodes.{EnclosingMax, Node, whole, first, second, after, body}
+use Rattle.reading.proofs.Numbering.NumberedLaws.{repeated-at}
+use Rattle.synthesis.specs.Answering.{opening, opensAround}
+use Rattle.synthesis.specs.Arrays.{IsRule, IsOpening, listedAround, Linked, AfterAll}
+use Rattle.synthesis.proofs.Functions.NodeArrays.{kind-at, node-below}
+
+-- the array has what opening the maxes around a node gives
+around-listed : {r : Rule} {k : ℕ} {opened afters : List ℕ} → Linked r k opened afters → {j : ℕ} {ms : List EnclosingMax} {f : Formula}
+    → Node (r .formula) j ms f → j ≤ k → listedAround opened ms ≡ opensAround ms
+around-listed l whole h = refl
+around-listed l (first n) h = around-listed l n (omega arith)
+around-listed l (second n) h = around-listed l n (omega arith)
+around-listed l (after n) h = around-listed l n (omega arith)
+around-listed l (body {k = j} {ms = ms} {f = f} n) h = ap₂ _∷_ (l .opened-is j ms f (omega arith) n) (around-listed l n (omega arith))
+
+-- ---- one node more
+
+-- what the arrays have at node j
+abbrev OpenedAt : Rule → (opened : List ℕ) → ℕ → Type 0
+OpenedAt r opened j =
+    (ms : List EnclosingMax) (f : Formula) → Node (r .formula) j ms (max f) → getD opened j 0 ≡ opening j (opensAround ms) (max f)
+
+abbrev AfterAt : Rule → (afters : List ℕ) → ℕ → Type 0
+AfterAt r afters j =
+    (p : ℕ) (ms : List EnclosingMax) (f : Formula) → Node (r .formula) j ms (necessity p f)
+    → getD afters j 0 ≡ opening (suc j) (opensAround ms) f
+
+-- Node k is linked, where the arrays stay as they were at all others.
+linked-next : {r : Rule} {k : ℕ} {opened afters opened′ afters′ : List ℕ} → Linked r k opened afters
+    → ((j : ℕ) → (j ≡ k → ⊥) → getD opened′ j 0 ≡ getD opened j 0) → ((j : ℕ) → (j ≡ k → ⊥) → getD afters′ j 0 ≡ getD afters j 0)
+    → OpenedAt r opened′ k → AfterAt r afters′ k → Linked r (k + 1) opened′ afters′
+linked-next {r} {k} {opened′ = opened′} {afters′} l same-opened same-after at-max at-necessity = record {
+  opened-is = λ j ms f h. below-more (OpenedAt r opened′) k
+      (λ j h ms f n. same-opened j (λ q. omega (arith, q)) ∙ l .opened-is j ms f h n) at-max j h ms f;
+  unopened = λ j h. same-opened j (λ q. omega (arith, q)) ∙ l .unopened j (omega arith);
+  after-is = λ j p ms f h. below-more (AfterAt r afters′) k
+      (λ j h p ms f n. same-after j (λ q. omega (arith, q)) ∙ l .after-is j p ms f h n) at-necessity j h p ms f;
+}
+
+module _ {kinds args opened afters : List ℕ} {k e : ℕ} (r : Rule) (ir : IsRule r kinds args) (l : Linked r k opened afters) where
+  pub linked-max : k < length opened → getD kinds k 0 ≡ 6 → IsOpening kinds args opened (k + 1) e → Linked r (k + 1) (set opened k e) afters
+  linked-max h q o =
+      linked-next l (λ j d. getD-set-other opened k j e 0 d) (λ j d. refl) is-open
+      (λ p ms f n. absurd (let z : _≡_ {A = ℕ} 6 5 = sym q ∙ kind-at ir n in omega (arith, z)))
+    where
+      is-open : OpenedAt r (set opened k e) k
+      is-open ms f n =
+          let x = o .is r ir (λ j h. l .unopened j (omega arith)) (record { number = k; body = f } ∷ ms) f (rw (add-one k) (body n)) in
+          getD-set-same opened k e 0 h ∙ rw (add-one k, l .unopened k (omega arith), around-listed l n (omega arith)) at x
+
+  pub linked-necessity : k < length afters → getD kinds k 0 ≡ 5 → IsOpening kinds args opened (k + 1) e
+      → Linked r (k + 1) opened (set afters k e)
+  linked-necessity h q o =
+      linked-next l (λ j d. refl) (λ j d. getD-set-other afters k j e 0 d)
+      (λ ms f n. absurd (let z : _≡_ {A = ℕ} 5 6 = sym q ∙ kind-at ir n in omega (arith, z))) is-after
+    where
+      is-after : AfterAt r (set afters k e) k
+      is-after p ms f n =
+          let x = o .is r ir (λ j h. l .unopened j (omega arith)) ms f (rw (add-one k) (after n)) in
+          getD-set-same afters k e 0 h ∙ rw (add-one k, around-listed l n (omega arith)) at x
+
+pub linked-other : {kinds args opened afters : List ℕ} {k : ℕ} (r : Rule) → IsRule r kinds args → Linked r k opened afters
+    → (getD kinds k 0 ≡ 6 → ⊥) → (getD kinds k 0 ≡ 5 → ⊥) → Linked r (k + 1) opened afters
+linked-other r ir l p q =
+    linked-next l (λ j d. refl) (λ j d. refl) (λ ms f n. absurd (p (kind-at ir n))) (λ i ms f n. absurd (q (kind-at ir n)))
+
+-- ---- from the first node to the last
+
+pub linked-none : (r : Rule) (n : ℕ) (afters : List ℕ) → Linked r 0 (replicate n 0) afters
+linked-none r n afters = record {
+  opened-is = λ j ms f h x. absurd (omega arith);
+  unopened = λ j h. repeated-at 0 n j;
+  after-is = λ j p ms f h x. absurd (omega arith);
+}
+
+pub linked-all : {r : Rule} {k : ℕ} {opened afters : List ℕ} → size (r .formula) ≤ k → Linked r k opened afters → AfterAll r afters
+linked-all h l = record { is = λ j p ms f n. l .after-is j p ms f (omega (arith, node-below n)) n }

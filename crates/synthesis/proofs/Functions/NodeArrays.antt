@@ -1,0 +1,43 @@
+-- What the arrays of kinds and arguments say of the nodes of their rule.
+use Prim.Native.Nat.{ℕ, _≤_, _<_}
+use mathlib.Core.Path.{_≡_}
+use mathlib.Core.List.{List, [], map}
+use native.Mathlib.Omega.{arith}
+use lib.ListN.{length, getD}
+use Rattle.reading.specs.Rule.{Formula, size, Rule}
+use Rattle.reading.specs.Nodes.{EnclosingMax, Node, Resolves}
+use Rattle.reading.specs.Numbered.{kind, argument, numberOf, kinds, args}
+use Rattle.reading.proofs.Numbering.NodeLaws.{node-fits}
+use Rattle.reading.proofs.Numbering.Listings.{size-positive}
+use Rattle.reading.proofs.Numbering.NumberedLaws.{padded-long, kinds-size, args-size, numbers-nodes}
+use Rattle.synthesis.specs.Arrays.{IsRule}
+
+pub node-below : {root : Formula} {k : ℕ} {ms : List EnclosingMax} {f : Formula} → Node root k ms f → k < size root
+node-below {f = f} n = omega (arith, node-fits n, size-positive f)
+
+-- ---- the arrays of a known rule
+
+module _ {r : Rule} {ks xs : List ℕ} (ir : IsRule r ks xs) where
+  few : size (r .formula) ≤ 64
+  few = ir .within-limits .few-nodes
+
+  pub kinds-long : length ks ≡ 64
+  kinds-long = rw (ir .kinds-are) (padded-long 0 64 (kinds 0 [] (r .formula)) (rw (kinds-size 0 [] (r .formula)) few))
+
+  pub args-long : length xs ≡ 64
+  args-long = rw (ir .args-are) (padded-long 0 64 (args 0 [] (r .formula)) (rw (args-size 0 [] (r .formula)) few))
+
+  module _ {k : ℕ} {ms : List EnclosingMax} {f : Formula} (n : Node (r .formula) k ms f) where
+    pub kind-at : getD ks k 0 ≡ kind f
+    kind-at = rw (ir .kinds-are) (numbers-nodes r .kind-is n)
+
+    pub argument-at : getD xs k 0 ≡ argument k (map numberOf ms) f
+    argument-at = rw (ir .args-are) (numbers-nodes r .argument-is n)
+
+    pub in-64 : k < 64
+    in-64 = omega (arith, node-below n, few)
+
+    -- what the node is where its kind is known
+    pub resolved : {kd : ℕ} → getD ks k 0 ≡ kd → Resolves (r .formula) k ms kd (getD xs k 0) f
+    resolved q =
+        rw (← q, ir .kinds-are, ir .args-are) (numbers-nodes r .resolves (length (r .patterns)) (ir .within-limits .well-formed .formula) n)

@@ -1,0 +1,6 @@
+-- Runs of monitors, and what it is to monitor a rule.
+pub mod Runs
+pub mod Verdicts
+pub mod RuleMonitor
+pub mod MonitorLaws
+pub mod Renaming

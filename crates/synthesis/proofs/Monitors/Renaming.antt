@@ -1,0 +1,62 @@
+-- A monitor whose equations are those of another under new names. The two lose, keep and end alike.
+use Prim.Native.Nat.{ℕ, _<_}
+use mathlib.Core.Path.{_≡_, refl, ap}
+use mathlib.Core.Logic.{_↔_}
+use mathlib.Core.List.{List, [], _∷_}
+use Rattle.reading.specs.Rule.{Rule, All}
+use Rattle.synthesis.specs.Monitor.{Answer, dropped, next, kept, verdicts, ended, Suppresses, now, later, Monitors}
+use Rattle.synthesis.proofs.Monitors.Runs.{run-induction}
+use Rattle.synthesis.proofs.Monitors.MonitorLaws.{suppresses-nothing, suppresses-rest}
+
+-- Of one monitor, the equations e with `Ok e` are renamed by f to those of another, and answer each code alike. Several may get one name.
+pub record Renames {E F : Type 0} (codes : ℕ) (Ok : E → Type 0) (answer : E → ℕ → Answer E) (answer′ : F → ℕ → Answer F) (f : E → F)
+    : Type 0 where
+  pub stays : (e e′ : E) (c : ℕ) → Ok e → c < codes → answer e c ≡ next e′ → Ok e′
+  pub drops : (e : E) (c : ℕ) → Ok e → c < codes → answer e c ≡ dropped → answer′ (f e) c ≡ dropped
+  pub follows : (e e′ : E) (c : ℕ) → Ok e → c < codes → answer e c ≡ next e′ → answer′ (f e) c ≡ next (f e′)
+
+module _ {E F : Type 0} (codes : ℕ) (Ok : E → Type 0) (answer : E → ℕ → Answer E) (answer′ : F → ℕ → Answer F) (f : E → F)
+    (renames : Renames codes Ok answer answer′ f) where
+  -- What holds of every run of equations that are renamed, from the answers of both monitors to each code.
+  renamed-induction : (P : E → List ℕ → Type 0) → ((e : E) → P e [])
+      → ((e : E) (c : ℕ) (w : List ℕ) → answer e c ≡ dropped → answer′ (f e) c ≡ dropped → P e w → P e (c ∷ w))
+      → ((e e′ : E) (c : ℕ) (w : List ℕ) → answer e c ≡ next e′ → answer′ (f e) c ≡ next (f e′) → P e′ w → P e (c ∷ w))
+      → (e : E) (w : List ℕ) → Ok e → All (λ c. c < codes) w → P e w
+  renamed-induction P none dropping keeping =
+      run-induction answer (λ e w. Ok e → All (λ c. c < codes) w → P e w) (λ e ok all. none e)
+      (λ e c w q h ok all. dropping e c w q (renames .drops e c ok (all .0) q) (h ok (all .1)))
+      (λ e e′ c w q h ok all. keeping e e′ c w q (renames .follows e e′ c ok (all .0) q) (h (renames .stays e e′ c ok (all .0) q) (all .1)))
+
+  pub renamed-suppresses : (e : E) (w : List ℕ) → Ok e → All (λ c. c < codes) w → Suppresses answer e w ↔ Suppresses answer′ (f e) w
+  renamed-suppresses =
+      renamed-induction (λ e w. Suppresses answer e w ↔ Suppresses answer′ (f e) w)
+      (λ e. (λ l. absurd (suppresses-nothing answer l), λ l. absurd (suppresses-nothing answer′ l)))
+      (λ e c w q q′ h. (λ l. now q′, λ l. now q))
+      (λ e e′ c w q q′ h. (λ l. later q′ (h .0 (suppresses-rest answer q l)), λ l. later q (h .1 (suppresses-rest answer′ q′ l))))
+
+  pub record Alike (e : E) (w : List ℕ) : Type 0 where
+    pub keeps : kept answer′ (f e) w ≡ kept answer e w
+    pub judges : verdicts answer′ (f e) w ≡ verdicts answer e w
+    pub ends : ended answer′ (f e) w ≡ f (ended answer e w)
+
+  pub renamed-runs : (e : E) (w : List ℕ) → Ok e → All (λ c. c < codes) w → Alike e w
+  renamed-runs =
+      renamed-induction Alike (λ e. record { keeps = refl; judges = refl; ends = refl })
+      (λ e c w q q′ h. record {
+        keeps = rw (q, q′) (h .keeps);
+        judges = rw (q, q′) (ap (λ (l : List ℕ). 1 ∷ l) (h .judges));
+        ends = rw (q, q′) (h .ends);
+      })
+      (λ e e′ c w q q′ h. record {
+        keeps = rw (q, q′) (ap (λ (l : List ℕ). c ∷ l) (h .keeps));
+        judges = rw (q, q′) (ap (λ (l : List ℕ). 0 ∷ l) (h .judges));
+        ends = rw (q, q′) (h .ends);
+      })
+
+-- a monitor of a rule is one under new names too
+pub renamed-monitors : {E F : Type 0} (r : Rule) (Ok : E → Type 0) (answer : E → ℕ → Answer E) (answer′ : F → ℕ → Answer F) (f : E → F)
+    → Renames 256 Ok answer answer′ f → (first : E) → Ok first → Monitors r answer first → Monitors r answer′ (f first)
+renamed-monitors r Ok answer answer′ f renames first ok monitors w bytes =
+    let rule = monitors w bytes in
+    let name = renamed-suppresses 256 Ok answer answer′ f renames first w ok bytes in
+    (λ h. name .0 (rule .0 h), λ l. rule .1 (name .1 l))

@@ -1,0 +1,5 @@
+-- The search for equations, and the order in which it finds them.
+pub mod Indices
+pub mod Finding
+pub mod FindingOrder
+pub mod Numbering

@@ -1,0 +1,158 @@
+-- The table that building leaves: it is the monitor of the rule's equations, each renamed to its row. The limit on equations and the mark for
+-- dropped are any, the limit not over the mark.
+use Prim.Native.Nat.{ℕ, _*_, _≤_, _<_}
+use mathlib.Core.Path.{_≡_, sym, _∙_, ap, subst}
+use mathlib.Core.Bool.{false}
+use mathlib.Core.List.{List}
+use native.Mathlib.Omega.{arith}
+use lib.ListN.{length, getD}
+use Rattle.reading.specs.Rule.{Rule, Bytes}
+use Rattle.reading.specs.File.{accepted, ruleOf}
+use Rattle.synthesis.specs.Monitor.{kept, verdicts, ended, Monitors, rowOf, lookup}
+use Rattle.synthesis.proofs.Monitors.Renaming.{Renames, renamed-runs, renamed-monitors}
+use Rattle.synthesis.specs.Opening.{Answers}
+use Rattle.synthesis.specs.Answering.{firstOf, answerOf, unsatisfiable}
+use Rattle.synthesis.specs.Search.{indexOf}
+use Rattle.synthesis.specs.Table.{filled}
+use Rattle.synthesis.specs.Building.{equationsOf, Synthesis, synthesisOf, buildingOf, countedOf, tableAfter}
+use Rattle.synthesis.specs.declared.Counted.the-variants.{Equations}
+use Rattle.synthesis.specs.Promises.{TableMonitors, TableDrops, RefusesViolatedByEmpty, RefusedUnchanged}
+use Rattle.synthesis.specs.Promises.{RowInRange, EntriesInRange, EntryAnswers, EntriesAnswer, SameAfterRows, TableRest}
+use Rattle.synthesis.proofs.Unfolding.AnsweringLaws.{answers-as-defined}
+use Rattle.synthesis.proofs.Monitors.RuleMonitor.{rule-monitors, unsatisfiable-iff}
+use Rattle.synthesis.proofs.Numberings.Indices.{Member}
+use Rattle.synthesis.proofs.Tables.Rows.{entries-length, filled-length, filled-row, filled-rest}
+use Rattle.synthesis.proofs.Monitors.MonitorLaws.{drops-violations}
+use Rattle.synthesis.proofs.Tables.TableMonitors.{table-renames, table-range, table-answers}
+use Rattle.synthesis.proofs.Tables.Synthesized.{withEquations, synthesis-accepts, building-accepts, refused-eight, refuses-eight}
+use Rattle.synthesis.proofs.Tables.Synthesized.{counted-accepts, counted-refuses, accepts-as}
+use Rattle.synthesis.proofs.Tables.Equations.{file-well-formed, first-index, first-member, equations-closed}
+
+-- ---- a run over a table that goes as one over the equations
+
+pub record RunsAs (mark : ℕ) (y : Synthesis) (table w : List ℕ) : Type 0 where
+  pub keeps : kept (lookup 256 mark table) 0 w ≡ kept (answerOf (y .rule)) (firstOf (y .rule)) w
+  pub judges : verdicts (lookup 256 mark table) 0 w ≡ verdicts (answerOf (y .rule)) (firstOf (y .rule)) w
+  pub ends : ended (lookup 256 mark table) 0 w ≡ indexOf (ended (answerOf (y .rule)) (firstOf (y .rule)) w) (y .equations)
+
+module _ (limit mark : ℕ) (s table : List ℕ) where
+  -- the table that building leaves
+  abbrev pub left : List ℕ
+  left = tableAfter mark (buildingOf limit s (length table)) table
+
+  -- the table of a rule
+  abbrev rowsFor : Rule → List ℕ
+  rowsFor r = filled mark (answerOf r) (equationsOf limit r) 256 table
+
+  -- no check refuses the file, which is r, and its rows are inside the table
+  record Admits (r : Rule) : Type 0 where
+    read : ruleOf s ≡ accepted r
+    hopeful : unsatisfiable r ≡ false
+    few : length (equationsOf limit r) ≤ limit
+    room : 256 * length (equationsOf limit r) ≤ length table
+
+  -- what holds of the table of each rule that is admitted, holds of what building leaves
+  leaves : (P : Synthesis → List ℕ → Type 0) → ((r : Rule) → Admits r → P (withEquations limit r) (rowsFor r)) → (y : Synthesis)
+      → buildingOf limit s (length table) ≡ accepted y → P y left
+  leaves P holds y e =
+      let enough = building-accepts limit s (length table) y e in
+      rw e
+      (synthesis-accepts limit s (λ y. P y (tableAfter mark (accepted y) table))
+      (λ r read hopeful few. holds r (record { read = read; hopeful = hopeful; few = few; room = omega (arith, enough .0) })) y
+      (enough .1))
+
+  pub built-range : (k : ℕ) (y : Synthesis) → buildingOf limit s (length table) ≡ accepted y → k < length (y .equations)
+      → RowInRange mark (length (y .equations)) (rowOf 256 left k)
+  built-range k = leaves (λ y t. k < length (y .equations) → RowInRange mark (length (y .equations)) (rowOf 256 t k)) λ r admits h.
+      let l = equationsOf limit r in
+      record {
+        whole = ap length (filled-row mark (answerOf r) l 256 table (admits .room) k h) ∙ entries-length mark (answerOf r) l (getD l k 0) 256;
+        range = λ c b. table-range 256 mark (answerOf r) l (equations-closed limit r (admits .few)) table (admits .room) k c h b;
+      }
+
+  pub built-rest : (y : Synthesis) → buildingOf limit s (length table) ≡ accepted y → SameAfterRows (length (y .equations)) table left
+  built-rest = leaves (λ y t. SameAfterRows (length (y .equations)) table t) λ r admits.
+      let l = equationsOf limit r in
+      record { long = filled-length mark (answerOf r) l 256 table (admits .room); rest = filled-rest mark (answerOf r) l 256 table }
+
+  module _ (below : limit ≤ mark) where
+    rows-rename : (r : Rule) → Admits r
+        → Renames 256 (λ e. Member e (equationsOf limit r)) (answerOf r) (lookup 256 mark (rowsFor r)) (λ e. indexOf e (equationsOf limit r))
+    rows-rename r admits =
+        table-renames 256 mark (answerOf r) (equationsOf limit r) (equations-closed limit r (admits .few)) table (admits .room)
+        (omega (arith, admits .few))
+
+    pub built-runs : (w : List ℕ) → Bytes w → (y : Synthesis) → buildingOf limit s (length table) ≡ accepted y → RunsAs mark y left w
+    built-runs w bytes = leaves (λ y t. RunsAs mark y t w) λ r admits.
+        let l = equationsOf limit r in
+        let t = lookup 256 mark (rowsFor r) in
+        let renames = rows-rename r admits in
+        let alike = renamed-runs 256 (λ e. Member e l) (answerOf r) t (λ e. indexOf e l) renames (firstOf r) w (first-member limit r) bytes in
+        record {
+          keeps = rw (first-index limit r) at (alike .keeps);
+          judges = rw (first-index limit r) at (alike .judges);
+          ends = rw (first-index limit r) at (alike .ends);
+        }
+
+    module _ (bytes : Bytes s) where
+      pub built-monitors : (y : Synthesis) → buildingOf limit s (length table) ≡ accepted y → Monitors (y .rule) (lookup 256 mark left) 0
+      built-monitors = leaves (λ y t. Monitors (y .rule) (lookup 256 mark t) 0) λ r admits.
+          let l = equationsOf limit r in
+          let t = lookup 256 mark (rowsFor r) in
+          let renames = rows-rename r admits in
+          let monitors = rule-monitors r (file-well-formed s bytes r (admits .read)) (admits .hopeful) in
+          subst (Monitors r t) (first-index limit r)
+          (renamed-monitors r (λ e. Member e l) (answerOf r) t (λ e. indexOf e l) renames (firstOf r) (first-member limit r) monitors)
+
+      pub built-answers : (k c : ℕ) → c < 256 → (y : Synthesis) → buildingOf limit s (length table) ≡ accepted y → k < length (y .equations)
+          → EntryAnswers (y .rule) (y .equations) k c (lookup 256 mark left k c)
+      built-answers k c b =
+          leaves (λ y t. k < length (y .equations) → EntryAnswers (y .rule) (y .equations) k c (lookup 256 mark t k c)) λ r admits h.
+          let l = equationsOf limit r in
+          let few : length l ≤ mark = omega (arith, admits .few) in
+          let is = table-answers 256 mark (answerOf r) l (equations-closed limit r (admits .few)) table (admits .room) few k c h b in
+          let defined = answers-as-defined r (file-well-formed s bytes r (admits .read)) in
+          record { answers = subst (Answers r (getD l k 0) c) (sym (is .0)) (defined .answers (getD l k 0) c); under = is .1 }
+
+-- ---- the promises
+
+-- What holds of each accepted synthesis whose equations are so many, holds of that of the file's rule.
+by-count : (limit : ℕ) (s : List ℕ) (capacity : ℕ) (P : Synthesis → Type 0) (r : Rule) (n : ℕ) → ruleOf s ≡ accepted r
+    → countedOf (buildingOf limit s capacity) ≡ Equations n
+    → ((y : Synthesis) → buildingOf limit s capacity ≡ accepted y → n ≡ length (y .equations) → P y) → P (withEquations limit r)
+by-count limit s capacity P r n read e holds =
+    let y = counted-accepts (buildingOf limit s capacity) n e in
+    subst P (accepts-as limit s r read (y .0) (building-accepts limit s capacity (y .0) (y .1) .1)) (holds (y .0) (y .1) (y .2))
+
+pub table-monitors : TableMonitors
+table-monitors limit mark s table r n below bytes read e =
+    by-count limit s (length table) (λ y. Monitors (y .rule) (lookup 256 mark (left limit mark s table)) 0) r n read e
+    (λ y is count. built-monitors limit mark s table below bytes y is)
+
+pub table-drops : TableDrops
+table-drops limit mark s table r n below bytes read e =
+    drops-violations r (lookup 256 mark (left limit mark s table)) 0 (table-monitors limit mark s table r n below bytes read e)
+
+pub table-rest : TableRest
+table-rest limit mark s table n e =
+    let y = counted-accepts (buildingOf limit s (length table)) n e in
+    rw (y .2) (built-rest limit mark s table (y .0) (y .1))
+
+pub entries-in-range : EntriesInRange
+entries-in-range limit mark s table n e k h =
+    let y = counted-accepts (buildingOf limit s (length table)) n e in
+    rw (y .2) (built-range limit mark s table k (y .0) (y .1) (omega (arith, y .2, h)))
+
+pub entries-answer : EntriesAnswer
+entries-answer limit mark s table r n below bytes read e k c h b =
+    by-count limit s (length table)
+    (λ y. EntryAnswers (y .rule) (y .equations) k c (lookup 256 mark (left limit mark s table) k c)) r n read e
+    (λ y is count. built-answers limit mark s table below bytes k c b y is (omega (arith, count, h)))
+
+pub refused-unchanged : RefusedUnchanged
+refused-unchanged limit mark s table number place e = rw (counted-refuses (buildingOf limit s (length table)) number place e)
+
+pub refuses-violated-by-empty : RefusesViolatedByEmpty
+refuses-violated-by-empty limit s bytes r read =
+    let iff = unsatisfiable-iff r (file-well-formed s bytes r read) in
+    (λ e. iff .0 (refused-eight limit s r read (counted-refuses (synthesisOf limit s) 8 0 e)), λ h. rw (refuses-eight limit s r read (iff .1 h)))

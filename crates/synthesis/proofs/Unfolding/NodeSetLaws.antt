@@ -1,0 +1,217 @@
+-- Laws of sets of nodes. Nothing but these looks at their bits.
+use Prim.Native.Nat.{ℕ, zero, suc, _+_, _-_, _*_, _/_, _%_, _^_, _≤_, _<_, min, max}
+use mathlib.Core.Path.{_≡_, refl, sym, _∙_, ap}
+use mathlib.Core.Logic.{_↔_, _⊎_, inl, inr}
+use mathlib.Core.Bool.{true}
+use native.Mathlib.Nat.{mod-lt, mod-eq-of-lt, one-mul, mul-div-mul-right, pow-suc, one-le-pow, zero-lt-suc}
+use native.Mathlib.Nat.{div-one, div-eq-of-lt, div-lt-iff-lt-mul, div-self, zero-div}
+use native.Mathlib.Omega.{arith}
+use lib.Bits.{bitAnd, bitOr, bitXor, differ, or-shr, or-step, and-self, and-shr, and-step, xor-shr, xor-step, xor-zero-r, xor-add-and}
+use lib.Count.{trailingZeros, under}
+use lib.Pow.{pow-lt}
+use borrow.Author.Tests.{eq-eqb, eqb-true}
+use Rattle.reading.specs.Pattern.{bit}
+use Rattle.reading.proofs.Measures.Bits.{bit-zero, bit-suc}
+use Rattle.synthesis.specs.NodeSet.{Has, has, emptySet, singleton, union, intersection}
+use Rattle.synthesis.specs.Promises.{SameMembersSameSet}
+
+-- ---- bits
+
+bit-small : (i n : ℕ) → bit i n < 2
+unfolding bit
+bit-small i n = mod-lt (n / 2 ^ i) (omega arith)
+
+no-bit : (x : ℕ) → x ≡ 0 → x % 2 ≡ 1 → ⊥
+no-bit x e h = omega arith
+
+low-digit : (z u v : ℕ) → z ≡ u * 2 + v → v < 2 → z % 2 ≡ v
+low-digit z u v e h = omega arith
+
+-- an operation that goes digit by digit
+module _ (op digit : ℕ → ℕ → ℕ) (shift : (a b i : ℕ) → op a b / 2 ^ i ≡ op (a / 2 ^ i) (b / 2 ^ i))
+    (step : (a b : ℕ) → op a b ≡ op (a / 2) (b / 2) * 2 + digit (a % 2) (b % 2))
+    (small : (x y : ℕ) → x < 2 → y < 2 → digit x y < 2) where
+  bit-wise : (a b i : ℕ) → bit i (op a b) ≡ digit (bit i a) (bit i b)
+  unfolding bit
+  bit-wise a b i =
+      rw (shift a b i)
+      (low-digit _ _ _ (step (a / 2 ^ i) (b / 2 ^ i)) (small _ _ (mod-lt _ (omega arith)) (mod-lt _ (omega arith))))
+
+bit-union : (a b i : ℕ) → bit i (union a b) ≡ max (bit i a) (bit i b)
+bit-union = bit-wise bitOr max or-shr or-step (λ x y h k. omega arith)
+
+bit-common : (a b i : ℕ) → bit i (intersection a b) ≡ min (bit i a) (bit i b)
+bit-common = bit-wise bitAnd min and-shr and-step (λ x y h k. omega arith)
+
+-- ---- members
+
+pub has-none : (n : ℕ) → Has emptySet n → ⊥
+unfolding bit
+has-none n h = no-bit (0 / 2 ^ n) (zero-div (2 ^ n)) h
+
+pub has-union : (a b n : ℕ) → Has (union a b) n ↔ (Has a n ⊎ Has b n)
+has-union a b n = (λ h. either _ _ (sym (bit-union a b n) ∙ h) (bit-small n a) (bit-small n b), back)
+  where
+    either : (x y : ℕ) → max x y ≡ 1 → x < 2 → y < 2 → (x ≡ 1) ⊎ (y ≡ 1)
+    either zero y e h k = inr (omega arith)
+    either (suc x) y e h k = inl (omega arith)
+
+    most : (x y : ℕ) → (x ≡ 1) ⊎ (y ≡ 1) → x < 2 → y < 2 → max x y ≡ 1
+    most x y (inl e) h k = omega arith
+    most x y (inr e) h k = omega arith
+
+    back : Has a n ⊎ Has b n → Has (union a b) n
+    back h = bit-union a b n ∙ most _ _ h (bit-small n a) (bit-small n b)
+
+pub has-common : (a b n : ℕ) → Has (intersection a b) n ↔ (Has a n × Has b n)
+has-common a b n =
+    (λ h. least _ _ (sym (bit-common a b n) ∙ h) (bit-small n a) (bit-small n b), λ h. bit-common a b n ∙ rw (h .0, h .1))
+  where
+    least : (x y : ℕ) → min x y ≡ 1 → x < 2 → y < 2 → (x ≡ 1) × (y ≡ 1)
+    least x y e h k = (omega arith, omega arith)
+
+pub has-single : (k : ℕ) → Has (singleton k) k
+unfolding bit
+has-single k = rw (div-self {n = 2 ^ k} (one-le-pow k 2 (omega arith)))
+
+pub single-has : (k n : ℕ) → Has (singleton k) n → k ≡ n
+unfolding bit
+single-has zero zero h = refl
+single-has zero (suc n) h = absurd (no-bit (1 / 2 ^ suc n) (div-eq-of-lt (pow-lt {i = 0} {j = suc n} (omega arith))) h)
+single-has (suc k) zero h = absurd (even (2 ^ k) (rw (pow-suc 2 k, div-one (2 ^ k * 2)) at h))
+  where
+    even : (x : ℕ) → x * 2 % 2 ≡ 1 → ⊥
+    even x h = omega arith
+single-has (suc k) (suc n) h =
+    ap suc (single-has k n (rw (pow-suc 2 k, pow-suc 2 n, mul-div-mul-right {m = 2} (2 ^ k) (2 ^ n) (omega arith)) at h))
+
+-- the lowest node taken out, and every other moved down by one
+pub half-has : (e n : ℕ) → Has (e / 2) n ↔ Has e (suc n)
+half-has e n = (λ h. bit-suc n e ∙ h, λ h. sym (bit-suc n e) ∙ h)
+
+-- a one shifted by k in 64 bits, as the code has it
+abbrev pub shiftedOne : ℕ → ℕ
+shiftedOne k = 1 * 2 ^ k % 18446744073709551616
+
+pub shl-one : (k : ℕ) → k < 64 → shiftedOne k ≡ singleton k
+shl-one k h = rw (one-mul (2 ^ k), mod-eq-of-lt (pow-lt {j = 64} h))
+
+-- ---- the test for a member
+
+pub has-true : (e n : ℕ) → has e n ≡ true → Has e n
+has-true e n h = eqb-true (bit n e) 1 h
+
+pub true-has : (e n : ℕ) → Has e n → has e n ≡ true
+true-has e n h = eq-eqb (bit n e) 1 h
+
+-- ---- two sets with the same members are one
+
+low : (x y : ℕ) → x < 2 → y < 2 → (x ≡ 1) ↔ (y ≡ 1) → x ≡ y
+low zero zero p q h = refl
+low zero (suc y) p q h = omega (arith, h .1 (omega arith))
+low (suc x) y p q h = omega (arith, h .0 (omega arith))
+
+ext : (k a b : ℕ) → a ≤ k → b ≤ k → ((n : ℕ) → Has a n ↔ Has b n) → a ≡ b
+ext zero a b p q h = omega arith
+ext (suc k) a b p q h =
+    let high : a / 2 ≡ b / 2 = ext k (a / 2) (b / 2) (omega arith) (omega arith) (λ n. rw (← bit-suc n a, ← bit-suc n b) (h (suc n))) in
+    let l : a % 2 ≡ b % 2 = low (a % 2) (b % 2) (omega arith) (omega arith) (rw (bit-zero a, bit-zero b) at (h 0)) in
+    omega arith
+
+pub has-ext : SameMembersSameSet
+has-ext a b h = ext (a + b) a b (omega arith) (omega arith) h
+
+-- a set without members is none
+pub none-of : (e : ℕ) → ((n : ℕ) → Has e n → ⊥) → e ≡ emptySet
+none-of e h = has-ext e emptySet (λ n. (λ x. absurd (h n x), λ x. absurd (has-none n x)))
+
+-- a set that isn't none has a member
+pub some-of : (e : ℕ) → 0 < e → (n : ℕ) × Has e n
+some-of e h = below e e (omega arith) h
+  where
+    below : (k e : ℕ) → e ≤ k → 0 < e → (n : ℕ) × Has e n
+    below zero e p h = absurd (omega arith)
+    below (suc k) e p h = on (e % 2) refl (below k (e / 2))
+      where
+        on : (d : ℕ) → e % 2 ≡ d → (e / 2 ≤ k → 0 < e / 2 → (n : ℕ) × Has (e / 2) n) → (n : ℕ) × Has e n
+        on zero q ih = let r = ih (omega arith) (omega arith) in (suc (r .0), half-has e (r .0) .0 (r .1))
+        on (suc d) q ih = (0, bit-zero e ∙ omega arith)
+
+-- ---- a set without one of its members
+
+-- the set with a node put in, or taken out where it was in
+abbrev pub toggled : ℕ → ℕ → ℕ
+toggled e k = bitXor e (singleton k)
+
+differ-small : (x y : ℕ) → x < 2 → y < 2 → differ x y < 2
+differ-small zero y h k = k
+differ-small (suc zero) zero h k = h
+differ-small (suc zero) (suc y) h k = omega arith
+differ-small (suc (suc x)) y h k = absurd (omega arith)
+
+bit-toggled : (e k n : ℕ) → bit n (toggled e k) ≡ differ (bit n e) (bit n (singleton k))
+bit-toggled e k = bit-wise bitXor differ xor-shr xor-step differ-small e (singleton k)
+
+differ-none : (x y : ℕ) → y < 2 → (y ≡ 1 → ⊥) → differ x y ≡ x
+differ-none zero zero h n = refl
+differ-none (suc x) zero h n = refl
+differ-none x (suc zero) h n = absurd (n refl)
+differ-none x (suc (suc y)) h n = absurd (omega arith)
+
+-- the other members stay
+pub toggled-other : (e k n : ℕ) → (k ≡ n → ⊥) → Has (toggled e k) n ↔ Has e n
+toggled-other e k n d = (λ h. sym stays ∙ h, λ h. stays ∙ h)
+  where
+    stays : bit n (toggled e k) ≡ bit n e
+    stays = bit-toggled e k n ∙ differ-none (bit n e) (bit n (singleton k)) (bit-small n (singleton k)) (λ h. d (single-has k n h))
+
+pub toggled-lt : (e k : ℕ) → Has e k → toggled e k < e
+toggled-lt e k h =
+    less (toggled e k) (intersection e (singleton k)) e (singleton k) inside (xor-add-and e (singleton k)) (one-le-pow k 2 (omega arith))
+  where
+    member : (n : ℕ) → k ≡ n → Has e n
+    member n q = rw (← q) h
+
+    inside : intersection e (singleton k) ≡ singleton k
+    inside = has-ext (intersection e (singleton k)) (singleton k) (λ n.
+        (λ x. has-common e (singleton k) n .0 x .1, λ x. has-common e (singleton k) n .1 (member n (single-has k n x), x)))
+
+    less : (x c e s : ℕ) → c ≡ s → x + c * 2 ≡ e + s → 0 < s → x < e
+    less x c e s p q r = omega arith
+
+-- ---- a set without its lowest member
+
+-- an operation that goes digit by digit, from the halves and the lowest digits of two numbers
+digits : (op digit : ℕ → ℕ → ℕ) → ((a b : ℕ) → op a b ≡ op (a / 2) (b / 2) * 2 + digit (a % 2) (b % 2))
+    → (a b x y u v : ℕ) → a / 2 ≡ x → b / 2 ≡ y → a % 2 ≡ u → b % 2 ≡ v → op a b ≡ op x y * 2 + digit u v
+digits op digit step a b x y u v p q r s = step a b ∙ rw (p, q, r, s) refl
+
+doubles : (z w x y : ℕ) → z ≡ x * 2 + 0 → w ≡ y * 2 + 0 → x ≡ y → z ≡ w
+doubles z w x y p q e = omega arith
+
+half-double : (x y : ℕ) → y ≡ x * 2 → y / 2 ≡ x
+half-double x y h = omega arith
+
+even-double : (x y : ℕ) → y ≡ x * 2 → y % 2 ≡ 0
+even-double x y h = omega arith
+
+-- the intersection of a number with the one before it has all its members but the lowest
+pub lowest-out : (k e : ℕ) → 0 < e → e < 2 ^ k → intersection e (e - 1) ≡ toggled e (trailingZeros k e)
+unfolding trailingZeros
+lowest-out zero e p h = absurd (omega arith)
+lowest-out (suc k) e p h = on (e % 2) refl (lowest-out k (e / 2))
+  where
+    half : e / 2 < 2 ^ k
+    half = div-lt-iff-lt-mul (zero-lt-suc 1) .1 (rw pow-suc at h)
+
+    on : (d : ℕ) → e % 2 ≡ d → (0 < e / 2 → e / 2 < 2 ^ k → intersection (e / 2) (e / 2 - 1) ≡ toggled (e / 2) (trailingZeros k (e / 2)))
+        → intersection e (e - 1) ≡ toggled e (under d (trailingZeros k (e / 2)))
+    on zero q ih =
+        let t = trailingZeros k (e / 2) in
+        let double = pow-suc 2 t in
+        doubles _ _ _ _ (digits bitAnd min and-step e (e - 1) (e / 2) (e / 2 - 1) 0 1 refl (omega arith) q (omega arith))
+        (digits bitXor differ xor-step e (2 ^ suc t) (e / 2) (2 ^ t) 0 0 refl (half-double _ _ double) q (even-double _ _ double))
+        (ih (omega arith) half)
+    on (suc d) q ih =
+        doubles _ _ _ _ (digits bitAnd min and-step e (e - 1) (e / 2) (e / 2) 1 0 refl (omega arith) (omega arith) (omega arith))
+        (digits bitXor differ xor-step e 1 (e / 2) 0 1 1 refl refl (omega arith) refl) (and-self (e / 2) ∙ sym (xor-zero-r (e / 2)))
