@@ -1,4 +1,4 @@
--- Text added to a line.
+-- Text added to a line: the bytes behind the text are 0, so that setting the first of them is the text with one byte more. Lines are then made field by field.
 use mathlib.Core.Path.{_≡_, refl, sym, ap, ap₂, _∙_}
 use mathlib.Core.List.{List, [], _∷_, _++_, append-nil, append-assoc}
 use Prim.Native.Nat.{ℕ, suc, _+_, _-_, _≤_, _<_}

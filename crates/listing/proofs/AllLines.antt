@@ -1,4 +1,5 @@
--- Line by line, the text is the listing.
+-- Line by line, the text is the listing. By induction over the lines that may still come: each position gives its line and the position of the next, which is
+-- the next run of the row, or the beginning of the next row.
 use mathlib.Core.Path.{_≡_, refl, sym, ap, _∙_}
 use mathlib.Core.Bool.{Bool, true, false}
 use mathlib.Core.List.{List, [], _∷_, _++_, map, append-assoc}
@@ -25,10 +26,10 @@ use Rattle.listing.proofs.RowLaws.{row-inside, row-short}
 use Rattle.listing.proofs.LineLaws.{past-last, past-row, at-run, at-patterns, at-pattern, at-equations, at-row}
 
 -- after a row that isn't wholly inside the table there is no line
-rows-missing : (table : List ℕ) (k many : ℕ) → length table < 256 * k + 256 → rowLines table k many ≡ []
+row-lines-none : (table : List ℕ) (k many : ℕ) → length table < 256 * k + 256 → rowLines table k many ≡ []
 unfolding rowLines
-rows-missing table k zero h = refl
-rows-missing table k (suc many) h = rw (row-none 256 table k h) (rows-missing table (suc k) many (omega arith))
+row-lines-none table k zero h = refl
+row-lines-none table k (suc many) h = rw (row-none 256 table k h) (row-lines-none table (suc k) many (omega arith))
 
 -- ---- one line
 
@@ -56,17 +57,17 @@ module _ (rule : NumberedRule) (table : List ℕ) (count : ℕ) where
   abbrev from : (most at : ℕ) → List ℕ
   from most at = linesFrom rule table count most at
 
-  one-line : (most at next : ℕ) (fields : List (List ℕ)) → listingLineAt rule table count at ≡ lineThen (line fields) next
+  lines-from-line : (most at next : ℕ) (fields : List (List ℕ)) → listingLineAt rule table count at ≡ lineThen (line fields) next
       → from (suc most) at ≡ line fields ++ from most next
   unfolding linesFrom
-  one-line most at next fields e =
+  lines-from-line most at next fields e =
       let some : length (line fields) ≡ 0 → ⊥ = λ z. omega (arith, length-append (spaced fields) (text "\n")) in
       rw (e, ne-eqb (length (line fields)) 0 some, take-append-seam (line fields))
 
-  no-more : (most at : ℕ) → listingLineAt rule table count at ≡ noLine at → from most at ≡ []
+  lines-from-end : (most at : ℕ) → listingLineAt rule table count at ≡ noLine at → from most at ≡ []
   unfolding linesFrom
-  no-more zero at e = refl
-  no-more (suc most) at e = rw e
+  lines-from-end zero at e = refl
+  lines-from-end (suc most) at e = rw e
 
   -- ---- the equations
 
@@ -75,39 +76,39 @@ module _ (rule : NumberedRule) (table : List ℕ) (count : ℕ) where
   to-come k c many = runLines k (runsFrom c (drop c (row k))) ++ rowLines table (suc k) many
 
   -- it comes in so many lines
-  abbrev RunsFollow : (most : ℕ) → Type 0
-  RunsFollow most = (k c many : ℕ) → k + suc many ≡ count → c < 256 → 256 * suc many ≤ most + c → from most (place k c) ≡ to-come k c many
+  abbrev RunsComplete : (most : ℕ) → Type 0
+  RunsComplete most = (k c many : ℕ) → k + suc many ≡ count → c < 256 → 256 * suc many ≤ most + c → from most (place k c) ≡ to-come k c many
 
   line-at : (k c : ℕ) → c < 256 → listingLineAt rule table count (place k c) ≡ rowLineAt table count (n + 2) k c (place k c)
   unfolding listingLineAt
   line-at k c h = at-code n (rule .extents) table count k c h
 
   -- the equations from k on
-  rows-follow : (most : ℕ) → RunsFollow most → (k many : ℕ) → k + many ≡ count → 256 * many ≤ most
+  rows-complete : (most : ℕ) → RunsComplete most → (k many : ℕ) → k + many ≡ count → 256 * many ≤ most
       → from most (place k 0) ≡ rowLines table k many
   unfolding rowLines
-  rows-follow most runs-follow k zero e h =
-      no-more most (place k 0) (line-at k 0 (omega arith) ∙ past-last table count (n + 2) k 0 (place k 0) (omega arith))
-  rows-follow most runs-follow k (suc many) e h = runs-follow k 0 many e (omega arith) (omega arith)
+  rows-complete most runs-complete k zero e h =
+      lines-from-end most (place k 0) (line-at k 0 (omega arith) ∙ past-last table count (n + 2) k 0 (place k 0) (omega arith))
+  rows-complete most runs-complete k (suc many) e h = runs-complete k 0 many e (omega arith) (omega arith)
 
   -- what follows a run: the next one of the row, or the next row
-  rest-follows : (most : ℕ) → RunsFollow most → (k c many last : ℕ) → k + suc many ≡ count → 256 * suc many ≤ suc most + c
+  rest-complete : (most : ℕ) → RunsComplete most → (k c many last : ℕ) → k + suc many ≡ count → 256 * suc many ≤ suc most + c
       → RunTo (row k) c last → from most (place k (suc last)) ≡ to-come k (suc last) many
-  rest-follows most runs-follow k c many last e h r = on (ltb (suc last) 256) refl
+  rest-complete most runs-complete k c many last e h r = on (ltb (suc last) 256) refl
     where
       on : (b : Bool) → ltb (suc last) 256 ≡ b → from most (place k (suc last)) ≡ to-come k (suc last) many
-      on true f = runs-follow k (suc last) many e (ltb-true (suc last) 256 f) (omega (arith, r .some))
+      on true f = runs-complete k (suc last) many e (ltb-true (suc last) 256 f) (omega (arith, r .some))
       on false f =
           let whole = row-inside 256 table k last (r .inside) .1 in
           let at-end : suc last ≡ 256 = omega (arith, r .inside, whole, ltb-false (suc last) 256 f) in
           let next : place k (suc last) ≡ place (suc k) 0 = omega arith in
           rw (no-runs (row k) (suc last) (omega arith), next)
-          (rows-follow most runs-follow (suc k) many (omega arith) (omega (arith, r .some)))
+          (rows-complete most runs-complete (suc k) many (omega arith) (omega (arith, r .some)))
 
-  runs-follow : (most : ℕ) → RunsFollow most
-  runs-follow zero k c many e h l = absurd (omega arith)
-  runs-follow (suc most) k c many e h l =
-      on (ltb c (length (row k))) refl (λ last r. rest-follows most (runs-follow most) k c many last e l r)
+  runs-complete : (most : ℕ) → RunsComplete most
+  runs-complete zero k c many e h l = absurd (omega arith)
+  runs-complete (suc most) k c many e h l =
+      on (ltb c (length (row k))) refl (λ last r. rest-complete most (runs-complete most) k c many last e l r)
     where
       on : (b : Bool) → ltb c (length (row k)) ≡ b
           → ((last : ℕ) → RunTo (row k) c last → from most (place k (suc last)) ≡ to-come k (suc last) many)
@@ -115,13 +116,13 @@ module _ (rule : NumberedRule) (table : List ℕ) (count : ℕ) where
       on true f rest =
           let (last, r) = some-run (row k) c (ltb-true c (length (row k)) f) in
           let fields = decimal k ∷ decimal c ∷ decimal last ∷ answerText (meaning 255 (getD (row k) c 0)) ∷ [] in
-          one-line most (place k c) (place k (suc last)) fields
+          lines-from-line most (place k c) (place k (suc last)) fields
           (line-at k c h ∙ at-run table count (n + 2) k c (place k c) last (omega arith) r)
           ∙ rw (first-run (row k) c last r, rest last r) (sym (append-assoc (line fields) _ _))
       on false f rest =
           let short = ltb-false c (length (row k)) f in
-          no-more (suc most) (place k c) (line-at k c h ∙ past-row table count (n + 2) k c (place k c) short (omega arith))
-          ∙ rw (no-runs (row k) c short, rows-missing table (suc k) many (omega (arith, row-short 256 table k (omega arith))))
+          lines-from-end (suc most) (place k c) (line-at k c h ∙ past-row table count (n + 2) k c (place k c) short (omega arith))
+          ∙ rw (no-runs (row k) c short, row-lines-none table (suc k) many (omega (arith, row-short 256 table k (omega arith))))
 
   -- ---- the patterns
 
@@ -133,48 +134,48 @@ module _ (rule : NumberedRule) (table : List ℕ) (count : ℕ) where
       let next : suc i + 1 ≡ suc (suc i) = omega arith in
       at-pattern n (rule .extents) table count (suc i) (λ z. omega arith) h ∙ rw (this, next)
 
-  patterns-follow : length (rule .extents) ≡ 32 → (more most all i : ℕ) → all ≡ more + most → i + more ≡ n
+  patterns-complete : length (rule .extents) ≡ 32 → (more most all i : ℕ) → all ≡ more + most → i + more ≡ n
       → from all (suc i) ≡ patternLines i (drop i (extentsOf rule)) ++ from most (suc n)
-  patterns-follow size zero most all i a e =
+  patterns-complete extents-length zero most all i a e =
       let is : all ≡ most = omega arith in
       let last : i ≡ n = omega arith in
       rw (is, last, drop-of-length-le (extentsOf rule) {i = n} (omega (arith, length-take n (rule .extents))))
-  patterns-follow size (suc more) most all i a e =
+  patterns-complete extents-length (suc more) most all i a e =
       let is : all ≡ suc (more + most) = omega arith in
       let x = getD (rule .extents) i noExtent in
       let fields = text "p" ∷ decimal i ∷ decimal (x .lowest) ∷ decimal (x .count) ∷ [] in
       let inside : i < length (extentsOf rule) = omega (arith, length-take-le n (rule .extents) (omega arith)) in
       rw (is, drop-cons (extentsOf rule) i noExtent inside, getD-take n (rule .extents) i noExtent (omega arith))
-      (one-line (more + most) (suc i) (suc (suc i)) fields (pattern-line i (omega arith))
-      ∙ rw (patterns-follow size more most (more + most) (suc i) refl (omega arith)) (sym (append-assoc (line fields) _ _)))
+      (lines-from-line (more + most) (suc i) (suc (suc i)) fields (pattern-line i (omega arith))
+      ∙ rw (patterns-complete extents-length more most (more + most) (suc i) refl (omega arith)) (sym (append-assoc (line fields) _ _)))
 
   -- ---- all lines
 
-  all-follow : length (rule .extents) ≡ 32 → (most : ℕ) → 256 * count ≤ most
+  lines-complete : length (rule .extents) ≡ 32 → (most : ℕ) → 256 * count ≤ most
       → from (suc (n + suc most)) 0 ≡ listing (extentsOf rule) count table
   unfolding listing listingLineAt
-  all-follow size most h =
+  lines-complete extents-length most h =
       let many : length (extentsOf rule) ≡ n = length-take-le n (rule .extents) (omega arith) in
       let next : suc n + 1 ≡ place 0 0 = omega arith in
-      let first = one-line (n + suc most) 0 1 (text "patterns" ∷ decimal n ∷ []) (at-patterns n (rule .extents) table count 0 refl) in
-      let patterns = patterns-follow size n (suc most) (n + suc most) 0 refl (omega arith) in
-      let equations = one-line most (suc n) (suc n + 1) (text "equations" ∷ decimal count ∷ [])
+      let first = lines-from-line (n + suc most) 0 1 (text "patterns" ∷ decimal n ∷ []) (at-patterns n (rule .extents) table count 0 refl) in
+      let patterns = patterns-complete extents-length n (suc most) (n + suc most) 0 refl (omega arith) in
+      let equations = lines-from-line most (suc n) (suc n + 1) (text "equations" ∷ decimal count ∷ [])
       (at-equations n (rule .extents) table count (suc n) (omega arith)) in
-      let rows = rows-follow most (runs-follow most) 0 count (omega arith) h in
+      let rows = rows-complete most (runs-complete most) 0 count (omega arith) h in
       rw (first, patterns, equations, next, rows, many)
 
 pub lists-all : ListsAll
-lists-all rule table count most size h =
+lists-all rule table count most extents-length h =
     let m = most - (patternCount rule + 2) in
     let is : most ≡ suc (patternCount rule + suc m) = omega arith in
-    rw is (all-follow rule table count size m (omega arith))
+    rw is (lines-complete rule table count extents-length m (omega arith))
 
 pub lists-rule : ListsRule
 lists-rule r table count most w h =
     let ps = r .patterns in
     let es = map extentOf ps in
     let same : length es ≡ length ps = length-map ps extentOf in
-    let size : length (numbered r .extents) ≡ 32 = padded-long noExtent 32 es (omega (arith, w .few-patterns)) in
+    let extents-length : length (numbered r .extents) ≡ 32 = padded-long noExtent 32 es (omega (arith, w .few-patterns)) in
     let n : patternCount (numbered r) ≡ length ps = omega (arith, w .few-patterns) in
     let these : extentsOf (numbered r) ≡ es = rw n (take-at es _ (length ps) same) in
-    lists-all (numbered r) table count most size h ∙ ap (λ (l : List Extent). listing l count table) these
+    lists-all (numbered r) table count most extents-length h ∙ ap (λ (l : List Extent). listing l count table) these

@@ -1,4 +1,5 @@
--- The runs of a row are the longest runs of one entry, in order, and say what the table answers.
+-- The runs of a row are the longest runs of one entry, in order, and say what the table answers. By induction over the codes that may still follow: the first
+-- run goes as far as its entry, so that the next one begins with another.
 use mathlib.Core.Path.{_≡_, refl, sym, ap, _∙_}
 use mathlib.Core.Bool.{Bool, true, false}
 use mathlib.Core.List.{List, _∷_}
@@ -15,18 +16,20 @@ use Rattle.listing.specs.Runs.{CodeRun, codeRun, runsFrom, runs, RunTo}
 use Rattle.listing.specs.Promises.{Longest, Consecutive, Groups, ShowsAnswers}
 use Rattle.listing.proofs.RunLaws.{first-run, no-runs, some-run}
 
+-- ---- the runs of a row
+
 module _ (row : List ℕ) where
   -- the entry before code c is another than that at c
   abbrev Begins : ℕ → Type 0
   Begins c = (d : ℕ) → suc d ≡ c → c < length row → getD row d 0 ≡ getD row c 0 → ⊥
 
   -- what is to be shown of the runs from code c on
-  record Good (c : ℕ) (rs : List CodeRun) : Type 0 where
+  record Grouped (c : ℕ) (rs : List CodeRun) : Type 0 where
     longest : All (Longest row) rs
     consecutive : Consecutive c (length row) rs
 
-  one-more : (c last : ℕ) → Begins c → RunTo row c last → (rs : List CodeRun) → Good (suc last) rs → Good c (codeRun c last (getD row c 0) ∷ rs)
-  one-more c last b r rs g = record {
+  grouped-cons : (c last : ℕ) → Begins c → RunTo row c last → (rs : List CodeRun) → Grouped (suc last) rs → Grouped c (codeRun c last (getD row c 0) ∷ rs)
+  grouped-cons c last b r rs g = record {
     longest = (record { entry = refl; reaches = r; begins = λ d e same. b d e (omega (arith, r .some, r .inside)) same }, g .longest);
     consecutive = (refl, g .consecutive);
   }
@@ -37,23 +40,23 @@ module _ (row : List ℕ) where
       r .ends h (sym same ∙ rw is (r .same last (r .some) (omega arith)))
 
   -- at most `more` codes follow
-  good-from : (more c : ℕ) → c ≤ length row → length row ≤ c + more → Begins c → Good c (runsFrom c (drop c row))
-  good-from zero c h l b = rw (no-runs row c (omega arith)) (record { longest = tt; consecutive = omega arith })
-  good-from (suc more) c h l b = on (ltb c (length row)) refl
-      (λ last r. good-from more (suc last) (r .inside) (omega (arith, r .some)) (next-begins c last r))
+  grouped-from : (more c : ℕ) → c ≤ length row → length row ≤ c + more → Begins c → Grouped c (runsFrom c (drop c row))
+  grouped-from zero c h l b = rw (no-runs row c (omega arith)) (record { longest = tt; consecutive = omega arith })
+  grouped-from (suc more) c h l b = on (ltb c (length row)) refl
+      (λ last r. grouped-from more (suc last) (r .inside) (omega (arith, r .some)) (next-begins c last r))
     where
       on : (a : Bool) → ltb c (length row) ≡ a
-          → ((last : ℕ) → RunTo row c last → Good (suc last) (runsFrom (suc last) (drop (suc last) row))) → Good c (runsFrom c (drop c row))
+          → ((last : ℕ) → RunTo row c last → Grouped (suc last) (runsFrom (suc last) (drop (suc last) row))) → Grouped c (runsFrom c (drop c row))
       on true e rest =
           let (last, r) = some-run row c (ltb-true c (length row) e) in
-          rw (first-run row c last r) (one-more c last b r _ (rest last r))
+          rw (first-run row c last r) (grouped-cons c last b r _ (rest last r))
       on false e rest =
-          let newline = ltb-false c (length row) e in
-          rw (no-runs row c newline) (record { longest = tt; consecutive = omega arith })
+          let past = ltb-false c (length row) e in
+          rw (no-runs row c past) (record { longest = tt; consecutive = omega arith })
 
   pub groups : Groups row
   groups =
-      let g = good-from (length row) 0 (omega arith) (omega arith) (λ d e. absurd (omega arith)) in
+      let g = grouped-from (length row) 0 (omega arith) (omega arith) (λ d e. absurd (omega arith)) in
       record { longest = g .longest; consecutive = g .consecutive }
 
 -- ---- what the table answers

@@ -1,4 +1,4 @@
--- Decimal numbers: the definition's two cases, how many digits there are, and the text of an entry.
+-- Decimal numbers: the definition's two cases, by which more digits than enough change nothing; how many digits there are; and the text of an entry.
 use mathlib.Core.Path.{_≡_, refl}
 use mathlib.Core.Bool.{Bool, true, false}
 use mathlib.Core.List.{[], _∷_, _++_}
@@ -13,12 +13,12 @@ use Rattle.listing.specs.Text.{text, digit, decimalIn, decimal}
 use Rattle.listing.specs.Lines.{answerText}
 use Rattle.listing.specs.Promises.{SpellsDecimal}
 
--- more digits than enough change nothing
-enough : (most more n : ℕ) → n < most → n < more → decimalIn most n ≡ decimalIn more n
+-- more digits than decimal-in-enough change nothing
+decimal-in-enough : (most more n : ℕ) → n < most → n < more → decimalIn most n ≡ decimalIn more n
 unfolding decimalIn
-enough zero more n h k = absurd (omega arith)
-enough (suc most) zero n h k = absurd (omega arith)
-enough (suc most) (suc more) n h k = on (ltb n 10) refl (λ e. enough most more (n / 10) (omega arith) (omega arith))
+decimal-in-enough zero more n h k = absurd (omega arith)
+decimal-in-enough (suc most) zero n h k = absurd (omega arith)
+decimal-in-enough (suc most) (suc more) n h k = on (ltb n 10) refl (λ e. decimal-in-enough most more (n / 10) (omega arith) (omega arith))
   where
     on : (b : Bool) → ltb n 10 ≡ b → (10 ≤ n → decimalIn most (n / 10) ≡ decimalIn more (n / 10))
         → decimalIn (suc most) n ≡ decimalIn (suc more) n
@@ -31,25 +31,25 @@ decimal-one n h = rw (lt-ltb n 10 h)
 
 pub decimal-more : (n : ℕ) → 10 ≤ n → decimal n ≡ decimal (n / 10) ++ (digit (n % 10) ∷ [])
 unfolding decimal decimalIn
-decimal-more n h = rw (le-ltb n 10 h, enough n (suc (n / 10)) (n / 10) (omega arith) (omega arith))
+decimal-more n h = rw (le-ltb n 10 h, decimal-in-enough n (suc (n / 10)) (n / 10) (omega arith) (omega arith))
 
 pub spells-decimal : (n : ℕ) → SpellsDecimal n
 spells-decimal n = record { one = decimal-one n; more = decimal-more n }
 
-pub length-more : (n : ℕ) → 10 ≤ n → length (decimal n) ≡ length (decimal (n / 10)) + 1
-length-more n h = rw (decimal-more n h) (length-append (decimal (n / 10)) (digit (n % 10) ∷ []))
+pub decimal-length : (n : ℕ) → 10 ≤ n → length (decimal n) ≡ length (decimal (n / 10)) + 1
+decimal-length n h = rw (decimal-more n h) (length-append (decimal (n / 10)) (digit (n % 10) ∷ []))
 
 -- a number below 10 ^ (k + 1) has at most k + 1 digits
-pub digits-of : (k n : ℕ) → n < 10 ^ suc k → length (decimal n) ≤ suc k
-digits-of zero n h = rw (decimal-one n h) (omega arith)
-digits-of (suc k) n h = on (ltb n 10) refl (digits-of k (n / 10) fewer)
+pub decimal-digits : (k n : ℕ) → n < 10 ^ suc k → length (decimal n) ≤ suc k
+decimal-digits zero n h = rw (decimal-one n h) (omega arith)
+decimal-digits (suc k) n h = on (ltb n 10) refl (decimal-digits k (n / 10) fewer)
   where
     fewer : n / 10 < 10 ^ suc k
     fewer = div-lt-iff-lt-mul {k = 10} {y = 10 ^ suc k} (omega arith) .1 (rw (pow-suc 10 (suc k)) at h)
 
     on : (b : Bool) → ltb n 10 ≡ b → length (decimal (n / 10)) ≤ suc k → length (decimal n) ≤ suc (suc k)
     on true e rest = rw (decimal-one n (ltb-true n 10 e)) (omega arith)
-    on false e rest = omega (arith, length-more n (ltb-false n 10 e))
+    on false e rest = omega (arith, decimal-length n (ltb-false n 10 e))
 
 -- ---- the text of an entry
 
@@ -65,4 +65,4 @@ module _ (x : ℕ) where
     where
       on : (b : Bool) → eqb x 255 ≡ b → length (answerText (meaning 255 x)) ≤ 4
       on true e = rw (drop-text (eqb-true x 255 e)) (omega arith)
-      on false e = rw (next-text (eqb-false x 255 e)) (omega (arith, digits-of 2 x (omega arith)))
+      on false e = rw (next-text (eqb-false x 255 e)) (omega (arith, decimal-digits 2 x (omega arith)))

@@ -1,4 +1,4 @@
--- Positions rise from line to line, and end: so a loop over the lines does.
+-- Positions rise from line to line, and end: so a loop over the lines does. By the kinds of positions, one after the other.
 use mathlib.Core.Path.{_≡_, refl, _∙_}
 use mathlib.Core.Bool.{Bool, true, false}
 use mathlib.Core.List.{List}
@@ -16,6 +16,8 @@ use Rattle.listing.proofs.RunLaws.{some-run}
 use Rattle.listing.proofs.RowLaws.{row-inside}
 use Rattle.listing.proofs.LineLaws.{past-last, past-row, at-run, at-patterns, at-pattern, at-equations, at-row}
 
+-- ---- one position
+
 -- where there is a line, the next one is later, and not after the last position
 abbrev Later : (n count at : ℕ) → ListingLine → Type 0
 Later n count at l = (l .line .len ≡ 0 → ⊥) → (at < l .next) × (l .next ≤ n + 2 + 256 * count)
@@ -31,8 +33,8 @@ module _ (n : ℕ) (extents : List Extent) (table : List ℕ) (count at : ℕ) w
   abbrev row : List ℕ
   row = rowOf 256 table k
 
-  none : {l : ListingLine} → l ≡ noLine at → Later n count at l
-  none e some = absurd (some (rw e))
+  no-line-later : {l : ListingLine} → l ≡ noLine at → Later n count at l
+  no-line-later e some = absurd (some (rw e))
 
   row-later : n + 1 < at → Later n count at (lineAt n extents table count at)
   row-later h = on (ltb k count) refl (ltb c (length row)) refl
@@ -45,10 +47,10 @@ module _ (n : ℕ) (extents : List Extent) (table : List ℕ) (count at : ℕ) w
           rw (at-row n extents table count at h, at-run table count (n + 2) k c at last less r)
           (omega (arith, r .some, r .inside), omega (arith, r .inside))
       on true e false f some =
-          none (at-row n extents table count at h
+          no-line-later (at-row n extents table count at h
           ∙ past-row table count (n + 2) k c at (ltb-false c (length row) f) (ltb-true k count e)) some
       on false e b f some =
-          none (at-row n extents table count at h ∙ past-last table count (n + 2) k c at (ltb-false k count e)) some
+          no-line-later (at-row n extents table count at h ∙ past-last table count (n + 2) k c at (ltb-false k count e)) some
 
   line-later : Later n count at (lineAt n extents table count at)
   line-later = on (eqb at 0) refl (leb at n) refl (eqb at (n + 1)) refl
@@ -63,6 +65,8 @@ module _ (n : ℕ) (extents : List Extent) (table : List ℕ) (count at : ℕ) w
           let here = eqb-true at (n + 1) g in
           rw (at-equations n extents table count at here) (omega arith, omega arith)
       on false e false f false g some = row-later (omega (arith, leb-false at n f, eqb-false at (n + 1) g)) some
+
+-- ---- any rule
 
 pub later : (rule : NumberedRule) (table : List ℕ) (count at : ℕ) → (listingLineAt rule table count at .line .len ≡ 0 → ⊥)
     → (at < listingLineAt rule table count at .next) × (listingLineAt rule table count at .next ≤ 34 + 256 * count)

@@ -1,4 +1,4 @@
--- The line at a position: one law for each kind of position, and what the functions give there.
+-- The line at a position: one law for each kind of position, by the tests of `lineAt` in their order, and what the functions give there.
 use mathlib.Core.Path.{_≡_, sym, ap, ap₂, _∙_}
 use mathlib.Core.List.{List}
 use Prim.Native.Nat.{ℕ, suc, _+_, _-_, _*_, _/_, _%_, _≤_, _<_}

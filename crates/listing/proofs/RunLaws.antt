@@ -1,4 +1,5 @@
--- The first run of the codes from one on, and what follows it.
+-- The first run of the codes from one on, and what follows it: a run of one code stands apart from the next, and a longer one joins its first code to the run
+-- of the others, by induction over its length.
 use mathlib.Core.Path.{_≡_, refl, sym, _∙_}
 use mathlib.Core.Bool.{Bool, true, false}
 use mathlib.Core.List.{List, [], _∷_}
@@ -41,9 +42,9 @@ module _ (row : List ℕ) (c : ℕ) where
 -- ---- joining
 
 -- a code before runs that begin with another entry
-apart : (d x c y : ℕ) (rs : List CodeRun) → eqb x y ≡ false → joined d x (joined c y rs) ≡ codeRun d d x ∷ joined c y rs
-apart d x c y [] e = rw e
-apart d x c y (r ∷ rs) e = on (eqb y (r .entry)) refl
+joined-apart : (d x c y : ℕ) (rs : List CodeRun) → eqb x y ≡ false → joined d x (joined c y rs) ≡ codeRun d d x ∷ joined c y rs
+joined-apart d x c y [] e = rw e
+joined-apart d x c y (r ∷ rs) e = on (eqb y (r .entry)) refl
   where
     on : (b : Bool) → eqb y (r .entry) ≡ b → joined d x (joined c y (r ∷ rs)) ≡ codeRun d d x ∷ joined c y (r ∷ rs)
     on true f = rw (f, e)
@@ -51,20 +52,20 @@ apart d x c y (r ∷ rs) e = on (eqb y (r .entry)) refl
 
 module _ (row : List ℕ) where
   -- the run of one code
-  alone : (c : ℕ) → RunTo row c c → runsFrom c (drop c row) ≡ codeRun c c (getD row c 0) ∷ runsFrom (suc c) (drop (suc c) row)
-  alone c r = rw (drop-cons row c 0 (r .inside)) (on (ltb (suc c) (length row)) refl)
+  runs-from-single : (c : ℕ) → RunTo row c c → runsFrom c (drop c row) ≡ codeRun c c (getD row c 0) ∷ runsFrom (suc c) (drop (suc c) row)
+  runs-from-single c r = rw (drop-cons row c 0 (r .inside)) (on (ltb (suc c) (length row)) refl)
     where
       on : (b : Bool) → ltb (suc c) (length row) ≡ b
           → joined c (getD row c 0) (runsFrom (suc c) (drop (suc c) row)) ≡ codeRun c c (getD row c 0) ∷ runsFrom (suc c) (drop (suc c) row)
       on true e =
           let more = ltb-true (suc c) (length row) e in
           rw (drop-cons row (suc c) 0 more)
-          (apart c (getD row c 0) (suc c) (getD row (suc c) 0) (runsFrom (suc (suc c)) (drop (suc (suc c)) row))
+          (joined-apart c (getD row c 0) (suc c) (getD row (suc c) 0) (runsFrom (suc (suc c)) (drop (suc (suc c)) row))
           (ne-eqb _ _ (λ same. r .ends more (sym same))))
       on false e = rw (drop-of-length-le row {i = suc c} (ltb-false (suc c) (length row) e))
 
-  shorter : (c last : ℕ) → suc c ≤ last → RunTo row c last → RunTo row (suc c) last
-  shorter c last h r =
+  run-tail : (c last : ℕ) → suc c ≤ last → RunTo row c last → RunTo row (suc c) last
+  run-tail c last h r =
       let next = r .same (suc c) (omega arith) h in
       record {
         some = h;
@@ -73,28 +74,28 @@ module _ (row : List ℕ) where
         ends = λ l m. r .ends l (m ∙ next);
       }
 
-  longer : (m c last : ℕ) → last ≡ c + m → RunTo row c last
+  runs-from-run : (m c last : ℕ) → last ≡ c + m → RunTo row c last
       → runsFrom c (drop c row) ≡ codeRun c last (getD row c 0) ∷ runsFrom (suc last) (drop (suc last) row)
-  longer zero c last e r =
+  runs-from-run zero c last e r =
       let is : last ≡ c = omega arith in
-      rw is (alone c (rw is at r))
-  longer (suc m) c last e r =
+      rw is (runs-from-single c (rw is at r))
+  runs-from-run (suc m) c last e r =
       let next = r .same (suc c) (omega arith) (omega arith) in
       let here : c < length row = omega (arith, r .inside) in
-      rw (drop-cons row c 0 here, longer m (suc c) last (omega arith) (shorter c last (omega arith) r), eq-eqb _ _ (sym next))
+      rw (drop-cons row c 0 here, runs-from-run m (suc c) last (omega arith) (run-tail c last (omega arith) r), eq-eqb _ _ (sym next))
 
   pub first-run : (c last : ℕ) → RunTo row c last
       → runsFrom c (drop c row) ≡ codeRun c last (getD row c 0) ∷ runsFrom (suc last) (drop (suc last) row)
-  first-run c last r = longer (last - c) c last (omega (arith, r .some)) r
+  first-run c last r = runs-from-run (last - c) c last (omega (arith, r .some)) r
 
   pub no-runs : (c : ℕ) → length row ≤ c → runsFrom c (drop c row) ≡ []
   no-runs c h = rw (drop-of-length-le row {i = c} h)
 
   -- there is one from every code: `more` codes may follow those that are known to be the same
-  goes-on : (more c last : ℕ) → Same row c last → length row ≤ last + suc more → (end : ℕ) × RunTo row c end
-  goes-on zero c last s h = (last, same-ends row c last s (λ l m. omega arith))
-  goes-on (suc more) c last s h = on (ltb (last + 1) (length row)) refl (eqb (getD row (last + 1) 0) (getD row c 0)) refl
-      (λ l e. goes-on more c (last + 1) (same-more row c last s l e) (omega arith))
+  run-extends : (more c last : ℕ) → Same row c last → length row ≤ last + suc more → (end : ℕ) × RunTo row c end
+  run-extends zero c last s h = (last, same-ends row c last s (λ l m. omega arith))
+  run-extends (suc more) c last s h = on (ltb (last + 1) (length row)) refl (eqb (getD row (last + 1) 0) (getD row c 0)) refl
+      (λ l e. run-extends more c (last + 1) (same-more row c last s l e) (omega arith))
     where
       on : (a : Bool) → ltb (last + 1) (length row) ≡ a → (b : Bool) → eqb (getD row (last + 1) 0) (getD row c 0) ≡ b
           → (last + 1 < length row → getD row (last + 1) 0 ≡ getD row c 0 → (end : ℕ) × RunTo row c end) → (end : ℕ) × RunTo row c end
@@ -103,4 +104,4 @@ module _ (row : List ℕ) where
       on false f b g more = (last, same-ends row c last s (λ l m. omega (arith, ltb-false (last + 1) (length row) f)))
 
   pub some-run : (c : ℕ) → c < length row → (end : ℕ) × RunTo row c end
-  some-run c h = goes-on (length row) c c (same-one row c h) (omega arith)
+  some-run c h = run-extends (length row) c c (same-one row c h) (omega arith)

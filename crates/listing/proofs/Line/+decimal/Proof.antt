@@ -5,7 +5,7 @@ use borrow.Author.Needs.{needs}
 use borrow.Fn.Kinds.{In}
 use borrow.Fn.PlainCycle.{Measures, is, falls, and}
 use Rattle.listing.specs.Text.{decimal}
-use Rattle.listing.proofs.Decimals.{decimal-one, decimal-more, length-more}
+use Rattle.listing.proofs.Decimals.{decimal-one, decimal-more, decimal-length}
 use Rattle.listing.proofs.Additions.{adds-more, room-less, room-after}
 use Rattle.listing.proofs.Line.decimal.Reads as reads
 use Rattle.listing.proofs.Line.decimal.Kinds as kinds
@@ -43,7 +43,7 @@ module _ (t : ℕ) where
   decimal-requires : lts.Need-decimal-requires (claims t) (at t) reads.Post
   decimal-requires c κs =
       let x = c .before .args in
-      (omega (arith, c .before .pre .0), room-less _ (c .before .pre .1) (omega (arith, length-more (x .n) (c .if1 .left))))
+      (omega (arith, c .before .pre .0), room-less _ (c .before .pre .1) (omega (arith, decimal-length (x .n) (c .if1 .left))))
 
   cast-push-2 : lts.Need-cast-push-2 (claims t) (at t) reads.Post
   cast-push-2 c = search needs
@@ -55,7 +55,7 @@ module _ (t : ℕ) where
   push-requires-2 c κs =
       let x = c .before .before .args in
       room-after 1 (decimal (x .n / 10)) (c .before .before .pre .1) (c .decimal .ensures)
-      (omega (arith, length-more (x .n) (c .before .if1 .left)))
+      (omega (arith, decimal-length (x .n) (c .before .if1 .left)))
 
   returns-2 : lts.Need-returns-2 (claims t) (at t) reads.Post
   returns-2 c =

@@ -3,7 +3,7 @@ use native.Mathlib.Omega.{arith}
 use borrow.Author.Needs.{needs}
 use mathlib.Core.List.{[], _∷_}
 use Rattle.listing.specs.Text.{decimal}
-use Rattle.listing.proofs.Decimals.{digits-of}
+use Rattle.listing.proofs.Decimals.{decimal-digits}
 use Rattle.listing.proofs.Additions.{LineBegun, empty-line, has-room, first-field, next-field, line-ended}
 use Rattle.listing.proofs.lines.counted.Statement.{statement}
 use Rattle.listing.proofs.lines.counted.Tie as tie
@@ -17,7 +17,7 @@ with-number : (c : tie.After-field) →
     LineBegun (x .word .now ∷ decimal (x .n) ∷ []) 27 (c .field .result)
 with-number c =
     let x = c .before .before .before .before .args in
-    next-field 27 (decimal (x .n)) (with-word (c .before)) (c .field .ensures) (omega (arith, digits-of 19 (x .n) (search needs)))
+    next-field 27 (decimal (x .n)) (with-word (c .before)) (c .field .ensures) (omega (arith, decimal-digits 19 (x .n) (search needs)))
 
 empty-requires : tie.Need-empty-requires
 empty-requires c κs = search needs
@@ -26,7 +26,7 @@ word-requires : tie.Need-word-requires
 word-requires c κs = has-room _ (empty-line (c .empty .ensures)) (omega arith)
 
 field-requires : tie.Need-field-requires
-field-requires c κs = has-room _ (with-word c) (omega (arith, digits-of 19 (c .before .before .before .args .n) (search needs)))
+field-requires c κs = has-room _ (with-word c) (omega (arith, decimal-digits 19 (c .before .before .before .args .n) (search needs)))
 
 newline-requires : tie.Need-newline-requires
 newline-requires c κs = has-room 1 (with-number c) (omega arith)

@@ -3,7 +3,7 @@ use native.Mathlib.Omega.{arith}
 use borrow.Author.Needs.{needs}
 use mathlib.Core.List.{[], _∷_}
 use Rattle.listing.specs.Text.{text, decimal}
-use Rattle.listing.proofs.Decimals.{digits-of}
+use Rattle.listing.proofs.Decimals.{decimal-digits}
 use Rattle.listing.proofs.Additions.{LineBegun, empty-line, has-room, first-field, next-field, line-ended}
 use Rattle.listing.proofs.lines.pattern.Statement.{statement}
 use Rattle.listing.proofs.lines.pattern.Tie as tie
@@ -17,7 +17,7 @@ with-number : (c : tie.After-field) →
     LineBegun (text "p" ∷ decimal (x .i) ∷ []) 42 (c .field .result)
 with-number c =
     let x = c .before .before .before .before .before .before .args in
-    next-field 42 (decimal (x .i)) (with-word (c .before)) (c .field .ensures) (omega (arith, digits-of 19 (x .i) (search needs)))
+    next-field 42 (decimal (x .i)) (with-word (c .before)) (c .field .ensures) (omega (arith, decimal-digits 19 (x .i) (search needs)))
 
 with-lowest : (c : tie.After-field2) →
     let x = c .before .before .before .before .before .before .before .args in
@@ -25,7 +25,7 @@ with-lowest : (c : tie.After-field2) →
 with-lowest c =
     let x = c .before .before .before .before .before .before .before .args in
     next-field 38 (decimal (x .extent .lowest)) (with-number (c .before)) (c .field2 .ensures)
-    (omega (arith, digits-of 2 (x .extent .lowest) (search needs)))
+    (omega (arith, decimal-digits 2 (x .extent .lowest) (search needs)))
 
 with-count : (c : tie.After-field3) →
     let x = c .before .before .before .before .before .before .before .before .args in
@@ -33,7 +33,7 @@ with-count : (c : tie.After-field3) →
 with-count c =
     let x = c .before .before .before .before .before .before .before .before .args in
     next-field 32 (decimal (x .extent .count)) (with-lowest (c .before)) (c .field3 .ensures)
-    (omega (arith, digits-of 4 (x .extent .count) (search needs)))
+    (omega (arith, decimal-digits 4 (x .extent .count) (search needs)))
 
 cast-lowest : tie.Need-cast-lowest
 cast-lowest c = search needs
@@ -53,17 +53,17 @@ word-requires c κs = search needs
 field-requires : tie.Need-field-requires
 field-requires c κs =
     let x = c .before .before .before .before .before .args in
-    has-room _ (with-word c) (omega (arith, digits-of 19 (x .i) (search needs)))
+    has-room _ (with-word c) (omega (arith, decimal-digits 19 (x .i) (search needs)))
 
 field-requires-2 : tie.Need-field-requires-2
 field-requires-2 c κs =
     let x = c .before .before .before .before .before .before .args in
-    has-room _ (with-number c) (omega (arith, digits-of 2 (x .extent .lowest) (search needs)))
+    has-room _ (with-number c) (omega (arith, decimal-digits 2 (x .extent .lowest) (search needs)))
 
 field-requires-3 : tie.Need-field-requires-3
 field-requires-3 c κs =
     let x = c .before .before .before .before .before .before .before .args in
-    has-room _ (with-lowest c) (omega (arith, digits-of 4 (x .extent .count) (search needs)))
+    has-room _ (with-lowest c) (omega (arith, decimal-digits 4 (x .extent .count) (search needs)))
 
 newline-requires : tie.Need-newline-requires
 newline-requires c κs = has-room 1 (with-count c) (omega arith)

@@ -3,7 +3,7 @@ use native.Mathlib.Omega.{arith}
 use borrow.Author.Needs.{needs}
 use mathlib.Core.List.{[], _∷_}
 use Rattle.listing.specs.Text.{text, decimal}
-use Rattle.listing.proofs.Decimals.{digits-of}
+use Rattle.listing.proofs.Decimals.{decimal-digits}
 use Rattle.listing.proofs.Additions.{LineBegun, empty-line, has-room, first-field, next-field, line-ended}
 use Rattle.listing.proofs.lines.refusal.Statement.{statement}
 use Rattle.listing.proofs.lines.refusal.Tie as tie
@@ -18,7 +18,7 @@ with-number : (c : tie.After-field) →
 with-number c =
     let x = c .before .before .before .before .args in
     next-field 53 (decimal (x .number)) (with-refused (c .before)) (c .field .ensures)
-    (omega (arith, digits-of 2 (x .number) (search needs)))
+    (omega (arith, decimal-digits 2 (x .number) (search needs)))
 
 with-at : (c : tie.After-word2) →
     let x = c .before .before .before .before .before .before .args in
@@ -30,7 +30,7 @@ with-place : (c : tie.After-field2) →
     LineBegun (text "refused" ∷ decimal (x .number) ∷ text "at" ∷ decimal (x .place) ∷ []) 29 (c .field2 .result)
 with-place c =
     let x = c .before .before .before .before .before .before .before .args in
-    next-field 29 (decimal (x .place)) (with-at (c .before)) (c .field2 .ensures) (omega (arith, digits-of 19 (x .place) (search needs)))
+    next-field 29 (decimal (x .place)) (with-at (c .before)) (c .field2 .ensures) (omega (arith, decimal-digits 19 (x .place) (search needs)))
 
 empty-requires : tie.Need-empty-requires
 empty-requires c κs = search needs
@@ -42,7 +42,7 @@ word-requires : tie.Need-word-requires
 word-requires c κs = search needs
 
 field-requires : tie.Need-field-requires
-field-requires c κs = has-room _ (with-refused c) (omega (arith, digits-of 2 (c .before .before .before .args .number) (search needs)))
+field-requires c κs = has-room _ (with-refused c) (omega (arith, decimal-digits 2 (c .before .before .before .args .number) (search needs)))
 
 slice-aggregate-word-2 : tie.Need-slice-aggregate-word-2
 slice-aggregate-word-2 c = search needs
@@ -52,7 +52,7 @@ word-requires-2 c κs = has-room 3 (with-number (c .before)) (omega arith)
 
 field-requires-2 : tie.Need-field-requires-2
 field-requires-2 c κs =
-    has-room _ (with-at c) (omega (arith, digits-of 19 (c .before .before .before .before .before .before .args .place) (search needs)))
+    has-room _ (with-at c) (omega (arith, decimal-digits 19 (c .before .before .before .before .before .before .args .place) (search needs)))
 
 newline-requires : tie.Need-newline-requires
 newline-requires c κs = has-room 1 (with-place c) (omega arith)

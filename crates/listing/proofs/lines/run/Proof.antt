@@ -5,7 +5,7 @@ use mathlib.Core.List.{[], _∷_}
 use Rattle.synthesis.specs.Monitor.{meaning}
 use Rattle.listing.specs.Text.{decimal}
 use Rattle.listing.specs.Lines.{answerText}
-use Rattle.listing.proofs.Decimals.{digits-of, answer-digits}
+use Rattle.listing.proofs.Decimals.{decimal-digits, answer-digits}
 use Rattle.listing.proofs.Additions.{LineBegun, empty-line, has-room, first-field, next-field, line-ended}
 use Rattle.listing.proofs.lines.run.Statement.{statement}
 use Rattle.listing.proofs.lines.run.Tie as tie
@@ -14,7 +14,7 @@ use Rattle.listing.proofs.lines.run.Tie as tie
 with-equation : (c : tie.After-decimal) → LineBegun (decimal (c .before .before .args .k) ∷ []) 44 (c .decimal .result)
 with-equation c =
     first-field 44 _ (empty-line (c .before .empty .ensures)) (c .decimal .ensures)
-    (omega (arith, digits-of 19 (c .before .before .args .k) (search needs)))
+    (omega (arith, decimal-digits 19 (c .before .before .args .k) (search needs)))
 
 with-first : (c : tie.After-field) →
     let x = c .before .before .before .args in
@@ -22,7 +22,7 @@ with-first : (c : tie.After-field) →
 with-first c =
     let x = c .before .before .before .args in
     next-field 40 (decimal (x .first)) (with-equation (c .before)) (c .field .ensures)
-    (omega (arith, digits-of 2 (x .first) (search needs)))
+    (omega (arith, decimal-digits 2 (x .first) (search needs)))
 
 with-last : (c : tie.After-field2) →
     let x = c .before .before .before .before .args in
@@ -30,7 +30,7 @@ with-last : (c : tie.After-field2) →
 with-last c =
     let x = c .before .before .before .before .args in
     next-field 36 (decimal (x .last)) (with-first (c .before)) (c .field2 .ensures)
-    (omega (arith, digits-of 2 (x .last) (search needs)))
+    (omega (arith, decimal-digits 2 (x .last) (search needs)))
 
 with-entry : (c : tie.After-entry) →
     let x = c .before .before .before .before .before .args in
@@ -44,13 +44,13 @@ empty-requires : tie.Need-empty-requires
 empty-requires c κs = search needs
 
 decimal-requires : tie.Need-decimal-requires
-decimal-requires c κs = has-room _ (empty-line (c .empty .ensures)) (omega (arith, digits-of 19 (c .before .args .k) (search needs)))
+decimal-requires c κs = has-room _ (empty-line (c .empty .ensures)) (omega (arith, decimal-digits 19 (c .before .args .k) (search needs)))
 
 field-requires : tie.Need-field-requires
-field-requires c κs = has-room _ (with-equation c) (omega (arith, digits-of 2 (c .before .before .args .first) (search needs)))
+field-requires c κs = has-room _ (with-equation c) (omega (arith, decimal-digits 2 (c .before .before .args .first) (search needs)))
 
 field-requires-2 : tie.Need-field-requires-2
-field-requires-2 c κs = has-room _ (with-first c) (omega (arith, digits-of 2 (c .before .before .before .args .last) (search needs)))
+field-requires-2 c κs = has-room _ (with-first c) (omega (arith, decimal-digits 2 (c .before .before .before .args .last) (search needs)))
 
 entry-requires : tie.Need-entry-requires
 entry-requires c κs = has-room 5 (with-last c) (omega arith)
