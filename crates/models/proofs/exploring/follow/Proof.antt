@@ -7,10 +7,10 @@ use lib.ListN.{getD}
 use borrow.Author.Needs.{needs}
 use Rattle.models.specs.Phone.{noStep}
 use Rattle.models.specs.Exploring.{leadsTo, linksOf}
-use Rattle.models.specs.Searching.{remaining, rowAt, Searching}
+use Rattle.models.specs.Searching.{searchMeasure, rowAt, Searching}
 use Rattle.models.specs.declared.Step.{Step}
 use Rattle.models.specs.declared.exploring.Cursor.{Cursor}
-use Rattle.models.proofs.Pairs.FoundPairs.{found-few}
+use Rattle.models.proofs.Pairs.FoundPairs.{found-at-most}
 use Rattle.models.proofs.Pairs.Searches.{index-inside, index-before, worklist, row-inside, label-inside, target-inside, next-inside}
 use Rattle.models.proofs.Pairs.Searches.{followed-dropped, followed-on, followed-next}
 use Rattle.models.proofs.exploring.follow.Statement.{statement}
@@ -53,7 +53,7 @@ returns c =
     let x = first (t .before) in
     let e = sym (c .stopped .ensures) in (
       λ steps s is. subst (Searching steps _ _ _ _) e (followed-dropped s (x .pre .2) is (leads (t .before)) (t .if1 .taken)),
-      subst (λ (r : Cursor). remaining r < remaining (x .args .at)) e (omega (arith, x .pre .2)),
+      subst (λ (r : Cursor). searchMeasure r < searchMeasure (x .args .at)) e (omega (arith, x .pre .2)),
     )
 
 mul-enqueue : tie.Need-mul-enqueue
@@ -105,11 +105,11 @@ next-pair-requires : tie.Need-next-pair-requires
 next-pair-requires c κs =
     let n = c .before .before .before .before .before .before .before .before in
     let p = begun n .pre in
-    let g = n .enqueue .ensures .grown in (
+    let g = n .enqueue .ensures .extended in (
       p .1 .searchable .links-range .last-length,
       g .worklist .pairs-length,
-      omega (arith, index-before (p .1) (p .2), g .more),
-      found-few _ _ _ (g .worklist),
+      omega (arith, index-before (p .1) (p .2), g .grows),
+      found-at-most _ _ _ (g .worklist),
     )
 
 same-length-3 : tie.Need-same-length-3

@@ -1,7 +1,7 @@
 -- `exploring::never_drops` meets its contract.
 use native.Mathlib.Omega.{arith}
 use borrow.Author.Needs.{needs}
-use Rattle.models.proofs.Pairs.FoundPairs.{found-few, worklist-none}
+use Rattle.models.proofs.Pairs.FoundPairs.{found-at-most, worklist-none}
 use Rattle.models.proofs.Pairs.Searches.{searching-first, stored-searched}
 use Rattle.models.proofs.exploring.never_drops.Statement.{statement}
 use Rattle.models.proofs.exploring.never_drops.Tie as tie
@@ -37,8 +37,8 @@ slice-aggregate-next-pair-2 c = search needs
 next-pair-requires : tie.Need-next-pair-requires
 next-pair-requires c κs =
     let n = c .before .before .before .before in
-    let w = n .enqueue .ensures .grown .worklist in
-    (linked n .of-model .ensures .1 .last-length, w .pairs-length, omega arith, found-few _ _ _ w)
+    let w = n .enqueue .ensures .extended .worklist in
+    (linked n .of-model .ensures .1 .last-length, w .pairs-length, omega arith, found-at-most _ _ _ w)
 
 slice-aggregate-search-array : tie.Need-slice-aggregate-search-array
 slice-aggregate-search-array c = search needs

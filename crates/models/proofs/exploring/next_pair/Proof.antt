@@ -1,4 +1,4 @@
--- `exploring::next_pair` meets its contract. The pairs passed have no step; the measure is how many are left.
+-- `exploring::next_pair` meets its contract. The invariant is that the pairs passed have no step; the measure is how many are left.
 use Prim.Native.Nat.{ℕ, _+_, _-_, _%_, _≤_, _<_}
 use mathlib.Core.Path.{_≡_, refl}
 use native.Mathlib.Decide.{decLt}
@@ -9,11 +9,11 @@ use Rattle.models.proofs.exploring.next_pair.Statement.{statement}
 use Rattle.models.proofs.exploring.next_pair.Tie as tie
 
 abbrev Inv-loop : tie.InvT-loop
-Inv-loop last pairs index found turn₀ index' =
+Inv-loop last pairs index found index₀ index' =
     (index ≤ index') × (index' ≤ found) × ((k : ℕ) → index ≤ k → k < index' → getD last (getD pairs k 0 % 64) 0 ≡ 0)
 
 abbrev μ-loop : tie.MeasureT-loop
-μ-loop last pairs index found turn₀ index' = found - index'
+μ-loop last pairs index found index₀ index' = found - index'
 
 loop-holds : tie.Need-loop-holds Inv-loop μ-loop
 loop-holds c = (omega arith, search needs, λ k h b. absurd (omega arith))
@@ -48,7 +48,7 @@ returns c =
       same-found = refl;
       none-dropped = refl;
       not-before = l .loop .inv .0;
-      passed = l .loop .inv .2;
+      skipped = l .loop .inv .2;
       begins = λ h. (c .before .before .before .loop-test .taken, refl, refl);
       ends = λ z. absurd (omega (arith, c .if1 .taken));
     }
@@ -78,7 +78,7 @@ returns-2 c =
       same-found = refl;
       none-dropped = refl;
       not-before = l .loop .inv .0;
-      passed = l .loop .inv .2;
+      skipped = l .loop .inv .2;
       begins = λ h. absurd (omega arith);
       ends = λ z. omega (arith, l .loop .inv .1, c .loop-test .left);
     }

@@ -32,7 +32,7 @@ use denote.Triple.Spec.{tripleOf}
 use denote.Triple.Statement.{Contract}
 use denote.Triple.Walked.{says}
 use Rattle.models.specs.Phone.{noStep}
-use Rattle.models.specs.Searching.{Searching, remaining}
+use Rattle.models.specs.Searching.{Searching, searchMeasure}
 use Rattle.models.specs.declared.Step.{Step}
 use Rattle.models.specs.declared.exploring.Cursor.{Cursor}
 use Rattle.models.proofs.Compiled.Loop.{Less}
@@ -238,7 +238,7 @@ module _ {M : Type 1} (𝓤 : URA M) (H : Heap 𝓤) (A : Atoms 𝓤) (W : Given
 
     abbrev Ensured : Loans → Cursor → Item 𝓤
     Ensured n c = some (λ (ends : Ends n). ‵ (lasts follow.ended (to-follow s u n .0 .0) (to-follow s u n .0 .3) ends)
-        ⊛ raw (fact 𝓤 (Kept c (ends .1 .1 .1 .1 .1 .0) (ends .1 .1 .1 .1 .1 .1 .0))) ⊛ raw (fact 𝓤 (remaining c < remaining (t .at))))
+        ⊛ raw (fact 𝓤 (Kept c (ends .1 .1 .1 .1 .1 .0) (ends .1 .1 .1 .1 .1 .1 .0))) ⊛ raw (fact 𝓤 (searchMeasure c < searchMeasure (t .at))))
 
     pub backs : Room u8 (length (seen (a .1 .1) .now)) → Room u16 (length (pairs (a .1 .1) .now)) → (n : Loans) (w : Val)
         → ent 𝓤 (⋆ 𝓤 H A (raw (Follow 𝓤 H A mem run .post (to-follow s u n) w) ∷ Left n))
@@ -247,7 +247,7 @@ module _ {M : Type 1} (𝓤 : URA M) (H : Heap 𝓤) (A : Atoms 𝓤) (W : Given
         qed W (later (some (λ (c : Cursor).
         (Tokens (lifetimes n) tokens ⊛ ‵ (struct.row-of the-cursor .own c (w ∷ []))) ⊛ Ensured n c)) ∷ Left n) ∵
         updating ! $ await ! tt $ pick ! (λ c. split ! $ move ! (1 ∷ []) $ pick ! (λ ends. split ! $ move ! (1 ∷ []) $ split ! $
-        heard ! (Kept c (ends .1 .1 .1 .1 .1 .0) (ends .1 .1 .1 .1 .1 .1 .0)) (λ kept. heard ! (remaining c < remaining (t .at)) (λ less.
+        heard ! (Kept c (ends .1 .1 .1 .1 .1 .0) (ends .1 .1 .1 .1 .1 .1 .0)) (λ kept. heard ! (searchMeasure c < searchMeasure (t .at)) (λ less.
         -- of the last values, those of both slices
         fsplit ! $ drop ! $ fsplit ! $ drop ! $ fsplit ! $ drop ! $ fsplit ! $ drop ! $ fsplit ! $ drop ! $ fsplit ! $ fsplit ! $ move ! (2 ∷ []) $
         fsplit ! $ fsplit ! $

@@ -26,7 +26,7 @@ use denote.Signature.{plain}
 use denote.Steps.{nothing, owned}
 use denote.Triple.Entry.{Args, Vals, onEntry}
 use denote.Triple.Walked.{says, Stays, stay-slice, walkOf, ends-at}
-use Rattle.models.specs.Searching.{Searching, remaining}
+use Rattle.models.specs.Searching.{Searching, searchMeasure}
 use Rattle.models.specs.declared.Step.{Step}
 use Rattle.models.specs.declared.exploring.Cursor.{Cursor}
 use Rattle.models.proofs.Compiled.Slices.{slice-at}
@@ -61,7 +61,7 @@ module _ (κs : Lfts 6) (a : Args search.signature κs) where
 
   -- how much may still be followed
   abbrev pub left : State → ℕ
-  left t = remaining (t .at)
+  left t = searchMeasure (t .at)
 
   -- both lists are as long as they were
   module _ (begun : AtStart (a .1 .1) (steps .now) from) (t : State) where
