@@ -1,4 +1,5 @@
--- A state satisfies a formula exactly when no trace of a walk from it violates the formula.
+-- A state satisfies a formula exactly when no trace of a walk from it violates the formula. One way is by induction on the violation. For the other,
+-- the set of a max has the states from which no trace violates its body.
 use Prim.Native.Nat.{ℕ, zero, suc}
 use mathlib.Core.Path.{_≡_, refl}
 use mathlib.Core.Bool.{Bool}
@@ -30,14 +31,14 @@ module _ (m : Model) (covered : ℕ → ℕ → Bool) where
     fits : PostFixed (f ∷ outer) sets
     satisfied : StateSatisfies m covered sets f s
 
-  bound : {bodies outer : List Formula} {Xs : List Set} {f : Formula} (d : ℕ) (s : m .State) → PostFixed bodies Xs → drop d bodies ≡ f ∷ outer
+  bound-satisfies : {bodies outer : List Formula} {Xs : List Set} {f : Formula} (d : ℕ) (s : m .State) → PostFixed bodies Xs → drop d bodies ≡ f ∷ outer
       → InVariable Xs d s → Bound f outer s
-  bound d s no-max q h = absurd (let e = drop-nil {A = Formula} d in let z : _≡_ {A = ℕ} 0 1 = cc in omega arith)
-  bound {bodies} {outer} {Xs} {f} zero s (one-max {f = g} {bodies = around} body fits) q h =
+  bound-satisfies d s no-max q h = absurd (let e = drop-nil {A = Formula} d in let z : _≡_ {A = ℕ} 0 1 = cc in omega arith)
+  bound-satisfies {bodies} {outer} {Xs} {f} zero s (one-max {f = g} {bodies = around} body fits) q h =
       let same : g ≡ f = cc in
       let outside : around ≡ outer = cc in
       record { sets = Xs; fits = rw (← same, ← outside) (one-max body fits); satisfied = rw (← same) (body s h) }
-  bound (suc d) s (one-max body fits) q h = bound d s fits q h
+  bound-satisfies (suc d) s (one-max body fits) q h = bound-satisfies d s fits q h
 
   satisfies-never : {bodies : List Formula} {Xs : List Set} {f : Formula} {w : List ℕ} {s t : m .State} → Violates covered bodies f w
       → PostFixed bodies Xs → StateSatisfies m covered Xs f s → Walk m s w t → ⊥
@@ -47,7 +48,7 @@ module _ (m : Model) (covered : ℕ → ℕ → Bool) where
   satisfies-never (by-code {c = c} p v) fits sat k = let (t, x, j) = weak-first m k in satisfies-never v fits (sat c t p x) j
   satisfies-never {s = s} (by-body v) fits sat k = satisfies-never v (one-max (sat .1) fits) (sat .1 s (sat .2)) k
   satisfies-never {s = s} (by-variable {d = d} q v) fits sat k =
-      let b = bound d s fits q (sat .lower) in
+      let b = bound-satisfies d s fits q (sat .lower) in
       satisfies-never v (b .fits) (b .satisfied) k
 
   -- ---- what is never violated is satisfied
@@ -64,15 +65,15 @@ module _ (m : Model) (covered : ℕ → ℕ → Bool) where
   abbrev Satisfied : (bodies : List Formula) → Formula → m .State → Type 1
   Satisfied bodies = StateSatisfies m covered (greatestSets bodies)
 
-  outward : {bodies : List Formula} {f : Formula} {d : ℕ} {w : List ℕ} → Violates covered bodies (variable d) w
+  violates-outer : {bodies : List Formula} {f : Formula} {d : ℕ} {w : List ℕ} → Violates covered bodies (variable d) w
       → Violates covered (f ∷ bodies) (variable (suc d)) w
-  outward (by-variable q v) = by-variable q v
+  violates-outer (by-variable q v) = by-variable q v
 
-  in-greatest : (bodies : List Formula) (d : ℕ) (s : m .State) → Never bodies (variable d) s
+  in-greatest-set : (bodies : List Formula) (d : ℕ) (s : m .State) → Never bodies (variable d) s
       → InVariable (greatestSets bodies) d s
-  in-greatest [] d s never = tt
-  in-greatest (f ∷ bodies) zero s never = λ w t k v. never w t k (by-variable refl v)
-  in-greatest (f ∷ bodies) (suc d) s never = in-greatest bodies d s (λ w t k v. never w t k (outward v))
+  in-greatest-set [] d s never = tt
+  in-greatest-set (f ∷ bodies) zero s never = λ w t k v. never w t k (by-variable refl v)
+  in-greatest-set (f ∷ bodies) (suc d) s never = in-greatest-set bodies d s (λ w t k v. never w t k (violates-outer v))
 
   never-satisfies : (bodies : List Formula) (f : Formula) (s : m .State) → Never bodies f s → Satisfied bodies f s
   never-satisfies bodies truth s never = tt
@@ -85,7 +86,7 @@ module _ (m : Model) (covered : ℕ → ℕ → Bool) where
       λ c t q x. never-satisfies bodies f t (λ w u k v. never (c ∷ w) u (walk-append m (weak-walk m x) k) (by-code q v))
   never-satisfies bodies (max f) s never =
       (Never (f ∷ bodies) f, never-satisfies (f ∷ bodies) f, λ w t k v. never w t k (by-body v))
-  never-satisfies bodies (variable d) s never = record { lower = in-greatest bodies d s never }
+  never-satisfies bodies (variable d) s never = record { lower = in-greatest-set bodies d s never }
 
 -- ---- the promise
 

@@ -13,7 +13,8 @@ use Rattle.models.specs.declared.Step.{Step}
 use Rattle.models.specs.declared.links.Links.{Links}
 use Rattle.models.specs.declared.exploring.Cursor.{Cursor}
 
--- The measure of the search, a bound on the steps that may still be followed: those left of the pair whose turn it is, and 512 for it and each that may come after it.
+-- The measure of the search, a bound on the steps that may still be followed: those left of the pair that is being expanded, and 512 for it and
+-- each that may come after it.
 abbrev pub searchMeasure : Cursor → ℕ
 searchMeasure at = 512 * (8192 - at .index) + at .step
 
@@ -52,7 +53,7 @@ module _ (steps : List Step) (l : Links) (table : List ℕ) where
     pub seen-reachable : (y : Phone) → OfPhone steps l y → (p : ℕ) → Seen seen p → ReachablePairNumber table y p
     pub expanded : (k : ℕ) → k < n → Expanded seen (getD pairs k 0)
 
-  -- The pair whose turn it is has been expanded up to a step. The lists and the count with a ₀ are those at the beginning of its turn.
+  -- A pair is being expanded, and has been up to a step. The lists and the count with a ₀ are those before it was begun.
   pub record Expanding (seen pairs : List ℕ) (at : Cursor) : Type 0 where
     pub seen₀ : List ℕ
     pub pairs₀ : List ℕ

@@ -6,7 +6,8 @@ use mathlib.Core.Logic.{_⊎_, inl, inr}
 use mathlib.Core.List.{List}
 use lib.ListN.{getD}
 use Rattle.models.specs.Phone.{noStep}
-use Rattle.models.specs.Exploring.{OnChain, chain-first, chain-later, Worklist, Enqueued, Outgoing, equationAfter, pairAfter, Successor, Followed, PartlyExpanded}
+use Rattle.models.specs.Exploring.{OnChain, chain-first, chain-later, Worklist, Enqueued}
+use Rattle.models.specs.Exploring.{Outgoing, equationAfter, pairAfter, Successor, Followed, PartlyExpanded}
 use Rattle.models.specs.declared.Step.{Step}
 use Rattle.models.specs.declared.links.Links.{Links}
 use Rattle.models.proofs.Pairs.Chains.{chain-cases}

@@ -19,7 +19,8 @@ use Rattle.models.specs.Searching.{OfPhone, rowAt, ReachablePairNumber, 
 use Rattle.models.specs.declared.Step.{Step}
 use Rattle.models.specs.declared.links.Links.{Links}
 use Rattle.models.proofs.Pairs.Chains.{chain-empty, chain-step, step-on-chain}
-use Rattle.models.proofs.Pairs.Leading.{leads-inside, row-in-range, stepsTo, steps-silent, steps-kept, steps-dropped, reachable-step, dropped-step-refutes}
+use Rattle.models.proofs.Pairs.Leading.{leads-inside, row-in-range, stepsTo}
+use Rattle.models.proofs.Pairs.Leading.{steps-silent, steps-kept, steps-dropped, reachable-step, dropped-step-refutes}
 
 module _ (steps : List Step) (l : Links) (table : List ℕ) (steps-range : (i : ℕ) → WellFormedStep 64 (getD steps i noStep)) where
   -- an outgoing step of a pair is one of the phone model

@@ -1,4 +1,4 @@
--- Where a step leads beside an equation, by its label and the equation's row.
+-- Where a step leads beside an equation, by its label and the equation's row: by cases on whether the label is 256 and the entry 255.
 use Prim.Native.Nat.{ℕ, _+_, _*_, _≤_, _<_}
 use mathlib.Core.Path.{_≡_, refl, _∙_}
 use mathlib.Core.Logic.{_⊎_, inl, inr}
@@ -95,7 +95,7 @@ module _ (table : List ℕ) where
     pub steps-dropped : (c : ℕ) → labelOf label ≡ code c → lookup 256 255 table e c ≡ dropped → stepsTo e label ≡ 255
     steps-dropped c h q = steps-code c h ∙ meaning-dropped 255 (getD (rowOf 256 table e) c 255) q
 
-  -- ---- from pairs that are reached
+  -- ---- from reachable pairs
 
   module _ (m : Model) (s t : m .State) (e label : ℕ) (reached : ReachablePair (lookup 256 255 table) 0 m s e)
       (step : m .Step s (labelOf label) t) where

@@ -1,4 +1,5 @@
--- A model never reaches what a monitor of a rule drops, exactly when no trace of the model violates the rule.
+-- A model never reaches what a monitor of a rule drops, exactly when no trace of the model violates the rule: both say that every walk from
+-- the start passes the monitor whole.
 use Prim.Native.Nat.{ℕ}
 use mathlib.Core.Logic.{_↔_}
 use mathlib.Core.List.{List}

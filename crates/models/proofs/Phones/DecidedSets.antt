@@ -13,7 +13,7 @@ use Rattle.models.specs.Phone.{Phone, modelOf}
 use Rattle.models.specs.Promises.{DecidedSatisfies}
 use Rattle.models.proofs.Phones.GreatestSets.{Within, greatest}
 use Rattle.models.proofs.Phones.PhoneStates.{statesIn, Listed, start-listed, weak-listed}
-use Rattle.models.proofs.Phones.Necessities.{necessary, necessary-leads, necessary-of}
+use Rattle.models.proofs.Phones.Necessities.{necessary, necessary-sound, necessary-complete}
 
 -- ---- the decided set of the states that satisfy a formula
 
@@ -29,10 +29,10 @@ module _ (y : Phone) (covered : (pattern code : ℕ) → Bool) where
     complete : (Ps : List (ℕ → Type 0)) → Around Ps Xs
         → (s : ℕ) → Listed y s → StateSatisfies (modelOf y) covered Ps f s → set s ≡ true
 
-  around-more : (Ps : List (ℕ → Type 0)) (Xs : List (ℕ → Bool)) → Around Ps Xs
+  around-max : (Ps : List (ℕ → Type 0)) (Xs : List (ℕ → Bool)) → Around Ps Xs
       → (P : ℕ → Type 0) (X : ℕ → Bool) → Within (λ s. Listed y s × P s) X → Around (P ∷ Ps) (X ∷ Xs)
-  around-more Ps Xs around P X within zero s l h = within s (l, h)
-  around-more Ps Xs around P X within (suc d) s l h = around d s l h
+  around-max Ps Xs around P X within zero s l h = within s (l, h)
+  around-max Ps Xs around P X within (suc d) s l h = around d s l h
 
   -- a variable that no max binds is satisfied
   abbrev inVariable : List (ℕ → Bool) → ℕ → ℕ → Bool
@@ -40,10 +40,12 @@ module _ (y : Phone) (covered : (pattern code : ℕ) → Bool) where
   inVariable (X ∷ Xs) zero s = X s
   inVariable (X ∷ Xs) (suc d) s = inVariable Xs d s
 
-  in-variable : (Xs : List (ℕ → Bool)) (d s : ℕ) → (inVariable Xs d s ≡ true) ↔ InVariable (map members Xs) d s
-  in-variable [] d s = (λ e. tt, λ h. refl)
-  in-variable (X ∷ Xs) zero s = (λ e. e, λ h. h)
-  in-variable (X ∷ Xs) (suc d) s = in-variable Xs d s
+  in-variable-is : (Xs : List (ℕ → Bool)) (d s : ℕ) → (inVariable Xs d s ≡ true) ↔ InVariable (map members Xs) d s
+  in-variable-is [] d s = (λ e. tt, λ h. refl)
+  in-variable-is (X ∷ Xs) zero s = (λ e. e, λ h. h)
+  in-variable-is (X ∷ Xs) (suc d) s = in-variable-is Xs d s
+
+  -- ---- by the formula's structure
 
   decision : (f : Formula) (Xs : List (ℕ → Bool)) → Decision Xs f
   decision truth Xs = record { set = λ s. true; satisfied = λ s e. tt; complete = λ Ps around s l h. refl }
@@ -65,9 +67,9 @@ module _ (y : Phone) (covered : (pattern code : ℕ) → Bool) where
       let a = decision f Xs in
       record {
         set = necessary y (covered p) (a .set);
-        satisfied = λ s e c t i w. a .satisfied t (necessary-leads y (covered p) (a .set) s e c t i w);
+        satisfied = λ s e c t i w. a .satisfied t (necessary-sound y (covered p) (a .set) s e c t i w);
         complete = λ Ps around s l h.
-            necessary-of y (covered p) (a .set) s l (λ c t i w. a .complete Ps around t (weak-listed y w) (h c t i w));
+            necessary-complete y (covered p) (a .set) s l (λ c t i w. a .complete Ps around t (weak-listed y w) (h c t i w));
       }
   decision (max f) Xs =
       let g = greatest (λ Y. decision f (Y ∷ Xs) .set) (statesIn y) in
@@ -76,14 +78,16 @@ module _ (y : Phone) (covered : (pattern code : ℕ) → Bool) where
         satisfied = λ s e. (g .set, (λ t i. decision f (g .set ∷ Xs) .satisfied t (g .passes t i)), e);
         complete = λ Ps around s l h.
             g .contains (λ v. Listed y v × h .0 v)
-            (λ Y within v i. decision f (Y ∷ Xs) .complete (h .0 ∷ Ps) (around-more Ps Xs around (h .0) Y within) v (i .0) (h .1 v (i .1)))
+            (λ Y within v i. decision f (Y ∷ Xs) .complete (h .0 ∷ Ps) (around-max Ps Xs around (h .0) Y within) v (i .0) (h .1 v (i .1)))
             (λ v i. lt-ltb _ _ (i .0)) s (l, h .2);
       }
   decision (variable d) Xs = record {
     set = inVariable Xs d;
-    satisfied = λ s. in-variable Xs d s .0;
-    complete = λ Ps around s l h. in-variable Xs d s .1 (around d s l (h .lower));
+    satisfied = λ s. in-variable-is Xs d s .0;
+    complete = λ Ps around s l h. in-variable-is Xs d s .1 (around d s l (h .lower));
   }
+
+-- ---- the promise
 
 pub decided-satisfies : DecidedSatisfies
 decided-satisfies y r = (

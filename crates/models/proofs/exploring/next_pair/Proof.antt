@@ -8,6 +8,8 @@ use borrow.Author.Needs.{needs}
 use Rattle.models.proofs.exploring.next_pair.Statement.{statement}
 use Rattle.models.proofs.exploring.next_pair.Tie as tie
 
+-- ---- the loop
+
 abbrev Inv-loop : tie.InvT-loop
 Inv-loop last pairs index found index₀ index' =
     (index ≤ index') × (index' ≤ found) × ((k : ℕ) → index ≤ k → k < index' → getD last (getD pairs k 0 % 64) 0 ≡ 0)
@@ -41,6 +43,8 @@ cast-step c =
           (c .before .before .before .loop .index) 0 % 64),
     )
 
+-- ---- a pair with a step, or the next
+
 returns : tie.Need-returns Inv-loop μ-loop
 returns c =
     let l = c .before .before .before .before in
@@ -70,6 +74,8 @@ loop-again c =
     on k h b (no a) =
         let e : k ≡ c .before .before .before .before .loop .index = omega arith in
         rw e (omega (arith, c .if1 .left))
+
+-- ---- no pair is left
 
 returns-2 : tie.Need-returns-2 Inv-loop μ-loop
 returns-2 c =

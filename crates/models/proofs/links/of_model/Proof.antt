@@ -9,6 +9,8 @@ use Rattle.models.proofs.Pairs.LinkLaws.{stored-step, stored-few, Chain
 use Rattle.models.proofs.links.of_model.Statement.{statement}
 use Rattle.models.proofs.links.of_model.Tie as tie
 
+-- ---- the loop
+
 abbrev Inv-loop : tie.InvT-loop
 Inv-loop steps n last₀ earlier₀ i₀ last earlier i = (i ≤ n) × (n ≤ 512) × ChainsSoFar steps i (linksOf last earlier)
 
@@ -22,6 +24,8 @@ step-taken c = let l = c .before .before .before in stored-step (l .before .befo
 
 loop-holds : tie.Need-loop-holds Inv-loop μ-loop
 loop-holds c = (omega arith, stored-few (c .before .pre), chains-none (c .before .args .model .steps))
+
+-- ---- an iteration
 
 mul-step : tie.Need-mul-step Inv-loop μ-loop
 mul-step c = search needs
@@ -64,6 +68,8 @@ loop-less c = search needs
 
 loop-again : tie.Need-loop-again Inv-loop μ-loop
 loop-again c = let l = c .before .before .before in (search needs, search needs, chains-next (l .loop .inv .2) (step-taken c) (search needs))
+
+-- ---- the return
 
 returns : tie.Need-returns Inv-loop μ-loop
 returns c =
