@@ -1,4 +1,4 @@
--- Bisimilar models have the same traces, and so satisfy the same rules.
+-- Bisimilar models have the same traces, and so satisfy the same rules: a walk of one is followed in the other, step by step.
 use Prim.Native.Nat.{ℕ}
 use mathlib.Core.List.{List}
 use Rattle.reading.specs.Rule.{Rule}
@@ -19,8 +19,8 @@ module _ (m n : Model) where
       let (t′, l) = bisimilar-walk u b y k in
       (t′, code-first j l)
 
-  bisimilar-turned : Bisimilar m n → Bisimilar n m
-  bisimilar-turned (R, b, x) =
+  bisimilar-sym : Bisimilar m n → Bisimilar n m
+  bisimilar-sym (R, b, x) =
       (λ t s. R s t, record { forth = λ t t′ s a. b .back s t t′ a; back = λ t s s′ a. b .forth s s′ t a }, x)
 
   bisimilar-satisfies : Bisimilar m n → (r : Rule) → Satisfies n r → Satisfies m r
@@ -28,4 +28,4 @@ module _ (m n : Model) where
       satisfies-safe m r .1 (λ w s k v. let (t, j) = bisimilar-walk (n .start) b x k in satisfies-safe n r .0 sat w t j v)
 
 pub bisimilar-alike : BisimilarAlike
-bisimilar-alike m n b r = (bisimilar-satisfies n m (bisimilar-turned m n b) r, bisimilar-satisfies m n b r)
+bisimilar-alike m n b r = (bisimilar-satisfies n m (bisimilar-sym m n b) r, bisimilar-satisfies m n b r)

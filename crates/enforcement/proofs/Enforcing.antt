@@ -1,4 +1,6 @@
--- Any monitor of a rule enforces it on any model whose codes are bytes, by any response that passes exactly what the monitor keeps.
+-- Any monitor of a rule enforces it on any model whose codes are bytes, by any response that passes exactly what the monitor keeps. Behind the
+-- monitor no trace violates the rule, for nothing of it is dropped; and where every walk passes whole, a state is bisimilar to itself beside
+-- any equation from which they do.
 use Prim.Native.Nat.{ℕ}
 use mathlib.Core.Path.{_≡_, refl}
 use mathlib.Core.List.{List, _∷_}
@@ -10,7 +12,7 @@ use Rattle.enforcement.specs.Promises.{MonitorsEnforce, SoundSatisfies}
 use Rattle.enforcement.proofs.Walks.{walk-bytes}
 use Rattle.enforcement.proofs.SatisfactionLaws.{satisfies-safe}
 use Rattle.enforcement.proofs.Responses.{suppressed-dropped}
-use Rattle.enforcement.proofs.Suppressing.{back}
+use Rattle.enforcement.proofs.Suppressing.{walk-came-from}
 use Rattle.enforcement.proofs.Passing.{Passes, passes-silent, passes-code, passes-drop, safe-passes}
 
 module _ {E : Type 0} (answer : E → ℕ → Answer E) (respond : E → ℕ → Response E) (same : PassesKept respond answer) where
@@ -21,7 +23,7 @@ module _ {E : Type 0} (answer : E → ℕ → Answer E) (respond : E → ℕ →
     -- ---- behind the monitor nothing is dropped
 
     behind-suppresses : {x y : behind .State} {w : List ℕ} → Walk behind x w y → Suppresses answer (x .1) w → ⊥
-    behind-suppresses {x} k l = let o = back answer respond same first m k in kept-suppresses answer (x .1) (o .trace) (rw (← o .kept-is) at l)
+    behind-suppresses {x} k l = let o = walk-came-from answer respond same first m k in kept-suppresses answer (x .1) (o .trace) (rw (← o .kept-is) at l)
 
     behind-codes : ByteCodes m → ByteCodes behind
     behind-codes codes x y c (passed-step {s} {t} h q) = codes s t c h
@@ -61,8 +63,10 @@ module _ {E : Type 0} (answer : E → ℕ → Answer E) (respond : E → ℕ →
     beside-back s x x′ a (beside passes) (suppressed-step {c = c} {e} h q) =
         absurd (passes-drop answer m h (suppressed-dropped respond answer same e c q) passes)
 
-    besides : Bisimulation m behind Beside
-    besides = record { forth = beside-forth; back = beside-back }
+    beside-bisimulation : Bisimulation m behind Beside
+    beside-bisimulation = record { forth = beside-forth; back = beside-back }
+
+-- ---- the promises
 
 pub sound-satisfies : SoundSatisfies
 sound-satisfies E r answer first sound respond same m codes =
@@ -75,7 +79,7 @@ monitors-enforce E r answer first monitors respond same m codes = record {
   satisfies = sound-satisfies E r answer first (λ w bytes. monitors w bytes .0) respond same m codes;
   bisimilar = λ sat. (
     Beside answer respond same m first,
-    besides answer respond same m first,
+    beside-bisimulation answer respond same m first,
     beside (safe-passes answer m r first monitors codes .0 (satisfies-safe m r .0 sat)),
   );
   keeps = λ w t k fine. keeps-walk answer respond same m first k (λ l. fine (monitors w (walk-bytes m codes k) .1 l));

@@ -1,6 +1,7 @@
 -- Walks and satisfaction first, then models behind a monitor.
 pub mod Walks
 pub mod SatisfactionLaws
+pub mod DecidedSatisfaction
 pub mod BisimulationLaws
 pub mod QuietModels
 pub mod Passing

@@ -1,4 +1,4 @@
--- A model whose steps are all silent satisfies exactly the rules that the empty list doesn't violate.
+-- A model whose steps are all silent satisfies exactly the rules that the empty list doesn't violate: it has no other trace.
 use Prim.Native.Nat.{ℕ}
 use mathlib.Core.Path.{_≡_, refl}
 use mathlib.Core.Logic.{_↔_}
@@ -17,10 +17,10 @@ Quiet silent = Unit
 Quiet (code c) = ⊥
 
 module _ (m : Model) (quiet : (s t : m .State) (a : Label) → m .Step s a t → Quiet a) where
-  no-trace : {s t : m .State} {w : List ℕ} → Walk m s w t → w ≡ []
-  no-trace stay = refl
-  no-trace (silent-first h k) = no-trace k
-  no-trace (code-first {s} {t} {c = c} h k) = absurd (quiet s t (code c) h)
+  quiet-trace : {s t : m .State} {w : List ℕ} → Walk m s w t → w ≡ []
+  quiet-trace stay = refl
+  quiet-trace (silent-first h k) = quiet-trace k
+  quiet-trace (code-first {s} {t} {c = c} h k) = absurd (quiet s t (code c) h)
 
   pub quiet-satisfies : (r : Rule) → Satisfies m r ↔ (ViolatesRule r [] → ⊥)
-  quiet-satisfies r = (empty-safe m r, λ fine. satisfies-safe m r .1 (λ w t k v. fine (rw (no-trace k) at v)))
+  quiet-satisfies r = (empty-safe m r, λ fine. satisfies-safe m r .1 (λ w t k v. fine (rw (quiet-trace k) at v)))

@@ -1,4 +1,4 @@
--- What responses say of the answers of a monitor, and that suppression passes exactly what the monitor keeps.
+-- What responses say of the answers of a monitor, and that suppression passes exactly what the monitor keeps, by the two cases of an answer.
 use Prim.Native.Nat.{ℕ}
 use mathlib.Core.Path.{_≡_, refl}
 use native.Mathlib.Omega.{arith}

@@ -1,4 +1,5 @@
--- Laws of walks and weak transitions.
+-- Laws of walks and weak transitions, by induction on the walk: walks are put together, and one whose trace begins with a code is taken apart
+-- after that code.
 use Prim.Native.Nat.{ℕ}
 use mathlib.Core.List.{List, [], _∷_, _++_}
 use Rattle.reading.specs.Rule.{Bytes}
@@ -15,8 +16,8 @@ module _ (m : Model) where
   pub weak-walk : {s t : m .State} {c : ℕ} → Weak m s c t → Walk m s (c ∷ []) t
   weak-walk x = walk-append (x .silent-before) (code-first (x .step) (x .silent-after))
 
-  after-silent : {s r t : m .State} {c : ℕ} → m .Step s silent r → Weak m r c t → Weak m s c t
-  after-silent h x = record {
+  weak-after-silent : {s r t : m .State} {c : ℕ} → m .Step s silent r → Weak m r c t → Weak m s c t
+  weak-after-silent h x = record {
     before = x .before;
     after = x .after;
     silent-before = silent-first h (x .silent-before);
@@ -26,7 +27,7 @@ module _ (m : Model) where
 
   -- a walk whose trace begins with a code begins with a weak transition
   pub weak-first : {s u : m .State} {c : ℕ} {w : List ℕ} → Walk m s (c ∷ w) u → (t : m .State) × Weak m s c t × Walk m t w u
-  weak-first (silent-first h k) = let (t, x, j) = weak-first k in (t, after-silent h x, j)
+  weak-first (silent-first h k) = let (t, x, j) = weak-first k in (t, weak-after-silent h x, j)
   weak-first (code-first {s} {t} h k) = (t, record { before = s; after = t; silent-before = stay; step = h; silent-after = stay }, k)
 
   walk-weak : {s t : m .State} {c : ℕ} → Walk m s (c ∷ []) t → Weak m s c t

@@ -1,8 +1,8 @@
--- Models of any kind: labelled transition systems whose steps have a code or are silent. Their walks and traces; which of them satisfy a rule, by
--- the paper's "Meaning"; strong bisimulation; and a model behind a monitor, which is a model too.
+-- Models of any kind, their walks and traces; which of them satisfy a rule, by the paper's "Meaning"; strong bisimulation; and a model behind
+-- a monitor, which is a model too.
 use Prim.Native.Nat.{ℕ, _<_, zero, suc}
 use mathlib.Core.Path.{_≡_}
-use mathlib.Core.List.{List, [], _∷_}
+use mathlib.Core.List.{List, [], _∷_, map}
 use mathlib.Core.Logic.{Lift, _↔_}
 use mathlib.Core.Bool.{Bool, true}
 use lib.ListN.{length, getD}
@@ -16,13 +16,15 @@ pub data Label : Type 0 where
   silent : Label
   code : ℕ → Label
 
+-- The field calls a model a labelled transition system, and its steps transitions.
 pub record Model : Type 1 where
   pub State : Type 0
   pub start : State
   pub Step : State → Label → State → Type 0
 
 module _ (m : Model) where
-  -- A walk from one state to another: any number of steps, also none. The trace has the codes in order, and nothing of silent steps.
+  -- A walk from one state to another: any number of steps, also none. The trace has the codes in order, and nothing of silent steps. The field
+  -- calls a walk a run or a computation, and its trace a weak trace.
   pub data Walk : m .State → (trace : List ℕ) → m .State → Type 0 where
     stay : {s : m .State} → Walk s [] s
     silent-first : {s t u : m .State} {w : List ℕ} → m .Step s silent t → Walk t w u → Walk s w u
@@ -47,30 +49,50 @@ ByteCodes m = (s t : m .State) (c : ℕ) → m .Step s (code c) t → c < 256
 
 -- ---- satisfaction
 
--- `covered p c`: pattern p covers the code c. Sets of states are of some type; `Has X s`: the set X has the state s.
-module _ {ℓ} (m : Model) (covered : (pattern code : ℕ) → Bool) (Sets : Type ℓ) (Has : Sets → m .State → Type 0) where
-  -- s is in the set of the variable d, where `sets` are those of the maxes around it, innermost first. One that no max binds says nothing.
-  abbrev pub InVariable : (sets : List Sets) → (d : ℕ) → m .State → Type 0
-  InVariable [] d s = Unit
-  InVariable (X ∷ Xs) zero s = Has X s
-  InVariable (X ∷ Xs) (suc d) s = InVariable Xs d s
+-- A set of states is any predicate on them. `sets` are those of the variables: of the maxes around a formula, innermost first.
 
-  -- the state s satisfies f
-  abbrev pub SatisfiesWith : (sets : List Sets) → Formula → m .State → Type ℓ
-  SatisfiesWith Xs truth s = Unit {ℓ}
-  SatisfiesWith Xs falsity s = Lift {0, ℓ} ⊥
-  SatisfiesWith Xs (both f g) s = SatisfiesWith Xs f s × SatisfiesWith Xs g s
-  SatisfiesWith Xs (necessity p f) s = (c : ℕ) (t : m .State) → covered p c ≡ true → Weak m s c t → SatisfiesWith Xs f t
-  SatisfiesWith Xs (max f) s = (X : Sets) × ((t : m .State) → Has X t → SatisfiesWith (X ∷ Xs) f t) × Has X s
-  SatisfiesWith Xs (variable d) s = Lift {0, ℓ} (InVariable Xs d s)
+-- s is in the set of the variable d. One that no max binds says nothing.
+abbrev pub InVariable : {S : Type 0} → (sets : List (S → Type 0)) → (d : ℕ) → S → Type 0
+InVariable [] d s = Unit
+InVariable (X ∷ Xs) zero s = X s
+InVariable (X ∷ Xs) (suc d) s = InVariable Xs d s
 
--- A model satisfies a rule when its start does. Sets are any predicates on states.
+-- `covered p c`: pattern p covers the code c.
+module _ (m : Model) (covered : (pattern code : ℕ) → Bool) where
+  -- The state s satisfies f. Max is the greatest fixed point: s is in some set whose states all satisfy the body with this set for the variable.
+  -- `Lift` makes a statement of Type 0 one of Type 1, as a statement about some set is.
+  abbrev pub StateSatisfies : (sets : List (m .State → Type 0)) → Formula → m .State → Type 1
+  StateSatisfies Xs truth s = Unit
+  StateSatisfies Xs falsity s = Lift ⊥
+  StateSatisfies Xs (both f g) s = StateSatisfies Xs f s × StateSatisfies Xs g s
+  StateSatisfies Xs (necessity p f) s = (c : ℕ) (t : m .State) → covered p c ≡ true → Weak m s c t → StateSatisfies Xs f t
+  StateSatisfies Xs (max f) s = (X : m .State → Type 0) × ((t : m .State) → X t → StateSatisfies (X ∷ Xs) f t) × X s
+  StateSatisfies Xs (variable d) s = Lift (InVariable Xs d s)
+
+-- A model satisfies a rule when its start does.
 abbrev pub Satisfies : Model → Rule → Type 1
-Satisfies m r = SatisfiesWith m (coveredBy (r .patterns)) (m .State → Type 0) (λ X s. X s) [] (r .formula) (m .start)
+Satisfies m r = StateSatisfies m (coveredBy (r .patterns)) [] (r .formula) (m .start)
 
--- The same with decided sets alone. A contract lives in `Type 0` and so can say this one. For phone models the two agree (`decided-satisfies`).
+-- ---- satisfaction with decided sets
+
+-- The same, but each set of a max is decided. This is a statement of Type 0, and so a contract can say it. It implies satisfaction in every model
+-- (`decided-satisfied`), and for phone models the two agree (`decided-satisfies`).
+
+-- the states of a decided set
+abbrev pub members : {S : Type 0} → (S → Bool) → S → Type 0
+members X s = X s ≡ true
+
+module _ (m : Model) (covered : (pattern code : ℕ) → Bool) where
+  abbrev pub StateSatisfiesDecided : (sets : List (m .State → Bool)) → Formula → m .State → Type 0
+  StateSatisfiesDecided Xs truth s = Unit
+  StateSatisfiesDecided Xs falsity s = ⊥
+  StateSatisfiesDecided Xs (both f g) s = StateSatisfiesDecided Xs f s × StateSatisfiesDecided Xs g s
+  StateSatisfiesDecided Xs (necessity p f) s = (c : ℕ) (t : m .State) → covered p c ≡ true → Weak m s c t → StateSatisfiesDecided Xs f t
+  StateSatisfiesDecided Xs (max f) s = (X : m .State → Bool) × ((t : m .State) → members X t → StateSatisfiesDecided (X ∷ Xs) f t) × members X s
+  StateSatisfiesDecided Xs (variable d) s = InVariable (map members Xs) d s
+
 abbrev pub SatisfiesDecided : Model → Rule → Type 0
-SatisfiesDecided m r = SatisfiesWith m (coveredBy (r .patterns)) (m .State → Bool) (λ X s. X s ≡ true) [] (r .formula) (m .start)
+SatisfiesDecided m r = StateSatisfiesDecided m (coveredBy (r .patterns)) [] (r .formula) (m .start)
 
 -- ---- bisimulation
 
@@ -85,6 +107,8 @@ abbrev pub Bisimilar : Model → Model → Type 1
 Bisimilar m n = (R : m .State → n .State → Type 0) × Bisimulation m n R × R (m .start) (n .start)
 
 -- ---- behind a monitor
+
+-- The field calls this the composition of a system with a suppression monitor, or a monitored system.
 
 -- What becomes of a code step of the model: it is passed and the monitor goes to an equation, or it is silenced and the equation stays.
 pub data Response (E : Type 0) : Type 0 where

@@ -11,7 +11,7 @@ use Rattle.reading.specs.Rule.{Formula, falsity, both, necessity, variable, Byt
 use Rattle.reading.specs.File.{accepted}
 use Rattle.synthesis.specs.Violation.{coveredBy, ViolatesRule, by-falsity, by-first, by-code, by-body}
 use Rattle.synthesis.specs.Monitor.{lookup}
-use Rattle.enforcement.specs.Model.{Label, silent, code, Walk, stay, silent-first, code-first, Weak, SatisfiesWith, Satisfies, SatisfiesDecided}
+use Rattle.enforcement.specs.Model.{Label, silent, code, Walk, stay, silent-first, code-first, Weak, StateSatisfies, Satisfies, SatisfiesDecided}
 use Rattle.enforcement.specs.Model.{suppressing}
 use Rattle.models.specs.Phone.{Phone, StepIn, modelOf, statesOf, stepsAt, phoneOf}
 use Rattle.models.specs.Judging.{judgingOf, JudgedAs}
@@ -127,7 +127,7 @@ abbrev Start : ℕ → Type 0
 Start s = s ≡ 0
 
 abbrev Holds : List (ℕ → Type 0) → Formula → ℕ → Type 1
-Holds = SatisfiesWith (modelOf meetingPhone) (coveredBy (poolRule .patterns)) (ℕ → Type 0) (λ X s. X s)
+Holds = StateSatisfies (modelOf meetingPhone) (coveredBy (poolRule .patterns))
 
 after-first : {c t : ℕ} → MeetingStep 0 (code c) t → Holds (Start ∷ []) (both (necessity 1 falsity) (necessity 2 (variable 0))) t
 after-first cancels = (

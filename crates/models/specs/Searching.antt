@@ -8,51 +8,52 @@ use lib.ListN.{length, getD}
 use Rattle.synthesis.specs.Monitor.{rowOf, lookup}
 use Rattle.running.specs.Running.{WellFormedTable}
 use Rattle.models.specs.Phone.{Phone, noStep, modelOf, WellFormedStep}
-use Rattle.models.specs.Exploring.{PairReached, NeverDrops, Linked, LinksInRange, Seen, Worklist, Leaves, Done, ExpandedTo}
+use Rattle.models.specs.Exploring.{ReachablePair, NeverDrops, Chains, LinksInRange, Seen, Worklist, Outgoing, Followed, PartlyExpanded}
 use Rattle.models.specs.declared.Step.{Step}
 use Rattle.models.specs.declared.links.Links.{Links}
 use Rattle.models.specs.declared.exploring.Cursor.{Cursor}
 
--- A bound on the steps that may still be followed: those left of the pair whose turn it is, and 512 for it and each that may come after it.
-abbrev pub remaining : Cursor → ℕ
-remaining at = 512 * (8192 - at .index) + at .step
+-- The measure of the search, a bound on the steps that may still be followed: those left of the pair that is being expanded, and 512 for it and
+-- each that may come after it.
+abbrev pub searchMeasure : Cursor → ℕ
+searchMeasure at = 512 * (8192 - at .index) + at .step
 
--- the first of the pairs from `turn` on whose state has a step; the end where none has
+-- the first of the listed pairs from `index` on whose state has a step; the end where none has
 pub record NextPair (last pairs : List ℕ) (index found : ℕ) (r : Cursor) : Type 0 where
   pub same-found : r .found ≡ found
   pub none-dropped : r .dropped ≡ false
   pub not-before : index ≤ r .index
-  pub passed : (k : ℕ) → index ≤ k → k < r .index → getD last (getD pairs k 0 % 64) 0 ≡ 0
+  pub skipped : (k : ℕ) → index ≤ k → k < r .index → getD last (getD pairs k 0 % 64) 0 ≡ 0
   pub begins : 0 < r .step → (r .index < found) × (r .pair ≡ getD pairs (r .index) 0) × (r .step ≡ getD last (r .pair % 64) 0)
   pub ends : r .step ≡ 0 → r .index ≡ found
 
 -- The records and the links are those of a phone model.
 pub record OfPhone (steps : List Step) (l : Links) (y : Phone) : Type 0 where
   pub alike : (i : ℕ) → getD steps i noStep ≡ getD (y .steps) i noStep
-  pub linked : Linked (y .steps) l
+  pub chains : Chains (y .steps) l
 
 -- the row of a pair's equation
 abbrev pub rowAt : (table : List ℕ) → (pair : ℕ) → List ℕ
 rowAt table pair = rowOf 256 table (pair / 64)
 
--- the pair is one that a phone model reaches
-abbrev pub NumberReached : (table : List ℕ) → Phone → (pair : ℕ) → Type 0
-NumberReached table y pair = PairReached (lookup 256 255 table) 0 (modelOf y) (pair % 64) (pair / 64)
+-- the pair of this number is reachable in a phone model
+abbrev pub ReachablePairNumber : (table : List ℕ) → Phone → (pair : ℕ) → Type 0
+ReachablePairNumber table y pair = ReachablePair (lookup 256 255 table) 0 (modelOf y) (pair % 64) (pair / 64)
 
 module _ (steps : List Step) (l : Links) (table : List ℕ) where
-  -- each step from the pair was kept, and leads to a marked pair
-  abbrev pub Complete : (seen : List ℕ) → (pair : ℕ) → Type 0
-  Complete seen pair = (i : ℕ) → Leaves l pair i → Done steps l (rowAt table pair) pair seen i
+  -- the pair has been expanded: each of its outgoing steps has been followed
+  abbrev pub Expanded : (seen : List ℕ) → (pair : ℕ) → Type 0
+  Expanded seen pair = (i : ℕ) → Outgoing l pair i → Followed steps l (rowAt table pair) pair seen i
 
-  -- what is known when the first n of the pairs have been expanded
+  -- the invariant of the search between two pairs, when the first n of those listed have been expanded
   pub record Explored (seen pairs : List ℕ) (found n : ℕ) : Type 0 where
     pub worklist : Worklist seen pairs found
-    pub begun : Seen seen 0
+    pub start-seen : Seen seen 0
     pub inside : (count : ℕ) → WellFormedTable 128 255 count table → (p : ℕ) → Seen seen p → p / 64 < count
-    pub reached : (y : Phone) → OfPhone steps l y → (p : ℕ) → Seen seen p → NumberReached table y p
-    pub complete : (k : ℕ) → k < n → Complete seen (getD pairs k 0)
+    pub seen-reachable : (y : Phone) → OfPhone steps l y → (p : ℕ) → Seen seen p → ReachablePairNumber table y p
+    pub expanded : (k : ℕ) → k < n → Expanded seen (getD pairs k 0)
 
-  -- The pair whose turn it is has been expanded up to a step. The lists and the count with a ₀ are those at the beginning of its turn.
+  -- A pair is being expanded, and has been up to a step. The lists and the count with a ₀ are those before it was begun.
   pub record Expanding (seen pairs : List ℕ) (at : Cursor) : Type 0 where
     pub seen₀ : List ℕ
     pub pairs₀ : List ℕ
@@ -60,7 +61,7 @@ module _ (steps : List Step) (l : Links) (table : List ℕ) where
     pub explored : Explored seen₀ pairs₀ found₀ (at .index)
     pub more : at .index < found₀
     pub pair-is : at .pair ≡ getD pairs₀ (at .index) 0
-    pub expanded : ExpandedTo steps l (rowAt table (at .pair)) (at .pair) seen₀ pairs₀ found₀ (at .step) seen pairs (at .found)
+    pub partly-expanded : PartlyExpanded steps l (rowAt table (at .pair)) (at .pair) seen₀ pairs₀ found₀ (at .step) seen pairs (at .found)
 
   -- what is searched
   pub record Searchable : Type 0 where
@@ -74,7 +75,7 @@ module _ (steps : List Step) (l : Links) (table : List ℕ) where
   abbrev pub Searched : (dropped : Bool) → Type 0
   Searched dropped = (y : Phone) → OfPhone steps l y → (dropped ≡ false) ↔ NeverDrops (lookup 256 255 table) 0 (modelOf y)
 
-  -- what is known where a search is at a cursor
+  -- the invariant of the search: what is known where it is at a cursor
   pub record Searching (seen pairs : List ℕ) (at : Cursor) : Type 0 where
     pub searchable : Searchable
     pub seen-length : length seen ≡ 8192

@@ -16,9 +16,9 @@ ghost use Rattle.running.specs.Running.{WellFormedTable};
 ghost use Rattle.models.specs.Phone.{Phone, noStep, modelOf};
 ghost use Rattle.models.specs.Judging.{stored};
 ghost use Rattle.models.specs.Exploring.{NeverDrops, HasPhone, linksOf, Worklist, Enqueued, leadsTo};
-ghost use Rattle.models.specs.Searching.{Searching, Searched, remaining, NextPair};
+ghost use Rattle.models.specs.Searching.{Searching, Searched, searchMeasure, NextPair};
 
-// Where the search is. found: how many pairs have been found. turn, pair: the index in the list, and the pair, that is being expanded. step:
+// Where the search is. found: how many pairs have been seen. index, pair: the index in the worklist, and the pair, that is being expanded. step:
 // one more than the number of the step that comes next; 0 at the end. dropped: whether a step was dropped.
 pub(crate) struct Cursor {
     found: usize,
@@ -28,7 +28,7 @@ pub(crate) struct Cursor {
     dropped: bool,
 }
 
-// Notes a pair as the next one found, unless it was found before, and says how many there are.
+// Puts a pair on the worklist, unless it was seen before, and says how many have been seen.
 fn enqueue(seen: &mut [u8], pairs: &mut [u16], found: usize, pair: usize) -> usize
     requires { ⌜ Worklist (now seen) (now pairs) found × (pair < 8192) ⌝ }
     ensures { λ r. ⌜ Enqueued pair (now (seen .entry)) (now (pairs .entry)) found (now (seen .exit)) (now (pairs .exit)) r ⌝ }
@@ -52,7 +52,7 @@ fn equation_after(table: &[u8], equation: usize, label: u16) -> usize
     table[256 * equation + label as usize] as usize
 }
 
-// The first pair from `turn` on that has a step; the end where none has.
+// The first listed pair from `index` on whose state has a step; the end where none has.
 fn next_pair(last: &[u16], pairs: &[u16], index: usize, found: usize) -> Cursor
     requires { ⌜ (length (now last) ≡ 64) × (length (now pairs) ≡ 8192) × (index ≤ found) × (found ≤ 8192) ⌝ }
     ensures { λ r. ⌜ NextPair (now (last .entry)) (now (pairs .entry)) index found r ⌝ }
@@ -110,7 +110,7 @@ fn follow(
         → Searching steps (linksOf (now (last .entry)) (now (earlier .entry))) (now (table .entry)) (now (seen .entry)) (now (pairs .entry)) at
         → step ≡ getD steps (at .step - 1) noStep
         → Searching steps (linksOf (now (last .entry)) (now (earlier .entry))) (now (table .entry)) (now (seen .exit)) (now (pairs .exit)) r) ⌝ }
-    ensures { λ r. ⌜ remaining r < remaining at ⌝ }
+    ensures { λ r. ⌜ searchMeasure r < searchMeasure at ⌝ }
 {
     let index = at.index;
     let pair = at.pair;

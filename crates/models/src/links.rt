@@ -1,9 +1,9 @@
-// The steps of a model, linked by the state from which they go.
+// The steps of a model, chained by the state from which they go: adjacency lists in two arrays.
 use crate::PhoneModel;
 ghost use mathlib.Core.Path.{_≡_};
 ghost use Rattle.models.specs.Phone.{Phone};
 ghost use Rattle.models.specs.Judging.{stored};
-ghost use Rattle.models.specs.Exploring.{HasPhone, Linked, LinksInRange};
+ghost use Rattle.models.specs.Exploring.{HasPhone, Chains, LinksInRange};
 
 // For each state, one more than the number of the last step from it, or 0 where there is none; and for each step, the same among the steps
 // before it.
@@ -12,10 +12,10 @@ pub(crate) struct Links {
     pub(crate) earlier: [u16; 512],
 }
 
-// The links of a model.
+// The chains of a model's steps.
 pub(crate) fn of_model(model: PhoneModel) -> Links
     requires { ⌜ HasPhone model ⌝ }
-    ensures { λ r. ⌜ ((y : Phone) → model ≡ stored y → Linked (y .steps) r) ⌝ }
+    ensures { λ r. ⌜ ((y : Phone) → model ≡ stored y → Chains (y .steps) r) ⌝ }
     ensures { λ r. ⌜ LinksInRange r ⌝ }
 {
     let steps = model.steps;

@@ -46,6 +46,8 @@ module _ (R : RattleType) (κ ν : Lft) (q : Share) (x : RefT (List (R .Denot)))
     abbrev vals : List Val
     vals = sliceVal (x .ptr) (length ys) ∷ []
 
+    -- ---- lending, and having back
+
     lends-again : ent 𝓤 (sep 𝓤 (sem 𝓤 H A (MutSlice ℓ κ R .own (slice-at (x .ptr) γ ys) vals)) (A .lft κ q))
         (H .⇛ (ex 𝓤 (λ (δ : GName). sep 𝓤 (sem 𝓤 H A (MutSlice ℓ′ ν R .own (slice-at (x .ptr) δ ys) vals)) (sem 𝓤 H A (OnLoan δ ys)))))
     lends-again =
@@ -72,6 +74,8 @@ module _ (R : RattleType) (κ ν : Lft) (q : Share) (x : RefT (List (R .Denot)))
         pureI ! (at-slice R (slice-at (x .ptr) γ zs) vals) (tt, (tt, tt))
         (ap (λ (m : ℕ). sliceVal (x .ptr) m ∷ []) (sym e), subst (Room R) (sym e) room) $
         fjoin ! $ done !
+
+    -- ---- the same at another count
 
     -- the same where the slice's count is said as another number that it is
     pub lends-again-at : (n : ℕ) → length ys ≡ n

@@ -22,11 +22,15 @@ use types.Part.{Part, whole, sub, look-in}
 use types.Run.{Walks, Opd, Rv, look, init, stop, fld, from, load, assigns, pass1}
 use denote.Slice.{sliceTy, sliceVal}
 
+-- ---- cells
+
 -- an entry that is known to be a cell, as a whole
 pub whole-of : {M : Type 1} {𝓤 : URA M} {H : Heap 𝓤} {A : Atoms 𝓤} {K : Type 0} {W : Given 𝓤 H A} → K → {z : Item 𝓤} {q : Share} {τ : Ty} {b o : ℕ}
     {v : Val} → z ≡ ‵ (fat q τ b o v) → Part K W z q τ b o v (λ u. ‵ (fat q τ b o u))
 whole-of {M} {𝓤} {H} {A} {K} {W} t {z} {q} {τ} {b} {o} {v} e =
     subst (λ (y : Item 𝓤). Part K W y q τ b o v (λ u. ‵ (fat q τ b o u))) (sym e) (whole t)
+
+-- ---- locals
 
 module _ {M : Type 1} {𝓤 : URA M} {H : Heap 𝓤} {A : Atoms 𝓤} {K : Type 0} {W : Given 𝓤 H A} {Γ : List (Item 𝓤)} {E : Env 𝓤 H} where
   module _ {l : ℕ} {vs : List Val} {g : Goal 𝓤 H} where

@@ -1,7 +1,7 @@
 -- What the walks of a `while` share.
 --     tests        the test at the loop's head, where it isn't known how it comes out: there is a premise for each
 --     AfterLoop    what is shown where the loop is left: the rest of the body runs
---     loops-down   the loop and the rest of the body, where each turn ends with less of a measure.        Less     that order
+--     loops-down   the loop and the rest of the body, where each iteration ends with less of a measure.        Less     that order
 -- Assumes `Given`.
 use Prim.Native.Nat.{ℕ, _<_}
 use mathlib.Core.Bool.{Bool, not}

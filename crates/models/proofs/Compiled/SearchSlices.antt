@@ -32,11 +32,15 @@ use Rattle.models.proofs.exploring.Cursor as T
 use Rattle.models.proofs.exploring.Cursor.Laws as T′
 use Rattle.models.proofs.Compiled.StructRows.{PlainStruct}
 
+-- ---- the cursor
+
 abbrev pub the-cursor : PlainStruct
 the-cursor = record { type = T.the-type; laws = T′.the-laws; plain = T′.the-plain }
 
 abbrev pub cursorTy : Ty
 cursorTy = T′.mir
+
+-- ---- the five slices
 
 abbrev pub Five : Type 0 → Type 0
 Five X = X × (X × (X × (X × (X × Unit {0}))))
@@ -73,6 +77,8 @@ module _ (five : Five (RefT (List ℕ))) where
     pub seen-room : Room u8 (length (seen .now))
     pub pairs-room : Room u16 (length (pairs .now))
 
+-- ---- their rows
+
 -- at the lifetimes κs, the first of which has the name i
 module _ (i : ℕ) (κs : Lfts 5) where
   abbrev pub slice-rows : List RattleType
@@ -103,11 +109,13 @@ module _ (i : ℕ) (κs : Lfts 5) where
     pairs-room = are .1 .1 .1 .1 .0 .0 .1;
   }
 
+-- ---- at entry and at exit
+
 abbrev pub Tokens : {M : Type 1} {𝓤 : URA M} → Lfts 5 → Shares 5 → Item 𝓤
 Tokens κs qs = ‵ (flft (κs .0) (qs .0)) ⊛ ‵ (flft (κs .1 .0) (qs .1 .0)) ⊛ ‵ (flft (κs .1 .1 .0) (qs .1 .1 .0))
     ⊛ ‵ (flft (κs .1 .1 .1 .0) (qs .1 .1 .1 .0)) ⊛ ‵ (flft (κs .1 .1 .1 .1 .0) (qs .1 .1 .1 .1 .0)) ⊛ ‵ ftrue
 
 abbrev pub five-dropped : {n : ℕ} {s₀ s₁ s₂ s₃ s₄ s₅ s₆ : Slot n} → Stay s₅ yes → Stay s₆ yes
     → Stays (s₀ ∷ s₁ ∷ s₂ ∷ s₃ ∷ s₄ ∷ s₅ ∷ s₆ ∷ []) (yes, (yes, (yes, (yes, (yes, (yes, (yes, tt)))))))
-five-dropped {n} {s₀} {s₁} {s₂} {s₃} {s₄} marks queue =
-    (stay-dropped s₀ yes, (stay-dropped s₁ yes, (stay-dropped s₂ yes, (stay-dropped s₃ yes, (stay-dropped s₄ yes, (marks, (queue, tt)))))))
+five-dropped {n} {s₀} {s₁} {s₂} {s₃} {s₄} seen-stays pairs-stays =
+    (stay-dropped s₀ yes, (stay-dropped s₁ yes, (stay-dropped s₂ yes, (stay-dropped s₃ yes, (stay-dropped s₄ yes, (seen-stays, (pairs-stays, tt)))))))

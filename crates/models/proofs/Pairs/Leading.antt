@@ -1,4 +1,4 @@
--- Where a step leads beside an equation, by its label and the equation's row.
+-- Where a step leads beside an equation, by its label and the equation's row: by cases on whether the label is 256 and the entry 255.
 use Prim.Native.Nat.{ℕ, _+_, _*_, _≤_, _<_}
 use mathlib.Core.Path.{_≡_, refl, _∙_}
 use mathlib.Core.Logic.{_⊎_, inl, inr}
@@ -16,7 +16,7 @@ use Rattle.running.specs.Running.{WellFormedTable}
 use Rattle.synthesis.proofs.Tables.Rows.{row-at}
 use Rattle.enforcement.specs.Model.{silent, code, Model}
 use Rattle.models.specs.Phone.{labelOf}
-use Rattle.models.specs.Exploring.{PairReached, silently, keeping, NeverDrops, leadsTo}
+use Rattle.models.specs.Exploring.{ReachablePair, silently, keeping, NeverDrops, leadsTo}
 use Rattle.models.proofs.Phones.PhoneCodes.{label-silent, label-code}
 
 -- ---- entries
@@ -83,36 +83,36 @@ module _ (table : List ℕ) where
   -- ---- from labels of steps
 
   module _ (e label : ℕ) where
-    pub stays : labelOf label ≡ silent → stepsTo e label ≡ e
-    stays h = leads-silently (rowOf 256 table e) e label (label-silent label h)
+    pub steps-silent : labelOf label ≡ silent → stepsTo e label ≡ e
+    steps-silent h = leads-silently (rowOf 256 table e) e label (label-silent label h)
 
-    by-code : (c : ℕ) → labelOf label ≡ code c → stepsTo e label ≡ getD (rowOf 256 table e) c 255
-    by-code c h = let x = label-code label c h in rw (← x .0) (leads-by-code (rowOf 256 table e) e label (x .1))
+    steps-code : (c : ℕ) → labelOf label ≡ code c → stepsTo e label ≡ getD (rowOf 256 table e) c 255
+    steps-code c h = let x = label-code label c h in rw (← x .0) (leads-by-code (rowOf 256 table e) e label (x .1))
 
-    pub follows : (c e′ : ℕ) → labelOf label ≡ code c → lookup 256 255 table e c ≡ next e′ → stepsTo e label ≡ e′
-    follows c e′ h q = by-code c h ∙ meaning-next 255 (getD (rowOf 256 table e) c 255) e′ q
+    pub steps-kept : (c e′ : ℕ) → labelOf label ≡ code c → lookup 256 255 table e c ≡ next e′ → stepsTo e label ≡ e′
+    steps-kept c e′ h q = steps-code c h ∙ meaning-next 255 (getD (rowOf 256 table e) c 255) e′ q
 
-    pub is-dropped : (c : ℕ) → labelOf label ≡ code c → lookup 256 255 table e c ≡ dropped → stepsTo e label ≡ 255
-    is-dropped c h q = by-code c h ∙ meaning-dropped 255 (getD (rowOf 256 table e) c 255) q
+    pub steps-dropped : (c : ℕ) → labelOf label ≡ code c → lookup 256 255 table e c ≡ dropped → stepsTo e label ≡ 255
+    steps-dropped c h q = steps-code c h ∙ meaning-dropped 255 (getD (rowOf 256 table e) c 255) q
 
-  -- ---- from pairs that are reached
+  -- ---- from reachable pairs
 
-  module _ (m : Model) (s t : m .State) (e label : ℕ) (reached : PairReached (lookup 256 255 table) 0 m s e)
+  module _ (m : Model) (s t : m .State) (e label : ℕ) (reached : ReachablePair (lookup 256 255 table) 0 m s e)
       (step : m .Step s (labelOf label) t) where
     abbrev x : ℕ
     x = getD (rowOf 256 table e) label 255
 
-    pub reached-on : (stepsTo e label ≡ 255 → ⊥) → PairReached (lookup 256 255 table) 0 m t (stepsTo e label)
-    reached-on kept = on (eqb label 256) refl
+    pub reachable-step : (stepsTo e label ≡ 255 → ⊥) → ReachablePair (lookup 256 255 table) 0 m t (stepsTo e label)
+    reachable-step kept = on (eqb label 256) refl
       where
-        on : (b : Bool) → eqb label 256 ≡ b → PairReached (lookup 256 255 table) 0 m t (stepsTo e label)
+        on : (b : Bool) → eqb label 256 ≡ b → ReachablePair (lookup 256 255 table) 0 m t (stepsTo e label)
         on true q = rw q (silently reached (rw q at step))
         on false q =
             let answer : lookup 256 255 table e label ≡ next x = rw (ne-eqb x 255 (rw q at kept)) in
             rw q (keeping reached (rw q at step) answer)
 
-    pub drops-one : e < 255 → stepsTo e label ≡ 255 → NeverDrops (lookup 256 255 table) 0 m → ⊥
-    drops-one inside h never = on (eqb label 256) refl
+    pub dropped-step-refutes : e < 255 → stepsTo e label ≡ 255 → NeverDrops (lookup 256 255 table) 0 m → ⊥
+    dropped-step-refutes inside h never = on (eqb label 256) refl
       where
         on : (b : Bool) → eqb label 256 ≡ b → ⊥
         on true q = let z : e ≡ 255 = rw q at h in omega arith

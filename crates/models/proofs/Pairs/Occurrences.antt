@@ -1,4 +1,5 @@
--- How often a number stands in a list: at most as often as the list is long, once more after a write, and not at all among others.
+-- How often a number stands in a list: at most as often as the list is long, once more after a write, and not at all among others. By
+-- induction on the list.
 use Prim.Native.Nat.{ℕ, zero, suc, _≤_, _<_}
 use mathlib.Core.Path.{_≡_, refl}
 use mathlib.Core.Bool.{Bool, true, false, cond}

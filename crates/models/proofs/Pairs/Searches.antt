@@ -1,4 +1,5 @@
--- The search, cursor by cursor: where it begins, what following a step comes to, and that less is left each time.
+-- The invariant of the search holds where it begins, and at the cursor to which following a step leads: to the end where the step is dropped, to
+-- the next step of the pair, or, where none is left, to the next pair that has one.
 use Prim.Native.Nat.{ℕ, _+_, _*_, _-_, _/_, _%_, _≤_, _<_}
 use mathlib.Core.Path.{_≡_, refl, sym, _∙_, subst}
 use mathlib.Core.Logic.{_↔_}
@@ -13,97 +14,97 @@ use Rattle.synthesis.specs.Monitor.{lookup}
 use Rattle.running.specs.Running.{WellFormedTable}
 use Rattle.models.specs.Phone.{Phone, noStep, modelOf}
 use Rattle.models.specs.Judging.{stored}
-use Rattle.models.specs.Exploring.{NeverDrops, HasPhone, Linked, LinksInRange, Worklist, Enqueued, leadsTo, equationAfter, ExpandedTo}
-use Rattle.models.specs.Searching.{NextPair, rowAt, Complete, Explored, Expanding, Searchable, Searched, Searching}
+use Rattle.models.specs.Exploring.{NeverDrops, HasPhone, Chains, LinksInRange, Worklist, Enqueued, leadsTo, equationAfter, PartlyExpanded}
+use Rattle.models.specs.Searching.{NextPair, rowAt, Expanded, Explored, Expanding, Searchable, Searched, Searching}
 use Rattle.models.specs.declared.Step.{Step}
 use Rattle.models.specs.declared.PhoneModel.{PhoneModel}
 use Rattle.models.specs.declared.links.Links.{Links}
 use Rattle.models.specs.declared.exploring.Cursor.{Cursor}
-use Rattle.models.proofs.Pairs.FoundPairs.{found-few}
-use Rattle.models.proofs.Pairs.Chains.{no-chain}
+use Rattle.models.proofs.Pairs.FoundPairs.{found-at-most}
+use Rattle.models.proofs.Pairs.Chains.{chain-empty}
 use Rattle.models.proofs.Pairs.LinkLaws.{stored-alike, stored-step, stored-length}
 use Rattle.models.proofs.Pairs.Leading.{leads-inside, row-in-range}
-use Rattle.models.proofs.Pairs.Expanding.{none-expanded, next-leaves, one-expanded}
-use Rattle.models.proofs.Pairs.Exploration.{explored-none, pair-seen, explored-more, ends-dropped, ends-well}
+use Rattle.models.proofs.Pairs.Expanding.{expanded-none, next-outgoing, expanded-next}
+use Rattle.models.proofs.Pairs.Exploration.{explored-start, pair-seen, explored-next, ends-dropped, ends-undropped}
 
 module _ {steps : List Step} {l : Links} {table : List ℕ} (searchable : Searchable steps l table) where
   -- ---- the next pair with a step
 
   module _ {seen pairs : List ℕ} {found index : ℕ} (explored : Explored steps l table seen pairs found index) where
     -- pairs whose states have no step are expanded as they are
-    explored-past : (n : ℕ) → index ≤ n → ((k : ℕ) → index ≤ k → k < n → getD (l .last) (getD pairs k 0 % 64) 0 ≡ 0)
+    explored-skipped : (n : ℕ) → index ≤ n → ((k : ℕ) → index ≤ k → k < n → getD (l .last) (getD pairs k 0 % 64) 0 ≡ 0)
         → Explored steps l table seen pairs found n
-    explored-past n more passed = record {
+    explored-skipped n more none = record {
       worklist = explored .worklist;
-      begun = explored .begun;
+      start-seen = explored .start-seen;
       inside = explored .inside;
-      reached = explored .reached;
-      complete = λ k h. on k h (decLt k index);
+      seen-reachable = explored .seen-reachable;
+      expanded = λ k h. on k h (decLt k index);
     }
       where
-        on : (k : ℕ) → k < n → Dec (k < index) → Complete steps l table seen (getD pairs k 0)
-        on k h (yes a) = explored .complete k a
-        on k h (no a) = λ i leaves. absurd (no-chain (rw (passed k (omega arith) h) at leaves))
+        on : (k : ℕ) → k < n → Dec (k < index) → Expanded steps l table seen (getD pairs k 0)
+        on k h (yes a) = explored .expanded k a
+        on k h (no a) = λ i out. absurd (chain-empty (rw (none k (omega arith) h) at out))
 
     module _ {r : Cursor} (next : NextPair (l .last) pairs index found r) where
-      past : Explored steps l table seen pairs found (r .index)
-      past = explored-past (r .index) (next .not-before) (next .passed)
+      explored-next-pair : Explored steps l table seen pairs found (r .index)
+      explored-next-pair = explored-skipped (r .index) (next .not-before) (next .skipped)
 
-      few : Dec (0 < r .step) → r .step ≤ 512
-      few (yes h) = omega (arith, next .begins h .2, searchable .links-range .last-range (r .pair % 64))
-      few (no h) = omega arith
+      step-at-most : Dec (0 < r .step) → r .step ≤ 512
+      step-at-most (yes h) = omega (arith, next .begins h .2, searchable .links-range .last-range (r .pair % 64))
+      step-at-most (no h) = omega arith
 
       searching-next : Searching steps l table seen pairs r
       searching-next = record {
         searchable = searchable;
         seen-length = explored .worklist .seen-length;
         pairs-length = explored .worklist .pairs-length;
-        step-inside = few (decLt 0 (r .step));
+        step-inside = step-at-most (decLt 0 (r .step));
         expanding = λ h. record {
           seen₀ = seen;
           pairs₀ = pairs;
           found₀ = found;
-          explored = past;
+          explored = explored-next-pair;
           more = next .begins h .0;
           pair-is = next .begins h .1;
-          expanded = rw (next .same-found, next .begins h .2)
-              (none-expanded steps l (rowAt table (r .pair)) (r .pair) seen pairs found (explored .worklist));
+          partly-expanded = rw (next .same-found, next .begins h .2)
+              (expanded-none steps l (rowAt table (r .pair)) (r .pair) seen pairs found (explored .worklist));
         };
         finished = λ z. rw (next .none-dropped)
-            (ends-well steps l table (searchable .steps-range) seen pairs found (r .index) past (omega (arith, next .ends z)));
+            (ends-undropped steps l table (searchable .steps-range) seen pairs found (r .index) explored-next-pair (omega (arith, next .ends z)));
       }
 
 -- ---- following a step
 
 module _ {steps : List Step} {l : Links} {table seen pairs : List ℕ} {at : Cursor} (s : Searching steps l table seen pairs at)
     (going : 0 < at .step) where
-  abbrev here : Expanding steps l table seen pairs at
-  here = s .expanding going
+  abbrev expansion : Expanding steps l table seen pairs at
+  expansion = s .expanding going
 
-  -- the pair whose turn it is, in the list
+  -- the pair that is being expanded, in the list
   abbrev listed : ℕ
-  listed = getD (here .pairs₀) (at .index) 0
+  listed = getD (expansion .pairs₀) (at .index) 0
 
   abbrev UpTo : (pair step : ℕ) → (seen pairs : List ℕ) → (found : ℕ) → Type 0
-  UpTo pair = ExpandedTo steps l (rowAt table pair) pair (here .seen₀) (here .pairs₀) (here .found₀)
+  UpTo pair = PartlyExpanded steps l (rowAt table pair) pair (expansion .seen₀) (expansion .pairs₀) (expansion .found₀)
 
-  so-far : UpTo listed (at .step) seen pairs (at .found)
-  so-far = subst (λ (p : ℕ). UpTo p (at .step) seen pairs (at .found)) (here .pair-is) (here .expanded)
+  expanded-before : UpTo listed (at .step) seen pairs (at .found)
+  expanded-before = subst (λ (p : ℕ). UpTo p (at .step) seen pairs (at .found)) (expansion .pair-is) (expansion .partly-expanded)
 
   equation-inside : at .pair / 64 < s .searchable .count
   equation-inside =
-      rw (here .pair-is)
-      (here .explored .inside _ (s .searchable .well-formed) _
-      (pair-seen steps l table (s .searchable .steps-range) _ _ _ _ (here .explored) (here .more)))
+      rw (expansion .pair-is)
+      (expansion .explored .inside _ (s .searchable .well-formed) _
+      (pair-seen steps l table (s .searchable .steps-range) _ _ _ _ (expansion .explored) (expansion .more)))
 
   pub index-inside : at .index < 8192
-  index-inside = omega (arith, here .more, found-few _ _ _ (here .explored .worklist))
+  index-inside = omega (arith, expansion .more, found-at-most _ _ _ (expansion .explored .worklist))
 
   pub index-before : at .index < at .found
-  index-before = omega (arith, here .more, here .expanded .grown .more)
+  index-before = omega (arith, expansion .more, expansion .partly-expanded .extended .grows)
 
   pub worklist : Worklist seen pairs (at .found)
-  worklist = here .expanded .grown .worklist
+  worklist = expansion .partly-expanded .extended .worklist
 
   -- the row of its equation
   pub row-inside : 256 * (at .pair / 64) + 256 ≤ length table
@@ -125,7 +126,7 @@ module _ {steps : List Step} {l : Links} {table seen pairs : List ℕ} {at : Cur
     -- and where it leads
     module _ {next : ℕ} (leads : next ≡ leadsTo (rowAt table (at .pair)) (at .pair / 64) (step .label)) where
       leads-from : next ≡ equationAfter steps l (rowAt table listed) listed (at .step - 1)
-      leads-from = rw (here .pair-is, is) at leads
+      leads-from = rw (expansion .pair-is, is) at leads
 
       pub next-inside : (next ≡ 255 → ⊥) → next < 128
       next-inside kept =
@@ -141,33 +142,33 @@ module _ {steps : List Step} {l : Links} {table seen pairs : List ℕ} {at : Cur
         pairs-length = s .pairs-length;
         step-inside = omega arith;
         expanding = λ h. absurd (omega arith);
-        finished = λ z. ends-dropped steps l table (s .searchable .steps-range) _ _ _ _ (here .explored) (here .more) _ (s .searchable .well-formed)
-            (at .step - 1) (next-leaves steps l _ _ _ _ _ _ (at .step - 1) (omega arith) _ _ _ so-far) (sym leads-from ∙ e);
+        finished = λ z. ends-dropped steps l table (s .searchable .steps-range) _ _ _ _ (expansion .explored) (expansion .more) _ (s .searchable .well-formed)
+            (at .step - 1) (next-outgoing steps l _ _ _ _ _ _ (at .step - 1) (omega arith) _ _ _ expanded-before) (sym leads-from ∙ e);
       }
 
       module _ (kept : next ≡ 255 → ⊥) {seen′ pairs′ : List ℕ} {found′ left : ℕ}
           (enqueued : Enqueued (64 * next + step .to) seen pairs (at .found) seen′ pairs′ found′)
           (rest : left ≡ getD (l .earlier) (at .step - 1) 0) where
-        further : UpTo listed left seen′ pairs′ found′
-        further =
+        expanded-after : UpTo listed left seen′ pairs′ found′
+        expanded-after =
             rw rest
-            (one-expanded steps l _ _ _ _ _ _ (at .step - 1) (omega arith) _ _ _ so-far _ _ _ next leads-from kept (rw is at enqueued))
+            (expanded-next steps l _ _ _ _ _ _ (at .step - 1) (omega arith) _ _ _ expanded-before _ _ _ next leads-from kept (rw is at enqueued))
 
         pub followed-on : 0 < left
             → Searching steps l table seen′ pairs′ (record { found = found′; index = at .index; pair = at .pair; step = left; dropped = false })
         followed-on more = record {
           searchable = s .searchable;
-          seen-length = enqueued .grown .worklist .seen-length;
-          pairs-length = enqueued .grown .worklist .pairs-length;
+          seen-length = enqueued .extended .worklist .seen-length;
+          pairs-length = enqueued .extended .worklist .pairs-length;
           step-inside = omega (arith, rest, s .searchable .links-range .earlier-range (at .step - 1), s .step-inside);
           expanding = λ h. record {
-            seen₀ = here .seen₀;
-            pairs₀ = here .pairs₀;
-            found₀ = here .found₀;
-            explored = here .explored;
-            more = here .more;
-            pair-is = here .pair-is;
-            expanded = subst (λ (p : ℕ). UpTo p left seen′ pairs′ found′) (sym (here .pair-is)) further;
+            seen₀ = expansion .seen₀;
+            pairs₀ = expansion .pairs₀;
+            found₀ = expansion .found₀;
+            explored = expansion .explored;
+            more = expansion .more;
+            pair-is = expansion .pair-is;
+            partly-expanded = subst (λ (p : ℕ). UpTo p left seen′ pairs′ found′) (sym (expansion .pair-is)) expanded-after;
           };
           finished = λ z. absurd (omega arith);
         }
@@ -175,7 +176,7 @@ module _ {steps : List Step} {l : Links} {table seen pairs : List ℕ} {at : Cur
         pub followed-next : left ≡ 0 → {r : Cursor} → NextPair (l .last) pairs′ (at .index + 1) found′ r → Searching steps l table seen′ pairs′ r
         followed-next z next-pair =
             searching-next (s .searchable)
-            (explored-more steps l table (s .searchable .steps-range) _ _ _ _ (here .explored) (here .more) _ _ _ (rw z at further)) next-pair
+            (explored-next steps l table (s .searchable .steps-range) _ _ _ _ (expansion .explored) (expansion .more) _ _ _ (rw z at expanded-after)) next-pair
 
 -- ---- a search of a stored model
 
@@ -194,11 +195,11 @@ module _ {model : PhoneModel} {l : Links} {table : List ℕ} (has : HasPhone mod
   pub searching-first : {seen pairs : List ℕ} {found : ℕ} {r : Cursor} → Enqueued 0 (replicate 8192 0) (replicate 8192 0) 0 seen pairs found
       → NextPair (l .last) pairs 0 found r → Searching (model .steps) l table seen pairs r
   searching-first enqueued next =
-      searching-next stored-searchable (explored-none (model .steps) l table (stored-step has) _ _ _ enqueued) next
+      searching-next stored-searchable (explored-start (model .steps) l table (stored-step has) _ _ _ enqueued) next
 
 -- what the end of a search says of the model
 pub stored-searched : (model : PhoneModel) (l : Links) (table : List ℕ) (dropped : Bool) → Searched (model .steps) l table dropped
-    → (y : Phone) → model ≡ stored y → Linked (y .steps) l → (not dropped ≡ true) ↔ NeverDrops (lookup 256 255 table) 0 (modelOf y)
-stored-searched model l table dropped searched y is linked =
-    let found = searched y (record { alike = stored-alike y is; linked = linked }) in
+    → (y : Phone) → model ≡ stored y → Chains (y .steps) l → (not dropped ≡ true) ↔ NeverDrops (lookup 256 255 table) 0 (modelOf y)
+stored-searched model l table dropped searched y is chains =
+    let found = searched y (record { alike = stored-alike y is; chains = chains }) in
     (λ e. found .0 (not-true dropped e), λ never. rw (found .1 never) refl)

@@ -1,4 +1,4 @@
--- A test of every number below n, decided.
+-- A test of every number below n, decided: the least one that fails is looked for.
 use Prim.Native.Nat.{ℕ, _<_}
 use mathlib.Core.Path.{_≡_, refl, sym, _∙_}
 use mathlib.Core.Logic.{_↔_}

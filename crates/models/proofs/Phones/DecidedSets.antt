@@ -3,73 +3,36 @@ use Prim.Native.Nat.{ℕ, zero, suc}
 use mathlib.Core.Path.{_≡_, refl}
 use mathlib.Core.Logic.{_↔_}
 use mathlib.Core.Bool.{Bool, true, false, _&&_, and-eq-true-iff, false≢true}
-use mathlib.Core.List.{List, [], _∷_}
+use mathlib.Core.List.{List, [], _∷_, map}
 use borrow.Author.Tests.{lt-ltb}
 use Rattle.reading.specs.Rule.{Formula, truth, falsity, both, necessity, max, variable}
 use Rattle.synthesis.specs.Violation.{coveredBy}
-use Rattle.enforcement.specs.Model.{Model, InVariable, SatisfiesWith}
+use Rattle.enforcement.specs.Model.{InVariable, StateSatisfies, members, StateSatisfiesDecided}
+use Rattle.enforcement.proofs.DecidedSatisfaction.{decided-satisfied}
 use Rattle.models.specs.Phone.{Phone, modelOf}
 use Rattle.models.specs.Promises.{DecidedSatisfies}
 use Rattle.models.proofs.Phones.GreatestSets.{Within, greatest}
 use Rattle.models.proofs.Phones.PhoneStates.{statesIn, Listed, start-listed, weak-listed}
-use Rattle.models.proofs.Phones.Necessities.{necessary, necessary-leads, necessary-of}
-
--- ---- decided sets are sets
-
-module _ (m : Model) (covered : (pattern code : ℕ) → Bool) where
-  abbrev Any : Type 1
-  Any = m .State → Type 0
-
-  abbrev Decided : Type 0
-  Decided = m .State → Bool
-
-  abbrev InAny : List Any → ℕ → m .State → Type 0
-  InAny = InVariable m covered Any (λ P s. P s)
-
-  abbrev InDecided : List Decided → ℕ → m .State → Type 0
-  InDecided = InVariable m covered Decided (λ X s. X s ≡ true)
-
-  abbrev SatisfiesAny : List Any → Formula → m .State → Type 1
-  SatisfiesAny = SatisfiesWith m covered Any (λ P s. P s)
-
-  abbrev SatisfiesDecidedly : List Decided → Formula → m .State → Type 0
-  SatisfiesDecidedly = SatisfiesWith m covered Decided (λ X s. X s ≡ true)
-
-  any-of-decided : (Xs : List Decided) (Ps : List Any) → ((d : ℕ) (s : m .State) → InDecided Xs d s → InAny Ps d s)
-      → (f : Formula) (s : m .State) → SatisfiesDecidedly Xs f s → SatisfiesAny Ps f s
-  any-of-decided Xs Ps same truth s h = tt
-  any-of-decided Xs Ps same falsity s h = absurd (h .lower)
-  any-of-decided Xs Ps same (both f g) s h = (any-of-decided Xs Ps same f s (h .0), any-of-decided Xs Ps same g s (h .1))
-  any-of-decided Xs Ps same (necessity p f) s h = λ c t e w. any-of-decided Xs Ps same f t (h c t e w)
-  any-of-decided Xs Ps same (max f) s h =
-      (member, (λ t i. any-of-decided (h .0 ∷ Xs) (member ∷ Ps) more f t (h .1 t i)), h .2)
-    where
-      member : Any
-      member t = h .0 t ≡ true
-
-      more : (d : ℕ) (t : m .State) → InDecided (h .0 ∷ Xs) d t → InAny (member ∷ Ps) d t
-      more zero t i = i
-      more (suc d) t i = same d t i
-  any-of-decided Xs Ps same (variable d) s h = record { lower = same d s (h .lower) }
+use Rattle.models.proofs.Phones.Necessities.{necessary, necessary-sound, necessary-complete}
 
 -- ---- the decided set of the states that satisfy a formula
 
 module _ (y : Phone) (covered : (pattern code : ℕ) → Bool) where
   -- Every listed state of the sets Ps of the maxes around is in the decided ones Xs.
   abbrev Around : List (ℕ → Type 0) → List (ℕ → Bool) → Type 0
-  Around Ps Xs = (d s : ℕ) → Listed y s → InAny (modelOf y) covered Ps d s → InDecided (modelOf y) covered Xs d s
+  Around Ps Xs = (d s : ℕ) → Listed y s → InVariable Ps d s → InVariable (map members Xs) d s
 
   -- A decided set whose states satisfy f with Xs, and which has every listed state that satisfies f with any sets within Xs.
   record Decision (Xs : List (ℕ → Bool)) (f : Formula) : Type 1 where
     set : ℕ → Bool
-    satisfied : (s : ℕ) → set s ≡ true → SatisfiesDecidedly (modelOf y) covered Xs f s
+    satisfied : (s : ℕ) → set s ≡ true → StateSatisfiesDecided (modelOf y) covered Xs f s
     complete : (Ps : List (ℕ → Type 0)) → Around Ps Xs
-        → (s : ℕ) → Listed y s → SatisfiesAny (modelOf y) covered Ps f s → set s ≡ true
+        → (s : ℕ) → Listed y s → StateSatisfies (modelOf y) covered Ps f s → set s ≡ true
 
-  around-more : (Ps : List (ℕ → Type 0)) (Xs : List (ℕ → Bool)) → Around Ps Xs
+  around-max : (Ps : List (ℕ → Type 0)) (Xs : List (ℕ → Bool)) → Around Ps Xs
       → (P : ℕ → Type 0) (X : ℕ → Bool) → Within (λ s. Listed y s × P s) X → Around (P ∷ Ps) (X ∷ Xs)
-  around-more Ps Xs around P X within zero s l h = within s (l, h)
-  around-more Ps Xs around P X within (suc d) s l h = around d s l h
+  around-max Ps Xs around P X within zero s l h = within s (l, h)
+  around-max Ps Xs around P X within (suc d) s l h = around d s l h
 
   -- a variable that no max binds is satisfied
   abbrev inVariable : List (ℕ → Bool) → ℕ → ℕ → Bool
@@ -77,10 +40,12 @@ module _ (y : Phone) (covered : (pattern code : ℕ) → Bool) where
   inVariable (X ∷ Xs) zero s = X s
   inVariable (X ∷ Xs) (suc d) s = inVariable Xs d s
 
-  in-variable : (Xs : List (ℕ → Bool)) (d s : ℕ) → (inVariable Xs d s ≡ true) ↔ InDecided (modelOf y) covered Xs d s
-  in-variable [] d s = (λ e. tt, λ h. refl)
-  in-variable (X ∷ Xs) zero s = (λ e. e, λ h. h)
-  in-variable (X ∷ Xs) (suc d) s = in-variable Xs d s
+  in-variable-is : (Xs : List (ℕ → Bool)) (d s : ℕ) → (inVariable Xs d s ≡ true) ↔ InVariable (map members Xs) d s
+  in-variable-is [] d s = (λ e. tt, λ h. refl)
+  in-variable-is (X ∷ Xs) zero s = (λ e. e, λ h. h)
+  in-variable-is (X ∷ Xs) (suc d) s = in-variable-is Xs d s
+
+  -- ---- by the formula's structure
 
   decision : (f : Formula) (Xs : List (ℕ → Bool)) → Decision Xs f
   decision truth Xs = record { set = λ s. true; satisfied = λ s e. tt; complete = λ Ps around s l h. refl }
@@ -102,9 +67,9 @@ module _ (y : Phone) (covered : (pattern code : ℕ) → Bool) where
       let a = decision f Xs in
       record {
         set = necessary y (covered p) (a .set);
-        satisfied = λ s e c t i w. a .satisfied t (necessary-leads y (covered p) (a .set) s e c t i w);
+        satisfied = λ s e c t i w. a .satisfied t (necessary-sound y (covered p) (a .set) s e c t i w);
         complete = λ Ps around s l h.
-            necessary-of y (covered p) (a .set) s l (λ c t i w. a .complete Ps around t (weak-listed y w) (h c t i w));
+            necessary-complete y (covered p) (a .set) s l (λ c t i w. a .complete Ps around t (weak-listed y w) (h c t i w));
       }
   decision (max f) Xs =
       let g = greatest (λ Y. decision f (Y ∷ Xs) .set) (statesIn y) in
@@ -113,18 +78,20 @@ module _ (y : Phone) (covered : (pattern code : ℕ) → Bool) where
         satisfied = λ s e. (g .set, (λ t i. decision f (g .set ∷ Xs) .satisfied t (g .passes t i)), e);
         complete = λ Ps around s l h.
             g .contains (λ v. Listed y v × h .0 v)
-            (λ Y within v i. decision f (Y ∷ Xs) .complete (h .0 ∷ Ps) (around-more Ps Xs around (h .0) Y within) v (i .0) (h .1 v (i .1)))
+            (λ Y within v i. decision f (Y ∷ Xs) .complete (h .0 ∷ Ps) (around-max Ps Xs around (h .0) Y within) v (i .0) (h .1 v (i .1)))
             (λ v i. lt-ltb _ _ (i .0)) s (l, h .2);
       }
   decision (variable d) Xs = record {
     set = inVariable Xs d;
-    satisfied = λ s e. record { lower = in-variable Xs d s .0 e };
-    complete = λ Ps around s l h. in-variable Xs d s .1 (around d s l (h .lower));
+    satisfied = λ s. in-variable-is Xs d s .0;
+    complete = λ Ps around s l h. in-variable-is Xs d s .1 (around d s l (h .lower));
   }
+
+-- ---- the promise
 
 pub decided-satisfies : DecidedSatisfies
 decided-satisfies y r = (
-  any-of-decided (modelOf y) (coveredBy (r .patterns)) [] [] (λ d s h. h) (r .formula) 0,
+  decided-satisfied (modelOf y) r,
   λ h. let a = decision y (coveredBy (r .patterns)) (r .formula) [] in
       a .satisfied 0 (a .complete [] (λ d s l h. tt) 0 (start-listed y) h),
 )

@@ -12,6 +12,8 @@ use Rattle.synthesis.specs.Search.{indexOf}
 use Rattle.synthesis.proofs.Numberings.Indices.{Member, index-is, member-at, without, without-length, without-member}
 use Rattle.models.proofs.Phones.BoundedTests.{every, every-is, every-fails}
 
+-- ---- sets of listed numbers
+
 abbrev pub listed : List ℕ → ℕ → Bool
 listed l v = ltb (indexOf v l) (length l)
 
@@ -28,6 +30,8 @@ module _ (test : (ℕ → Bool) → ℕ → Bool) where
     pub set : ℕ → Bool
     pub passes : (v : ℕ) → set v ≡ true → test set v ≡ true
     pub contains : (P : ℕ → Type 0) → Consistent P → Within P (listed l) → Within P set
+
+  -- ---- taking numbers away
 
   -- the listed numbers, or what there is without one that fails
   shrunk : (l : List ℕ) → ((e : ℕ) → Member e l → Greatest (without e l)) → Greatest l

@@ -1,4 +1,4 @@
--- The steps of a well-formed phone model go among 64 states, and their codes are bytes.
+-- The steps of a well-formed phone model go among 64 states, and their codes are bytes: a label is at most 256, and 256 is silent.
 use Prim.Native.Nat.{ℕ}
 use mathlib.Core.Path.{_≡_, refl}
 use mathlib.Core.Bool.{Bool, true, false}

@@ -1,4 +1,4 @@
--- `exploring::note` meets its contract.
+-- `exploring::enqueue` meets its contract: a pair not seen before finds room in the list.
 use Prim.Native.Nat.{_<_}
 use native.Mathlib.Omega.{arith}
 use borrow.Author.Needs.{needs}
@@ -6,7 +6,7 @@ use Rattle.models.proofs.Pairs.FoundPairs.{enqueued-old, found-room, en
 use Rattle.models.proofs.exploring.enqueue.Statement.{statement}
 use Rattle.models.proofs.exploring.enqueue.Tie as tie
 
--- where a new pair is noted
+-- where a new pair is listed
 room : (c : tie.Else1) → c .before .before .args .found < 8192
 room c = found-room _ _ _ (c .before .before .pre .0) _ (c .before .before .pre .1) (c .if1 .left)
 

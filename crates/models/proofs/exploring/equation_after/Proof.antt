@@ -1,4 +1,4 @@
--- `exploring::equation_after` meets its contract.
+-- `exploring::equation_after` meets its contract, by a law for silent labels and one for codes.
 use mathlib.Core.Path.{sym, _∙_}
 use Prim.Native.Nat.{_+_, _*_}
 use native.Mathlib.Omega.{arith}

@@ -1,20 +1,23 @@
--- `exploring::never_drops` meets its contract.
+-- `exploring::never_drops` meets its contract: the invariant of the search holds at its first cursor, and its end says what is asked.
 use native.Mathlib.Omega.{arith}
 use borrow.Author.Needs.{needs}
-use Rattle.models.proofs.Pairs.FoundPairs.{found-few, worklist-none}
+use Rattle.models.proofs.Pairs.FoundPairs.{found-at-most, worklist-none}
 use Rattle.models.proofs.Pairs.Searches.{searching-first, stored-searched}
 use Rattle.models.proofs.exploring.never_drops.Statement.{statement}
 use Rattle.models.proofs.exploring.never_drops.Tie as tie
 
--- from the note of the first pair to the links, from the first cursor to that note, and from the search to that cursor
-abbrev linked : tie.After-enqueue → tie.After-of-model
-linked c = c .before .before .before .before .before .before
+-- ---- the calls, each seen from a later one: the chains, the first pair enqueued, the first cursor
+
+abbrev chained : tie.After-enqueue → tie.After-of-model
+chained c = c .before .before .before .before .before .before
 
 abbrev enqueued : tie.After-next-pair → tie.After-enqueue
 enqueued c = c .before .before .before .before .before
 
-abbrev first : tie.After-pairs4 → tie.After-next-pair
-first c = c .before .before .before .before
+abbrev first-cursor : tie.After-pairs4 → tie.After-next-pair
+first-cursor c = c .before .before .before .before
+
+-- ---- the needs of each call
 
 of-model-requires : tie.Need-of-model-requires
 of-model-requires c κs = search needs
@@ -37,8 +40,8 @@ slice-aggregate-next-pair-2 c = search needs
 next-pair-requires : tie.Need-next-pair-requires
 next-pair-requires c κs =
     let n = c .before .before .before .before in
-    let w = n .enqueue .ensures .grown .worklist in
-    (linked n .of-model .ensures .1 .last-length, w .pairs-length, omega arith, found-few _ _ _ w)
+    let w = n .enqueue .ensures .extended .worklist in
+    (chained n .of-model .ensures .1 .last-length, w .pairs-length, omega arith, found-at-most _ _ _ w)
 
 slice-aggregate-search-array : tie.Need-slice-aggregate-search-array
 slice-aggregate-search-array c = search needs
@@ -54,14 +57,16 @@ slice-aggregate-search-array-4 c = search needs
 
 search-array-requires : tie.Need-search-array-requires
 search-array-requires c κs =
-    let n = enqueued (first c) in
-    let p = linked n .before .before .pre in
-    searching-first (p .0) (linked n .of-model .ensures .1) (p .1) (n .enqueue .ensures) (first c .next-pair .ensures)
+    let n = enqueued (first-cursor c) in
+    let p = chained n .before .before .pre in
+    searching-first (p .0) (chained n .of-model .ensures .1) (p .1) (n .enqueue .ensures) (first-cursor c .next-pair .ensures)
+
+-- ---- the return
 
 returns : tie.Need-returns
 returns c y is =
     let s = c .before .before in
-    stored-searched _ _ _ _ (s .search-array .ensures) y is (linked (enqueued (first (s .before))) .of-model .ensures .0 y is)
+    stored-searched _ _ _ _ (s .search-array .ensures) y is (chained (enqueued (first-cursor (s .before))) .of-model .ensures .0 y is)
 
 pub never-drops-spec : {M : Type 1} → statement M
 never-drops-spec =

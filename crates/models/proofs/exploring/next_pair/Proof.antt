@@ -1,4 +1,4 @@
--- `exploring::next_pair` meets its contract. The pairs passed have no step; the measure is how many are left.
+-- `exploring::next_pair` meets its contract. The invariant is that the pairs passed have no step; the measure is how many are left.
 use Prim.Native.Nat.{ℕ, _+_, _-_, _%_, _≤_, _<_}
 use mathlib.Core.Path.{_≡_, refl}
 use native.Mathlib.Decide.{decLt}
@@ -8,12 +8,14 @@ use borrow.Author.Needs.{needs}
 use Rattle.models.proofs.exploring.next_pair.Statement.{statement}
 use Rattle.models.proofs.exploring.next_pair.Tie as tie
 
+-- ---- the loop
+
 abbrev Inv-loop : tie.InvT-loop
-Inv-loop last pairs index found turn₀ index' =
+Inv-loop last pairs index found index₀ index' =
     (index ≤ index') × (index' ≤ found) × ((k : ℕ) → index ≤ k → k < index' → getD last (getD pairs k 0 % 64) 0 ≡ 0)
 
 abbrev μ-loop : tie.MeasureT-loop
-μ-loop last pairs index found turn₀ index' = found - index'
+μ-loop last pairs index found index₀ index' = found - index'
 
 loop-holds : tie.Need-loop-holds Inv-loop μ-loop
 loop-holds c = (omega arith, search needs, λ k h b. absurd (omega arith))
@@ -41,6 +43,8 @@ cast-step c =
           (c .before .before .before .loop .index) 0 % 64),
     )
 
+-- ---- a pair with a step, or the next
+
 returns : tie.Need-returns Inv-loop μ-loop
 returns c =
     let l = c .before .before .before .before in
@@ -48,7 +52,7 @@ returns c =
       same-found = refl;
       none-dropped = refl;
       not-before = l .loop .inv .0;
-      passed = l .loop .inv .2;
+      skipped = l .loop .inv .2;
       begins = λ h. (c .before .before .before .loop-test .taken, refl, refl);
       ends = λ z. absurd (omega (arith, c .if1 .taken));
     }
@@ -71,6 +75,8 @@ loop-again c =
         let e : k ≡ c .before .before .before .before .loop .index = omega arith in
         rw e (omega (arith, c .if1 .left))
 
+-- ---- no pair is left
+
 returns-2 : tie.Need-returns-2 Inv-loop μ-loop
 returns-2 c =
     let l = c .before in
@@ -78,7 +84,7 @@ returns-2 c =
       same-found = refl;
       none-dropped = refl;
       not-before = l .loop .inv .0;
-      passed = l .loop .inv .2;
+      skipped = l .loop .inv .2;
       begins = λ h. absurd (omega arith);
       ends = λ z. omega (arith, l .loop .inv .1, c .loop-test .left);
     }

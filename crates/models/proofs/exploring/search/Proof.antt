@@ -1,5 +1,5 @@
--- `exploring::search` meets its contract: a walk of its MIR. The loop's invariant is that the search is at the cursor, and its measure
--- is how much may still be followed. Of `step_at` and `follow` it knows the contract alone. Assumes nothing.
+-- `exploring::search` meets its contract: a walk of its MIR. The loop's invariant is that of the search at the cursor, and its measure
+-- is how much may still be followed. Of `nth_step` and `follow` it knows the contract alone. Assumes nothing.
 use mathlib.Core.Path.{refl}
 use mathlib.Core.List.{[], _∷_}
 use lib.ListN.{length}
@@ -42,21 +42,23 @@ use Rattle.models.proofs.exploring.search.Statement as stated
 use Rattle.models.proofs.exploring.search.Code as code
 use Rattle.models.proofs.exploring.search.Proof.Invariant as state
 use Rattle.models.proofs.exploring.search.Proof.Invariant.{State, steps, vals, stayed}
-use Rattle.models.proofs.exploring.search.Proof.Calling.{StepAt, Follow}
-use Rattle.models.proofs.exploring.search.Proof.Iteration as index
+use Rattle.models.proofs.exploring.search.Proof.Calling.{NthStep, Follow}
+use Rattle.models.proofs.exploring.search.Proof.Iteration as iteration
 mod Invariant
 mod Calling
 mod Iteration
 
+-- ---- the walk
+
 module _ {M : Type 1} (𝓤 : URA M) (H : Heap 𝓤) (A : Atoms 𝓤) (W : Given 𝓤 H A) (mem : Memory → SProp 𝓤) (run : Routine → Fun 𝓤) (𝓣 : Tables 𝓤 H)
-    (known-nth-step : Triple 𝓤 (𝓣 .C #nth-step) (StepAt 𝓤 H A mem run))
+    (known-nth-step : Triple 𝓤 (𝓣 .C #nth-step) (NthStep 𝓤 H A mem run))
     (known-follow : Triple 𝓤 (𝓣 .C #follow) (Follow 𝓤 H A mem run)) where
   module _ (κs : Lfts 6) (qs : Shares 6) (a : Args search.signature κs) (steps-room : Room step.R (length (steps κs a .now)))
       (rooms : Rooms (a .1 .1)) (from-is : Is (struct.row-of the-cursor) (state.from κs a) (struct.vals the-cursor (state.from κs a)))
       (begun : AtStart (a .1 .1) (steps κs a .now) (state.from κs a)) where
     -- where the loop begins
     abbrev start : State κs a
-    start = record { at = state.from κs a; marks = seen (a .1 .1) .now; queue = pairs (a .1 .1) .now; searching = begun; cursor-is = from-is }
+    start = record { at = state.from κs a; seen-now = seen (a .1 .1) .now; pairs-now = pairs (a .1 .1) .now; searching = begun; cursor-is = from-is }
 
     walk : ent 𝓤 (onEntry 𝓤 H A search.signature κs qs a (vals κs a))
         (WpFn 𝓤 H (𝓣 .C) (𝓣 .Λ) code.function (flat (typesAt (search.signature .params) κs) (vals κs a)) (state.Post 𝓤 H A W mem run κs qs a))
@@ -75,10 +77,12 @@ module _ {M : Type 1} (𝓤 : URA M) (H : Heap 𝓤) (A : Atoms 𝓤) (W : Given
         passes-slice ! 16 refl (rooms .pairs-room .0) $ pass0 ! $
         sets-local ! (of-opd ! (reads-local ! 26 refl)) 14 refl (struct.typed the-cursor 𝓤 H A W (state.from κs a) _ from-is) $
         move ! (32 ∷ []) $ use1 W (raw (⋆ 𝓤 H A (state.Owned 𝓤 H A W mem run κs qs a (seen (a .1 .1) .now) (pairs (a .1 .1) .now))))
-        (state.begins 𝓤 H A W mem run κs qs a) $
-        index.loops-out 𝓤 H A W mem run κs qs a begun (rooms .seen-room)
+        (state.entry-owned 𝓤 H A W mem run κs qs a) $
+        iteration.loop-and-rest 𝓤 H A W mem run κs qs a begun (rooms .seen-room)
         (rooms .pairs-room) l₀ l₁ l₂ l₃ l₄ l₅ l₆ l₇ l₈ l₉ l₁₀ l₁₁ l₁₂ l₁₃ l₁₄ l₁₅ 𝓣 known-nth-step known-follow
         start))))))))))))))))
+
+-- ---- the contract
 
 pub search-spec : {M : Type 1} → stated.statement M
 unfolding code.routine tablesOf
@@ -104,7 +108,7 @@ search-spec 𝓤 H 𝓜 𝓖 𝓡 =
     )
     (λ κs. (shr-slice-tells (named 0) (κs .0) step.R, (struct.tells the-cursor, slices-tell 1 (κs .1))))
     (λ κs qs bounds a g are. needs 𝓤 _ _ (walk 𝓤 H (𝓖 .A) W (𝓜 .mem) (𝓡 .run) (tablesOf 𝓤 H 𝓜 (tables 𝓤 H 𝓜 𝓡 code.env))
-    (cited 𝓤 H (StepAt 𝓤 H (𝓖 .A) (𝓜 .mem) (𝓡 .run)) 𝓜 𝓡 code.env #nth-step nth-step-def.routine code.calls-models·steps·nth-step
+    (cited 𝓤 H (NthStep 𝓤 H (𝓖 .A) (𝓜 .mem) (𝓡 .run)) 𝓜 𝓡 code.env #nth-step nth-step-def.routine code.calls-models·steps·nth-step
     (nth-step-thm.met 𝓤 H 𝓜 𝓖 𝓡))
     (cited 𝓤 H (Follow 𝓤 H (𝓖 .A) (𝓜 .mem) (𝓡 .run)) 𝓜 𝓡 code.env #follow follow-def.routine code.calls-models·exploring·follow
     (follow-thm.met 𝓤 H 𝓜 𝓖 𝓡)) κs qs a

@@ -53,6 +53,8 @@ use Rattle.models.proofs.exploring.search_array.Proof.Lending as lendin
 use Rattle.models.proofs.exploring.search_array.Proof.Lending.{stayed, list, vals, Loan, Search}
 mod Lending
 
+-- ---- the walk
+
 module _ {M : Type 1} (𝓤 : URA M) (H : Heap 𝓤) (A : Atoms 𝓤) (W : Given 𝓤 H A) (mem : Memory → SProp 𝓤) (run : Routine → Fun 𝓤)
     (C : Calls 𝓤 H) (Λ : Loops 𝓤 H) (fm : FmC 𝓤 H (W .laws) C) (known : Triple 𝓤 (C #search) (Search 𝓤 H A mem run)) where
   walk : (κs : Lfts 5) (qs : Shares 5) (a : Args search-array.signature κs) → Is step.AR (list κs a) (step.array-low (list κs a) ∷ [])
@@ -84,7 +86,7 @@ module _ {M : Type 1} (𝓤 : URA M) (H : Heap 𝓤) (A : Atoms 𝓤) (W : Given
       move ! (30 ∷ 12 ∷ []) $
       use2 W (later (some (λ (n : Loan). raw (Search 𝓤 H A mem run .pre (lending.to-search 𝓤 H A W mem run κs qs a l₈ n))
       ⊛ ‵ (lending.Claim 𝓤 H A W mem run κs qs a l₈ n))))
-      (lending.lends 𝓤 H A W mem run κs qs a begun long l₈) $ await ! tt $ pick ! (λ n. split ! $
+      (lending.lends-to-search 𝓤 H A W mem run κs qs a begun long l₈) $ await ! tt $ pick ! (λ n. split ! $
       -- [what search asks; the claim; _14; …; _13; …; _9; …; what frees _8; _7; …; _0; …]
       calls-at ! fm (Search 𝓤 H A mem run) known (lending.to-search 𝓤 H A W mem run κs qs a l₈ n)
       (and-then ! (reads-local ! 10 refl)
@@ -94,13 +96,15 @@ module _ {M : Type 1} (𝓤 : URA M) (H : Heap 𝓤) (A : Atoms 𝓤) (W : Given
       (and-then ! (reads-local ! 2 refl) (no-more !)))))))) (λ w.
       use2 W (later (given (Holds (hasTy tyBool w) × WT w)
       (‵ (lending.Cell 𝓤 H A W mem run κs qs a l₈) ⊛ raw (lending.Post 𝓤 H A W mem run κs qs a w))))
-      (lending.returned 𝓤 H A W mem run κs qs a long l₈ n w) $ await ! tt $ learn ! (λ typed. split ! $
+      (lending.regained-from-search 𝓤 H A W mem run κs qs a long l₈ n w) $ await ! tt $ learn ! (λ typed. split ! $
       -- [_8; the post; _14; …; _13; …; _9; …; what frees _8; _7; …; _0; …]
       land ! (from ! (stop !)) (init ! 29 refl typed) $ returns ! (look ! 29 refl) $
       frees-cell ! 29 29 refl refl $ frees-cell ! 27 27 refl refl $ frees-cell ! 25 25 refl refl $ frees-cell ! 23 23 refl refl $
       frees-cell ! 21 21 refl refl $ frees-cell ! 19 19 refl refl $ frees-cell ! 17 17 refl refl $ frees-cell ! 15 15 refl refl $
       frees-cell ! 0 13 refl refl $ frees-cell ! 11 11 refl refl $ frees-cell ! 9 9 refl refl $ frees-cell ! 7 7 refl refl $
       frees-cell ! 5 5 refl refl $ frees-cell ! 3 3 refl refl $ frees-cell ! 1 1 refl refl $ free0 ! $ done !))))))))))))))))))
+
+-- ---- the contract
 
 pub search-array-spec : {M : Type 1} → stated.statement M
 unfolding code.routine tablesOf

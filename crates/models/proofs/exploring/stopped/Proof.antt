@@ -1,4 +1,4 @@
--- `exploring::stopped` meets its contract.
+-- `exploring::stopped` meets its contract: it returns that very cursor.
 use mathlib.Core.Path.{refl}
 use Rattle.models.proofs.exploring.stopped.Statement.{statement}
 use Rattle.models.proofs.exploring.stopped.Tie as tie

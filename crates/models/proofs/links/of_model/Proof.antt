@@ -1,27 +1,31 @@
--- `links::of_model` meets its contract. The steps passed are linked; the measure is how many are left.
+-- `links::of_model` meets its contract. The invariant is that the steps passed are chained; the measure is how many are left.
 use Prim.Native.Nat.{_-_, _≤_}
 use native.Mathlib.Omega.{arith}
 use lib.ListN.{getD}
 use borrow.Author.Needs.{needs}
 use Rattle.models.specs.Phone.{noStep, WellFormedStep}
 use Rattle.models.specs.Exploring.{linksOf}
-use Rattle.models.proofs.Pairs.LinkLaws.{stored-step, stored-few, LinkedSoFar, linked-none, linked-next, linked-stored}
+use Rattle.models.proofs.Pairs.LinkLaws.{stored-step, stored-few, ChainsSoFar, chains-none, chains-next, chains-stored}
 use Rattle.models.proofs.links.of_model.Statement.{statement}
 use Rattle.models.proofs.links.of_model.Tie as tie
 
+-- ---- the loop
+
 abbrev Inv-loop : tie.InvT-loop
-Inv-loop steps n last₀ earlier₀ i₀ last earlier i = (i ≤ n) × (n ≤ 512) × LinkedSoFar steps i (linksOf last earlier)
+Inv-loop steps n last₀ earlier₀ i₀ last earlier i = (i ≤ n) × (n ≤ 512) × ChainsSoFar steps i (linksOf last earlier)
 
 abbrev μ-loop : tie.MeasureT-loop
 μ-loop steps n last₀ earlier₀ i₀ last earlier i = n - i
 
--- the step that a turn links
+-- the step that an iteration chains
 step-taken : (c : tie.After-struct-known Inv-loop μ-loop) → let l = c .before .before .before in
     WellFormedStep 64 (getD (l .before .before .args .model .steps) (l .loop .i) noStep)
 step-taken c = let l = c .before .before .before in stored-step (l .before .before .pre) (l .loop .i)
 
 loop-holds : tie.Need-loop-holds Inv-loop μ-loop
-loop-holds c = (omega arith, stored-few (c .before .pre), linked-none (c .before .args .model .steps))
+loop-holds c = (omega arith, stored-few (c .before .pre), chains-none (c .before .args .model .steps))
+
+-- ---- an iteration
 
 mul-step : tie.Need-mul-step Inv-loop μ-loop
 mul-step c = search needs
@@ -63,12 +67,14 @@ loop-less : tie.Need-loop-less Inv-loop μ-loop
 loop-less c = search needs
 
 loop-again : tie.Need-loop-again Inv-loop μ-loop
-loop-again c = let l = c .before .before .before in (search needs, search needs, linked-next (l .loop .inv .2) (step-taken c) (search needs))
+loop-again c = let l = c .before .before .before in (search needs, search needs, chains-next (l .loop .inv .2) (step-taken c) (search needs))
+
+-- ---- the return
 
 returns : tie.Need-returns Inv-loop μ-loop
 returns c =
     let l = c .before in
-    (linked-stored (l .loop .inv .2 .links) (omega (arith, l .loop .inv .0, c .loop-test .left)), l .loop .inv .2 .ranges)
+    (chains-stored (l .loop .inv .2 .chains) (omega (arith, l .loop .inv .0, c .loop-test .left)), l .loop .inv .2 .ranges)
 
 pub of-model-spec : {M : Type 1} → statement M
 of-model-spec =

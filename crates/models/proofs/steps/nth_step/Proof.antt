@@ -1,4 +1,4 @@
--- `steps::step_at` meets its contract: a walk of its MIR. The record at i lies six times i bytes past the slice's pointer, and is
+-- `steps::nth_step` meets its contract: a walk of its MIR. The record at i lies six times i bytes past the slice's pointer, and is
 -- copied from there. The code checks no bound: the contract asks for it. Assumes nothing.
 use mathlib.Core.Path.{refl, sym}
 use Prim.Native.Nat.{ℕ, _<_, _*_, _^_}
@@ -45,6 +45,8 @@ use Rattle.models.proofs.steps.nth_step as nth-step
 use Rattle.models.proofs.steps.nth_step.Statement as stated
 use Rattle.models.proofs.steps.nth_step.Code as code
 
+-- ---- the values and the exit
+
 abbrev stayed : Stays (nth-step.ended .signature .params) (nth-step.ended .kept)
 stayed = (stay-none-slice (0 ∷ []) tt (plain (λ _. R)) yes, (stay-none (λ _. usize) yes, tt))
 
@@ -75,6 +77,8 @@ module _ {M : Type 1} (𝓤 : URA M) (H : Heap 𝓤) (A : Atoms 𝓤) (W : Given
       nothing ! $ move ! (1 ∷ 0 ∷ []) $ join ! $ nothing ! $ move ! (3 ∷ 0 ∷ []) $ fjoin ! $ move ! (2 ∷ 0 ∷ []) $ fjoin ! $ move ! (1 ∷ 0 ∷ []) $
       frame ! $ frame ! $ owned ! R (Is R) (makes the-step 𝓤 H A) elem _ g $ done !
 
+  -- ---- the walk
+
   module _ (C : Calls 𝓤 H) (Λ : Loops 𝓤 H) where
     walk : Room R (length ys) → i < 2 ^ 64 → i < length ys → ent 𝓤 (onEntry 𝓤 H A nth-step.signature (κ, tt) (q, tt) x at)
         (WpFn 𝓤 H C Λ code.function (sliceVal (b, o) (length ys) ∷ vint w64 i ∷ []) Post)
@@ -100,6 +104,8 @@ module _ {M : Type 1} (𝓤 : URA M) (H : Heap 𝓤) (A : Atoms 𝓤) (W : Given
         returns ! (look ! 16 refl) $ frees-cell ! 16 16 refl refl $ frees-cell ! 14 14 refl refl $ frees-cell ! 12 12 refl refl $
         frees-cell ! 10 10 refl refl $ frees-cell ! 8 8 refl refl $ frees-cell ! 6 6 refl refl $ free0 ! $
         move ! (3 ∷ 1 ∷ []) $ fjoin ! $ move ! (3 ∷ 0 ∷ []) $ fjoin ! $ move ! (3 ∷ []) $ fsplit ! $ keep ! (3 ∷ 2 ∷ 0 ∷ []) $ by ! (exits g)))))))))
+
+-- ---- the contract
 
 pub nth-step-spec : {M : Type 1} → stated.statement M
 unfolding code.routine

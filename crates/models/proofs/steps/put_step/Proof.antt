@@ -48,6 +48,8 @@ use Rattle.models.proofs.steps.put_step as put-step
 use Rattle.models.proofs.steps.put_step.Statement as stated
 use Rattle.models.proofs.steps.put_step.Code as code
 
+-- ---- the values and the exit
+
 abbrev stayed : Stays (put-step.ended .signature .params) (put-step.ended .kept)
 stayed = (stay-slice (0 ∷ []) tt (plain (λ _. R)), (stay-none (λ _. usize) yes, (stay-none (λ _. R) yes, tt)))
 
@@ -84,6 +86,8 @@ module _ {M : Type 1} (𝓤 : URA M) (H : Heap 𝓤) (A : Atoms 𝓤) (W : Given
       pureI ! (at-slice R y (at .0)) (tt, (tt, tt)) (ap (λ (m : ℕ). sliceVal (b, o) m ∷ []) (sym same), subst (Room R) (sym same) gn) $
       fjoin ! $ fjoin ! $ frame ! $ feqI ! (List Val) (vunit ∷ []) (vunit ∷ []) refl $ done !
 
+  -- ---- the walk
+
   module _ (C : Calls 𝓤 H) (Λ : Loops 𝓤 H) where
     walk : Room R (length ys) → i < 2 ^ 64 → Is R s (low the-step s ∷ []) → i < length ys
         → ent 𝓤 (onEntry 𝓤 H A put-step.signature (κ, tt) (q, tt) x at)
@@ -115,6 +119,8 @@ module _ {M : Type 1} (𝓤 : URA M) (H : Heap 𝓤) (A : Atoms 𝓤) (W : Given
         sets-local ! (of-opd ! (unit-lit !)) 16 refl (tt, tt) $ returns ! (look ! 16 refl) $
         frees-cell ! 16 16 refl refl $ frees-cell ! 14 14 refl refl $ frees-cell ! 12 12 refl refl $ frees-cell ! 10 10 refl refl $
         frees-cell ! 8 8 refl refl $ frees-cell ! 6 6 refl refl $ free0 ! $ keep ! (0 ∷ 1 ∷ 2 ∷ 5 ∷ []) $ by ! (exits gn))))))))
+
+-- ---- the contract
 
 pub put-step-spec : {M : Type 1} → stated.statement M
 unfolding code.routine

@@ -1,4 +1,4 @@
--- Where the loop of `search` is: the values and the facts that a turn begins with, and what is owned then. What is owned where no step is left
+-- Where the loop of `search` is: the values and the facts that an iteration begins with, and what is owned then. What is owned where no step is left
 -- gives the function's own `post`. Assumes `Given`.
 use mathlib.Core.Path.{_≡_, refl, _∙_, sym}
 use Prim.Native.Nat.{ℕ}
@@ -26,7 +26,7 @@ use denote.Signature.{plain}
 use denote.Steps.{nothing, owned}
 use denote.Triple.Entry.{Args, Vals, onEntry}
 use denote.Triple.Walked.{says, Stays, stay-slice, walkOf, ends-at}
-use Rattle.models.specs.Searching.{Searching, remaining}
+use Rattle.models.specs.Searching.{Searching, searchMeasure}
 use Rattle.models.specs.declared.Step.{Step}
 use Rattle.models.specs.declared.exploring.Cursor.{Cursor}
 use Rattle.models.proofs.Compiled.Slices.{slice-at}
@@ -36,6 +36,8 @@ use Rattle.models.proofs.Compiled.Exits.{unsaid}
 use Rattle.models.proofs.Compiled.SearchSlices.{AtStart, slice-rows, Tokens, five-dropped, the-cursor}
 use Rattle.models.proofs.Compiled.SearchSlices.{last, earlier, table, seen, pairs, links, slices-vals}
 use Rattle.models.proofs.exploring.search as search
+
+-- ---- the values and the facts
 
 -- at exit nothing is had of what is shared or plain
 abbrev pub stayed : Stays (search.ended .signature .params) (search.ended .kept)
@@ -51,25 +53,27 @@ module _ (κs : Lfts 6) (a : Args search.signature κs) where
   abbrev pub vals : Vals search.signature κs
   vals = (slice-vals steps, (struct.vals the-cursor from, slices-vals (a .1 .1)))
 
-  -- what a turn begins with
+  -- what an iteration begins with
   pub record State : Type 0 where
     pub at : Cursor
-    pub marks : List ℕ
-    pub queue : List ℕ
-    pub searching : Searching (steps .now) (links (a .1 .1)) (table (a .1 .1) .now) marks queue at
+    pub seen-now : List ℕ
+    pub pairs-now : List ℕ
+    pub searching : Searching (steps .now) (links (a .1 .1)) (table (a .1 .1) .now) seen-now pairs-now at
     pub cursor-is : Is (struct.row-of the-cursor) at (struct.vals the-cursor at)
 
-  -- how much may still be followed
+  -- the measure
   abbrev pub left : State → ℕ
-  left t = remaining (t .at)
+  left t = searchMeasure (t .at)
 
   -- both lists are as long as they were
   module _ (begun : AtStart (a .1 .1) (steps .now) from) (t : State) where
-    pub marks-length : length (t .marks) ≡ length (seen (a .1 .1) .now)
-    marks-length = t .searching .seen-length ∙ sym (begun .seen-length)
+    pub seen-now-length : length (t .seen-now) ≡ length (seen (a .1 .1) .now)
+    seen-now-length = t .searching .seen-length ∙ sym (begun .seen-length)
 
-    pub queue-length : length (t .queue) ≡ length (pairs (a .1 .1) .now)
-    queue-length = t .searching .pairs-length ∙ sym (begun .pairs-length)
+    pub pairs-now-length : length (t .pairs-now) ≡ length (pairs (a .1 .1) .now)
+    pairs-now-length = t .searching .pairs-length ∙ sym (begun .pairs-length)
+
+  -- ---- what is owned
 
   -- what the slices own
   abbrev pub Steps : Fml
@@ -84,27 +88,29 @@ module _ (κs : Lfts 6) (a : Args search.signature κs) where
   abbrev pub Table : Fml
   Table = ShrSlice (named 3) (κs .1 .1 .1 .0) u8 .own (table (a .1 .1)) (slice-vals (table (a .1 .1)))
 
-  abbrev pub Marks : List ℕ → Fml
-  Marks ys = MutSlice (named 4) (κs .1 .1 .1 .1 .0) u8 .own (slice-at (seen (a .1 .1) .ptr) (seen (a .1 .1) .name) ys) (slice-vals (seen (a .1 .1)))
+  abbrev pub SeenSlice : List ℕ → Fml
+  SeenSlice ys = MutSlice (named 4) (κs .1 .1 .1 .1 .0) u8 .own (slice-at (seen (a .1 .1) .ptr) (seen (a .1 .1) .name) ys) (slice-vals (seen (a .1 .1)))
 
-  abbrev pub Queue : List ℕ → Fml
-  Queue ys = MutSlice (named 5) (κs .1 .1 .1 .1 .1 .0) u16 .own (slice-at (pairs (a .1 .1) .ptr) (pairs (a .1 .1) .name) ys)
+  abbrev pub PairsSlice : List ℕ → Fml
+  PairsSlice ys = MutSlice (named 5) (κs .1 .1 .1 .1 .1 .0) u16 .own (slice-at (pairs (a .1 .1) .ptr) (pairs (a .1 .1) .name) ys)
       (slice-vals (pairs (a .1 .1)))
 
 module _ {M : Type 1} (𝓤 : URA M) (H : Heap 𝓤) (A : Atoms 𝓤) (W : Given 𝓤 H A) (mem : Memory → SProp 𝓤) (run : Routine → Fun 𝓤)
     (κs : Lfts 6) (qs : Shares 6) (a : Args search.signature κs) where
-  -- what is owned where a turn begins: the six tokens, and the slices
+  -- where an iteration begins: the six tokens, and the slices
   abbrev pub Owned : List ℕ → List ℕ → List (Item 𝓤)
   Owned ms ps =
       ‵ (flft (κs .0) (qs .0)) ∷ ‵ (flft (κs .1 .0) (qs .1 .0)) ∷ ‵ (flft (κs .1 .1 .0) (qs .1 .1 .0)) ∷ ‵ (flft (κs .1 .1 .1 .0) (qs .1 .1 .1 .0))
       ∷ ‵ (flft (κs .1 .1 .1 .1 .0) (qs .1 .1 .1 .1 .0)) ∷ ‵ (flft (κs .1 .1 .1 .1 .1 .0) (qs .1 .1 .1 .1 .1 .0))
-      ∷ ‵ (Steps κs a) ∷ ‵ (Last κs a) ∷ ‵ (Earlier κs a) ∷ ‵ (Table κs a) ∷ ‵ (Marks κs a ms) ∷ ‵ (Queue κs a ps) ∷ []
+      ∷ ‵ (Steps κs a) ∷ ‵ (Last κs a) ∷ ‵ (Earlier κs a) ∷ ‵ (Table κs a) ∷ ‵ (SeenSlice κs a ms) ∷ ‵ (PairsSlice κs a ps) ∷ []
 
   abbrev pub Post : Val → SProp 𝓤
   Post = walkOf 𝓤 H A search.ended stayed (search.clauses 𝓤 H A mem run) .post ((κs, qs, tt, a, vals κs a), tt)
 
-  pub begins : ent 𝓤 (onEntry 𝓤 H A search.signature κs qs a (vals κs a)) (⋆ 𝓤 H A (Owned (seen (a .1 .1) .now) (pairs (a .1 .1) .now)))
-  begins =
+  -- ---- from the entry, and to the exit
+
+  pub entry-owned : ent 𝓤 (onEntry 𝓤 H A search.signature κs qs a (vals κs a)) (⋆ 𝓤 H A (Owned (seen (a .1 .1) .now) (pairs (a .1 .1) .now)))
+  entry-owned =
       qed W ((‵ (flft (κs .0) (qs .0)) ⊛ Tokens (κs .1) (qs .1))
       ∷ ‵ (owns (ShrSlice (named 0) (κs .0) step.R ∷ struct.row-of the-cursor ∷ slice-rows 1 (κs .1))
       a (vals κs a)) ∷ []) ∵
@@ -112,14 +118,14 @@ module _ {M : Type 1} (𝓤 : URA M) (H : Heap 𝓤) (A : Atoms 𝓤) (W : Given
       fsplit ! $ frame ! $ fsplit ! $ drop ! $ fsplit ! $ frame ! $ fsplit ! $ frame ! $ fsplit ! $ frame ! $ fsplit ! $ frame ! $ fsplit ! $
       move ! (1 ∷ []) $ drop ! $ done !
 
-  -- no step is left
-  pub ends : AtStart (a .1 .1) (steps κs a .now) (from κs a)
-      → (t : State κs a) → t .at .step ≡ 0 → ent 𝓤 (⋆ 𝓤 H A (Owned (t .marks) (t .queue))) (Post (vbool (t .at .dropped)))
-  ends begun t none =
-      qed W (Owned (t .marks) (t .queue)) ∵
+  -- where no step is left
+  pub owned-post : AtStart (a .1 .1) (steps κs a .now) (from κs a)
+      → (t : State κs a) → t .at .step ≡ 0 → ent 𝓤 (⋆ 𝓤 H A (Owned (t .seen-now) (t .pairs-now))) (Post (vbool (t .at .dropped)))
+  owned-post begun t none =
+      qed W (Owned (t .seen-now) (t .pairs-now)) ∵
       suffices ! _ (ends-at 𝓤 H A search.ended stayed (search.clauses 𝓤 H A mem run) W ((κs, qs, tt, a, vals κs a), tt) (vbool (t .at .dropped))
-      (t .at .dropped) (tt, (tt, (tt, (tt, (tt, (t .marks, (t .queue, tt)))))))
-      (tt, (tt, (tt, (tt, (tt, (marks-length κs a begun t, (queue-length κs a begun t, tt)))))))) $ says ! (t .searching .finished none) $
+      (t .at .dropped) (tt, (tt, (tt, (tt, (tt, (t .seen-now, (t .pairs-now, tt)))))))
+      (tt, (tt, (tt, (tt, (tt, (seen-now-length κs a begun t, (pairs-now-length κs a begun t, tt)))))))) $ says ! (t .searching .finished none) $
       nothing ! $ move ! (1 ∷ 2 ∷ 3 ∷ 4 ∷ 5 ∷ 6 ∷ 0 ∷ []) $ group ! 7 $ frame ! $
       -- [steps; last; earlier; table; seen; pairs]
       nothing ! $ move ! (6 ∷ 0 ∷ []) $ fjoin ! $ move ! (5 ∷ 0 ∷ []) $ fjoin ! $ unsaid ! $ unsaid ! $ unsaid ! $ unsaid ! $ unsaid ! $ frame ! $

@@ -1,4 +1,4 @@
--- A turn of `search`'s loop, as its MIR runs: it leaves the loop where no step is left, and else ends where less remains. Assumes `Given`.
+-- An iteration of `search`'s loop, as its MIR runs: it leaves the loop where no step is left, and else ends where the measure is less. Assumes `Given`.
 use mathlib.Core.Path.{_≡_, refl}
 use Prim.Native.Nat.{ℕ, _<_}
 use native.Mathlib.Omega.{arith}
@@ -49,7 +49,9 @@ use Rattle.models.proofs.exploring.search.Code.Mir as mir-of
 use Rattle.models.proofs.exploring.search.Proof.Invariant as state
 use Rattle.models.proofs.exploring.search.Proof.Invariant.{State, steps, left}
 use Rattle.models.proofs.exploring.search.Proof.Calling as calling
-use Rattle.models.proofs.exploring.search.Proof.Calling.{StepAt, Follow, Loans}
+use Rattle.models.proofs.exploring.search.Proof.Calling.{NthStep, Follow, Loans}
+
+-- ---- values and types of slices
 
 -- the one machine value of a slice
 abbrev val : {X : Type 0} → RefT (List X) → Val
@@ -63,30 +65,31 @@ abbrev unique : (i : ℕ) → Ty → Ty
 unique i τ = sliceTy (tyRef (named i) mut τ)
 
 -- a slice that is lent again
-abbrev on : Ty → Ty
-on τ = sliceTy (tyRef erased mut τ)
+abbrev relent : Ty → Ty
+relent τ = sliceTy (tyRef erased mut τ)
 
 module _ {M : Type 1} (𝓤 : URA M) (H : Heap 𝓤) (A : Atoms 𝓤) (W : Given 𝓤 H A) (mem : Memory → SProp 𝓤) (run : Routine → Fun 𝓤)
     (κs : Lfts 6) (qs : Shares 6) (a : Args search.signature κs)
     (begun : AtStart (a .1 .1) (steps κs a .now) (state.from κs a))
-    (marks-room : Room u8 (length (seen (a .1 .1) .now))) (queue-room : Room u16 (length (pairs (a .1 .1) .now)))
+    (seen-room : Room u8 (length (seen (a .1 .1) .now))) (pairs-room : Room u16 (length (pairs (a .1 .1) .now)))
     (l₀ l₁ l₂ l₃ l₄ l₅ l₆ l₇ l₈ l₉ l₁₀ l₁₁ l₁₂ l₁₃ l₁₄ l₁₅ : ℕ) where
-  -- the locals
+  -- ---- the locals where an iteration begins
+
   abbrev pub En : Env 𝓤 H
   En = (tyBool, l₀) ∷ (shared 0 step.behindTy, l₁) ∷ (cursorTy, l₂) ∷ (shared 1 (tyInt w16), l₃) ∷ (shared 2 (tyInt w16), l₄)
       ∷ (shared 3 (tyInt w8), l₅) ∷ (unique 4 (tyInt w8), l₆) ∷ (unique 5 (tyInt w16), l₇) ∷ (cursorTy, l₈) ∷ (tyBool, l₉)
-      ∷ (step.stepTy, l₁₀) ∷ (tyInt w64, l₁₁) ∷ (tyRef erased mut (tyInt w8), l₁₂) ∷ (on (tyInt w8), l₁₃)
-      ∷ (tyRef erased mut (tyInt w16), l₁₄) ∷ (on (tyInt w16), l₁₅) ∷ []
+      ∷ (step.stepTy, l₁₀) ∷ (tyInt w64, l₁₁) ∷ (tyRef erased mut (tyInt w8), l₁₂) ∷ (relent (tyInt w8), l₁₃)
+      ∷ (tyRef erased mut (tyInt w16), l₁₄) ∷ (relent (tyInt w16), l₁₅) ∷ []
 
   abbrev Owned : State κs a → SProp 𝓤
-  Owned t = ⋆ 𝓤 H A (state.Owned 𝓤 H A W mem run κs qs a (t .marks) (t .queue))
+  Owned t = ⋆ 𝓤 H A (state.Owned 𝓤 H A W mem run κs qs a (t .seen-now) (t .pairs-now))
 
-  -- where a turn begins, the last seven are empty
+  -- the last seven are empty
   abbrev pub Inv : State κs a → List (Item 𝓤)
   Inv t = raw (Owned t)
-      ∷ ‵ (froom (on (tyInt w16)) l₁₅ 0) ∷ ‵ (fdies (on (tyInt w16)) l₁₅)
+      ∷ ‵ (froom (relent (tyInt w16)) l₁₅ 0) ∷ ‵ (fdies (relent (tyInt w16)) l₁₅)
       ∷ ‵ (froom (tyRef erased mut (tyInt w16)) l₁₄ 0) ∷ ‵ (fdies (tyRef erased mut (tyInt w16)) l₁₄)
-      ∷ ‵ (froom (on (tyInt w8)) l₁₃ 0) ∷ ‵ (fdies (on (tyInt w8)) l₁₃)
+      ∷ ‵ (froom (relent (tyInt w8)) l₁₃ 0) ∷ ‵ (fdies (relent (tyInt w8)) l₁₃)
       ∷ ‵ (froom (tyRef erased mut (tyInt w8)) l₁₂ 0) ∷ ‵ (fdies (tyRef erased mut (tyInt w8)) l₁₂)
       ∷ ‵ (froom (tyInt w64) l₁₁ 0) ∷ ‵ (fdies (tyInt w64) l₁₁) ∷ ‵ (froom step.stepTy l₁₀ 0) ∷ ‵ (fdies step.stepTy l₁₀)
       ∷ ‵ (froom tyBool l₉ 0) ∷ ‵ (fdies tyBool l₉) ∷ ‵ (fat fullShare cursorTy l₈ 0 (struct.low the-cursor (t .at))) ∷ ‵ (fdies cursorTy l₈)
@@ -99,11 +102,13 @@ module _ {M : Type 1} (𝓤 : URA M) (H : Heap 𝓤) (A : Atoms 𝓤) (W : Given
       ∷ ‵ (fat fullShare (shared 0 step.behindTy) l₁ 0 (val (steps κs a))) ∷ ‵ (fdies (shared 0 step.behindTy) l₁)
       ∷ ‵ (froom tyBool l₀ 0) ∷ ‵ (fdies tyBool l₀) ∷ []
 
-  -- what goes to the two callees in a turn from t
+  -- ---- one iteration
+
+  -- what goes to the two callees in an iteration from t
   abbrev index : State κs a → ℕ
   index t = calling.index 𝓤 H A W mem run κs qs a begun t
 
-  abbrev to-nth-step : State κs a → StepAt 𝓤 H A mem run .Ghost
+  abbrev to-nth-step : State κs a → NthStep 𝓤 H A mem run .Ghost
   to-nth-step t = calling.to-nth-step 𝓤 H A W mem run κs qs a begun t
 
   abbrev to-follow : State κs a → Step → Val → Loans → Follow 𝓤 H A mem run .Ghost
@@ -112,26 +117,26 @@ module _ {M : Type 1} (𝓤 : URA M) (H : Heap 𝓤) (A : Atoms 𝓤) (W : Given
   abbrev Post : Val → SProp 𝓤
   Post = state.Post 𝓤 H A W mem run κs qs a
 
-  module _ (𝓣 : Tables 𝓤 H) (known-nth-step : Triple 𝓤 (𝓣 .C #nth-step) (StepAt 𝓤 H A mem run))
+  module _ (𝓣 : Tables 𝓤 H) (known-nth-step : Triple 𝓤 (𝓣 .C #nth-step) (NthStep 𝓤 H A mem run))
       (known-follow : Triple 𝓤 (𝓣 .C #follow) (Follow 𝓤 H A mem run)) where
-    more : (t : State κs a) → Holds (ltb 0 (t .at .step)) → 0 < t .at .step
-    more t = ltb→lt 0 (t .at .step)
+    step-left : (t : State κs a) → Holds (ltb 0 (t .at .step)) → 0 < t .at .step
+    step-left t = ltb→lt 0 (t .at .step)
 
-    none : (t : State κs a) → Holds (not (ltb 0 (t .at .step))) → t .at .step ≡ 0
-    none t h = omega (arith, nltb→le 0 (t .at .step) h)
+    no-step-left : (t : State κs a) → Holds (not (ltb 0 (t .at .step))) → t .at .step ≡ 0
+    no-step-left t h = omega (arith, nltb→le 0 (t .at .step) h)
 
-    turns : (t : State κs a) → Sq W (Inv t) (runs (𝓣 .C) (𝓣 .Λ) En mir-of.turn-1 (anyQ (afterTurn 𝓤 H (Below 𝓤 H A (Less (left κs a)) Inv t)
+    iteration : (t : State κs a) → Sq W (Inv t) (runs (𝓣 .C) (𝓣 .Λ) En mir-of.turn-1 (anyQ (afterTurn 𝓤 H (Below 𝓤 H A (Less (left κs a)) Inv t)
         (AfterLoop 𝓤 H 𝓣 En mir-of.t-3 Post))))
     unfolding afterTurn
-    turns t =
+    iteration t =
         sets-local ! (bin ! (lit ! tt) (reads-field ! 15 3 refl refl refl) tt) 13 refl (tt, tt) $
         tests ! (reads-local ! 13 refl) (λ some-left.
-        sets-local ! (bin ! (reads-field ! 15 3 refl refl refl) (lit ! tt) (more t some-left)) 9 refl
-        (tt, record { fits = calling.index-fits 𝓤 H A W mem run κs qs a begun t (more t some-left) }) $
-        use1 W (raw (StepAt 𝓤 H A mem run .pre (to-nth-step t)) ⊛ raw (⋆ 𝓤 H A (calling.Beside 𝓤 H A W mem run κs qs a begun t)))
-        (calling.asks 𝓤 H A W mem run κs qs a begun t (more t some-left)) $ split ! $
-        -- [what step_at asks; the rest of what is owned; _15; …; _14; …; _0; …]
-        calls-at ! (fmOf 𝓤 H (W .laws) 𝓣) (StepAt 𝓤 H A mem run) known-nth-step (to-nth-step t)
+        sets-local ! (bin ! (reads-field ! 15 3 refl refl refl) (lit ! tt) (step-left t some-left)) 9 refl
+        (tt, record { fits = calling.index-fits 𝓤 H A W mem run κs qs a begun t (step-left t some-left) }) $
+        use1 W (raw (NthStep 𝓤 H A mem run .pre (to-nth-step t)) ⊛ raw (⋆ 𝓤 H A (calling.Beside 𝓤 H A W mem run κs qs a begun t)))
+        (calling.lends-to-nth-step 𝓤 H A W mem run κs qs a begun t (step-left t some-left)) $ split ! $
+        -- [what nth_step asks; the rest of what is owned; _15; …; _14; …; _0; …]
+        calls-at ! (fmOf 𝓤 H (W .laws) 𝓣) (NthStep 𝓤 H A mem run) known-nth-step (to-nth-step t)
         (and-then ! (reads-local ! 30 refl) (and-then ! (reads-local ! 10 refl) (no-more !))) (λ u.
         use1 W (later (some (λ (s : Step). ((‵ (flft (κs .0) (qs .0)) ⊛ ‵ ftrue) ⊛ ‵ (step.R .own s (u ∷ [])))
         ⊛ some (λ (ws : Lasts nth-step.ended (κs .0, tt) (steps κs a, (index t, tt))).
@@ -142,11 +147,11 @@ module _ {M : Type 1} (𝓤 : URA M) (H : Heap 𝓤) (A : Atoms 𝓤) (W : Given
         peeks ! step.R (Is step.R) (shows 𝓤 H A step.R) s (u ∷ []) (λ step-is.
         -- [the step; the token of steps; the rest; _15; …; _14; …; _0; …]
         land ! (from ! (stop !)) (init ! 13 refl (struct.typed step.the-step 𝓤 H A W s u step-is)) $
-        reborrows ! 21 9 7 refl refl refl refl refl refl refl refl (marks-room .0) $
-        reborrows ! 19 5 3 refl refl refl refl refl refl refl refl (queue-room .0) $
+        reborrows ! 21 9 7 refl refl refl refl refl refl refl refl (seen-room .0) $
+        reborrows ! 19 5 3 refl refl refl refl refl refl refl refl (pairs-room .0) $
         use3 W (later (some (λ (n : Loans). raw (Follow 𝓤 H A mem run .pre (to-follow t s u n))
         ⊛ raw (⋆ 𝓤 H A (calling.Left 𝓤 H A W mem run κs qs a begun t n)))))
-        (calling.lends 𝓤 H A W mem run κs qs a begun t s u is (more t some-left)) $ await ! tt $ pick ! (λ n. split ! $
+        (calling.lends-to-follow 𝓤 H A W mem run κs qs a begun t s u is (step-left t some-left)) $ await ! tt $ pick ! (λ n. split ! $
         -- [what follow asks; what is left; _15; …; _14; …; _0; …]
         calls-at-last ! (fmOf 𝓤 H (W .laws) 𝓣) (Follow 𝓤 H A mem run) known-follow (to-follow t s u n)
         (and-then ! (reads-local ! 16 refl)
@@ -155,7 +160,7 @@ module _ {M : Type 1} (𝓤 : URA M) (H : Heap 𝓤) (A : Atoms 𝓤) (W : Given
         (and-then ! (reads-local ! 22 refl) (and-then ! (reads-local ! 6 refl)
         (and-then ! (reads-local ! 2 refl) (no-more !)))))))) (λ w.
         use2 W (later (some (λ (t′ : State κs a). given (Less (left κs a) t′ t × (w ≡ struct.low the-cursor (t′ .at))) (raw (Owned t′)))))
-        (calling.backs 𝓤 H A W mem run κs qs a begun t s u is marks-room queue-room n w) $ await ! tt $ pick ! (λ t′. learn ! (λ then.
+        (calling.regained-from-follow 𝓤 H A W mem run κs qs a begun t s u is seen-room pairs-room n w) $ await ! tt $ pick ! (λ t′. learn ! (λ then.
         land-last ! (from ! (stop !)) (store-as ! 15 refl (then .1) (struct.typed the-cursor 𝓤 H A W (t′ .at) _ (t′ .cursor-is))) $
         forget ! 1 refl $ forget ! 3 refl $ forget ! 5 refl $ forget ! 7 refl $ forget ! 9 refl $ forget ! 11 refl $ forget ! 13 refl $
         again ! (Less (left κs a)) Inv t t′ (then .0)))))))))))
@@ -166,8 +171,8 @@ module _ {M : Type 1} (𝓤 : URA M) (H : Heap 𝓤) (A : Atoms 𝓤) (W : Given
         frees-cell ! 17 17 refl refl $ frees-cell ! 15 15 refl refl $ frees-cell ! 13 13 refl refl $ frees-room ! 11 11 refl refl $
         frees-room ! 9 9 refl refl $ frees-room ! 7 7 refl refl $ frees-room ! 5 5 refl refl $ frees-room ! 3 3 refl refl $
         frees-room ! 1 1 refl refl $
-        free0 ! $ by ! (state.ends 𝓤 H A W mem run κs qs a begun t (none t none-left)))
+        free0 ! $ by ! (state.owned-post 𝓤 H A W mem run κs qs a begun t (no-step-left t none-left)))
 
     -- the loop, and what comes after it
-    pub loops-out : (t : State κs a) → Sq W (Inv t) (runs (𝓣 .C) (𝓣 .Λ) En mir-of.t-2 (atRet En Post))
-    loops-out t = loops-down ! 𝓣 (left κs a) Inv turns t
+    pub loop-and-rest : (t : State κs a) → Sq W (Inv t) (runs (𝓣 .C) (𝓣 .Λ) En mir-of.t-2 (atRet En Post))
+    loop-and-rest t = loops-down ! 𝓣 (left κs a) Inv iteration t

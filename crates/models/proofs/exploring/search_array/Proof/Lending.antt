@@ -48,6 +48,8 @@ use Rattle.models.proofs.Compiled.SearchSlices.{AtStart, slice-rows, To
 use Rattle.models.proofs.exploring.search as search
 use Rattle.models.proofs.exploring.search_array as search-array
 
+-- ---- the values
+
 -- at exit nothing is had of what is shared or plain, and the other two slices have been given up
 abbrev pub stayed : Stays (search-array.ended .signature .params) (search-array.ended .kept)
 stayed = five-dropped (gave-slice (3 ∷ []) tt (plain (λ _. u8))) (gave-slice (4 ∷ []) tt (plain (λ _. u16)))
@@ -80,6 +82,8 @@ module _ {M : Type 1} (𝓤 : URA M) (H : Heap 𝓤) (A : Atoms 𝓤) (W : Given
   abbrev pub Post : Val → SProp 𝓤
   Post = walkOf 𝓤 H A search-array.ended stayed (search-array.clauses 𝓤 H A mem run) .post ((κs, qs, tt, a, vals κs a), tt)
 
+  -- ---- lending the array
+
   -- what the parameters after the array own
   abbrev Others : Fml
   Others = owns (struct.row-of the-cursor ∷ slice-rows 0 κs) (a .1) (vals κs a .1)
@@ -99,14 +103,14 @@ module _ {M : Type 1} (𝓤 : URA M) (H : Heap 𝓤) (A : Atoms 𝓤) (W : Given
 
   module _ (begun : AtStart (a .1 .1) (list κs a) (a .1 .0))
       (long : length (list κs a) ≡ 512) where
-    goes : (b : ℕ) (n : Loan) → ent 𝓤 (⋆ 𝓤 H A (‵ (flft (n .0 ∷ []) fullShare) ∷ Tokens κs qs ∷ ‵ (Slice b n) ∷ ‵ Others ∷ []))
+    pre-search : (b : ℕ) (n : Loan) → ent 𝓤 (⋆ 𝓤 H A (‵ (flft (n .0 ∷ []) fullShare) ∷ Tokens κs qs ∷ ‵ (Slice b n) ∷ ‵ Others ∷ []))
         (Search 𝓤 H A mem run .pre (to-search b n))
-    goes b n =
+    pre-search b n =
         qed W (‵ (flft (n .0 ∷ []) fullShare) ∷ Tokens κs qs ∷ ‵ (Slice b n) ∷ ‵ Others ∷ []) ∵ says ! begun $ join ! $ frame ! $ fjoin ! $ done !
 
-    pub lends : (b : ℕ) → ent 𝓤 (sep 𝓤 (onEntry 𝓤 H A search-array.signature κs qs a (vals κs a)) (sem 𝓤 H A (Cell b)))
+    pub lends-to-search : (b : ℕ) → ent 𝓤 (sep 𝓤 (onEntry 𝓤 H A search-array.signature κs qs a (vals κs a)) (sem 𝓤 H A (Cell b)))
         (H .⇛ (ex 𝓤 (λ (n : Loan). sep 𝓤 (Search 𝓤 H A mem run .pre (to-search b n)) (sem 𝓤 H A (Claim b n)))))
-    lends b =
+    lends-to-search b =
         qed W ((Tokens κs qs ⊛ ‵ (owns (typesAt (search-array.signature .params) κs) a (vals κs a))) ∷ ‵ (Cell b) ∷ []) ∵ updating ! $ split ! $
         move ! (1 ∷ []) $ fsplit ! $
         move ! (3 ∷ 0 ∷ []) $ use2 W (‵ (arr-parts (shares step.R) 512 .part fullShare (list κs a) b 0)) (step.lies 𝓤 H A W (list κs a) b) $
@@ -118,7 +122,9 @@ module _ {M : Type 1} (𝓤 : URA M) (H : Heap 𝓤) (A : Atoms 𝓤) (W : Given
         await ! tt $ pick ! (λ γ. split ! $ at-once ! $
         show ! (λ (n : Loan). sep 𝓤 (Search 𝓤 H A mem run .pre (to-search b n)) (sem 𝓤 H A (Claim b n))) (α, γ) $
         -- [the slice; the claim; α; the others; the tokens]
-        move ! (2 ∷ 4 ∷ 0 ∷ 3 ∷ []) $ group ! 4 $ use1 W (raw (Search 𝓤 H A mem run .pre (to-search b (α, γ)))) (goes b (α, γ)) $ frame ! $ done !))
+        move ! (2 ∷ 4 ∷ 0 ∷ 3 ∷ []) $ group ! 4 $ use1 W (raw (Search 𝓤 H A mem run .pre (to-search b (α, γ)))) (pre-search b (α, γ)) $ frame ! $ done !))
+
+  -- ---- having it back
 
   exits : (z : Bool) (w : Val) (ms ps : List ℕ) → Searched (list κs a) (links (a .1 .1)) (table (a .1 .1) .now) z
       → length ms ≡ length (seen (a .1 .1) .now)
@@ -142,10 +148,10 @@ module _ {M : Type 1} (𝓤 : URA M) (H : Heap 𝓤) (A : Atoms 𝓤) (W : Given
       ⊛ some (λ (ends : Ends b n). ‵ (lasts search.ended (n .0 ∷ [], κs) (slice κs a b (n .1), a .1) ends) ⊛ raw
       (fact 𝓤 (Searched (list κs a) (links (a .1 .1)) (table (a .1 .1) .now) z)))
 
-  pub returned : length (list κs a) ≡ 512 → (b : ℕ) (n : Loan) (w : Val)
+  pub regained-from-search : length (list κs a) ≡ 512 → (b : ℕ) (n : Loan) (w : Val)
       → ent 𝓤 (sep 𝓤 (Search 𝓤 H A mem run .post (to-search b n) w) (sem 𝓤 H A (Claim b n)))
       (H .⇛ (guard 𝓤 (Holds (hasTy tyBool w) × WT w) (sep 𝓤 (sem 𝓤 H A (Cell b)) (Post w))))
-  returned long b n w =
+  regained-from-search long b n w =
       qed W (later (some (Got b n w)) ∷ ‵ (Claim b n) ∷ []) ∵ updating ! $ await ! tt $
       pick ! (λ z. split ! $ move ! (1 ∷ []) $ pick ! (λ ends. split ! $ move ! (1 ∷ []) $
       heard ! (Searched (list κs a) (links (a .1 .1)) (table (a .1 .1) .now) z) (λ e.
