@@ -5,7 +5,7 @@ use native.Mathlib.Omega.{arith}
 use Rattle.synthesis.specs.Monitor.{Answer, dropped, next, cases}
 use Rattle.enforcement.specs.Model.{Response, passed, suppressed, suppressing, PassesKept}
 
--- what is silenced is dropped
+-- what is suppressed is dropped
 pub suppressed-dropped : {E : Type 0} (respond : E → ℕ → Response E) (answer : E → ℕ → Answer E) → PassesKept respond answer
     → (e : E) (c : ℕ) → respond e c ≡ suppressed → answer e c ≡ dropped
 suppressed-dropped {E} respond answer same e c q = on (answer e c) refl
@@ -14,7 +14,7 @@ suppressed-dropped {E} respond answer same e c q = on (answer e c) refl
     on dropped h = h
     on (next x) h = let p = same e x c .1 h in absurd (let z : _≡_ {A = ℕ} 0 1 = cc in omega arith)
 
--- what is dropped is silenced by suppression
+-- what is dropped is suppressed by suppression
 pub dropped-suppressed : {E : Type 0} (answer : E → ℕ → Answer E) (e : E) (c : ℕ) → answer e c ≡ dropped → suppressing answer e c ≡ suppressed
 dropped-suppressed answer e c q = rw q
 

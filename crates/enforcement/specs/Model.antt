@@ -110,12 +110,12 @@ Bisimilar m n = (R : m .State → n .State → Type 0) × Bisimulation m n R × 
 
 -- The field calls this the composition of a system with a suppression monitor, or a monitored system.
 
--- What becomes of a code step of the model: it is passed and the monitor goes to an equation, or it is silenced and the equation stays.
+-- What becomes of a code step of the model: it is passed and the monitor goes to an equation, or it is suppressed and the equation stays.
 pub data Response (E : Type 0) : Type 0 where
   passed : E → Response E
   suppressed : Response E
 
--- Suppression: what is dropped is silenced, and nothing else.
+-- Suppression: what is dropped is suppressed, and nothing else.
 abbrev pub suppressing : {E : Type 0} → (answer : E → ℕ → Answer E) → E → ℕ → Response E
 suppressing answer e c = cases (answer e c) suppressed passed
 

@@ -89,7 +89,7 @@ module _ (table : List ℕ) (room : 32768 ≤ length table) where
   six-passed : respond 0 6 ≡ passed 1
   six-passed = rw (never-row table room)
 
-  -- 5 is silenced and the equation stays, then 6 is passed
+  -- 5 is suppressed and the equation stays, then 6 is passed
   shown : Walk (behind neverFile table (modelOf shorteningPhone)) (0, 0) (6 ∷ []) (2, 1)
   shown =
       let steps = shorteningPhone .steps in
