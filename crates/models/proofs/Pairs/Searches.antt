@@ -20,7 +20,7 @@ use Rattle.models.specs.declared.Step.{Step}
 use Rattle.models.specs.declared.PhoneModel.{PhoneModel}
 use Rattle.models.specs.declared.links.Links.{Links}
 use Rattle.models.specs.declared.exploring.Cursor.{Cursor}
-use Rattle.models.proofs.Pairs.FoundPairs.{found-at-most}
+use Rattle.models.proofs.Pairs.WorklistLaws.{found-at-most}
 use Rattle.models.proofs.Pairs.Chains.{chain-empty}
 use Rattle.models.proofs.Pairs.LinkLaws.{stored-alike, stored-step, stored-length}
 use Rattle.models.proofs.Pairs.Leading.{leads-inside, row-in-range}

@@ -11,7 +11,7 @@ use Rattle.models.specs.Exploring.{leadsTo, linksOf}
 use Rattle.models.specs.Searching.{searchMeasure, rowAt, SearchInvariant}
 use Rattle.models.specs.declared.Step.{Step}
 use Rattle.models.specs.declared.exploring.Cursor.{Cursor}
-use Rattle.models.proofs.Pairs.FoundPairs.{found-at-most}
+use Rattle.models.proofs.Pairs.WorklistLaws.{found-at-most}
 use Rattle.models.proofs.Pairs.Searches.{index-inside, index-before, worklist, row-inside, label-inside, target-inside, next-inside}
 use Rattle.models.proofs.Pairs.Searches.{followed-dropped, followed-on, followed-next}
 use Rattle.models.proofs.exploring.follow.Statement.{statement}

@@ -1,7 +1,7 @@
 -- `exploring::never_drops` meets its contract: the invariant of the search holds at its first cursor, and its end says what is asked.
 use native.Mathlib.Omega.{arith}
 use borrow.Author.Needs.{needs}
-use Rattle.models.proofs.Pairs.FoundPairs.{found-at-most, worklist-none}
+use Rattle.models.proofs.Pairs.WorklistLaws.{found-at-most, worklist-none}
 use Rattle.models.proofs.Pairs.Searches.{invariant-start, stored-searched}
 use Rattle.models.proofs.exploring.never_drops.Statement.{statement}
 use Rattle.models.proofs.exploring.never_drops.Tie as tie
