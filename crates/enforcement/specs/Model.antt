@@ -60,7 +60,7 @@ InVariable (X ∷ Xs) (suc d) s = InVariable Xs d s
 -- `covered p c`: pattern p covers the code c.
 module _ (m : Model) (covered : (pattern code : ℕ) → Bool) where
   -- The state s satisfies f. Max is the greatest fixed point: s is in some set whose states all satisfy the body with this set for the variable.
-  -- `Lift` makes a statement of Type 0 one of Type 1, as a statement about some set is.
+  -- That there is such a set is a statement of Type 1; `Lift` makes one of Type 1 of the two that are smaller.
   abbrev pub StateSatisfies : (sets : List (m .State → Type 0)) → Formula → m .State → Type 1
   StateSatisfies Xs truth s = Unit
   StateSatisfies Xs falsity s = Lift ⊥
@@ -78,9 +78,9 @@ Satisfies m r = StateSatisfies m (coveredBy (r .patterns)) [] (r .formula) (m .s
 -- The same, but each set of a max is decided. This is a statement of Type 0, and so a contract can say it. It implies satisfaction in every model
 -- (`decided-satisfied`), and for phone models the two agree (`decided-satisfies`).
 
--- the states of a decided set
-abbrev pub members : {S : Type 0} → (S → Bool) → S → Type 0
-members X s = X s ≡ true
+-- a decided set as a set
+abbrev pub asSet : {S : Type 0} → (S → Bool) → S → Type 0
+asSet X s = X s ≡ true
 
 module _ (m : Model) (covered : (pattern code : ℕ) → Bool) where
   abbrev pub StateSatisfiesDecided : (sets : List (m .State → Bool)) → Formula → m .State → Type 0
@@ -88,8 +88,8 @@ module _ (m : Model) (covered : (pattern code : ℕ) → Bool) where
   StateSatisfiesDecided Xs falsity s = ⊥
   StateSatisfiesDecided Xs (both f g) s = StateSatisfiesDecided Xs f s × StateSatisfiesDecided Xs g s
   StateSatisfiesDecided Xs (necessity p f) s = (c : ℕ) (t : m .State) → covered p c ≡ true → Weak m s c t → StateSatisfiesDecided Xs f t
-  StateSatisfiesDecided Xs (max f) s = (X : m .State → Bool) × ((t : m .State) → members X t → StateSatisfiesDecided (X ∷ Xs) f t) × members X s
-  StateSatisfiesDecided Xs (variable d) s = InVariable (map members Xs) d s
+  StateSatisfiesDecided Xs (max f) s = (X : m .State → Bool) × ((t : m .State) → asSet X t → StateSatisfiesDecided (X ∷ Xs) f t) × asSet X s
+  StateSatisfiesDecided Xs (variable d) s = InVariable (map asSet Xs) d s
 
 abbrev pub SatisfiesDecided : Model → Rule → Type 0
 SatisfiesDecided m r = StateSatisfiesDecided m (coveredBy (r .patterns)) [] (r .formula) (m .start)

@@ -1,7 +1,7 @@
 -- The search over pairs of a state and an equation.
 pub mod NeverDropping
 pub mod Occurrences
-pub mod FoundPairs
+pub mod WorklistLaws
 pub mod Chains
 pub mod Leading
 pub mod Expanding

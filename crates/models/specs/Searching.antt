@@ -76,7 +76,7 @@ module _ (steps : List Step) (l : Links) (table : List ℕ) where
   Searched dropped = (y : Phone) → OfPhone steps l y → (dropped ≡ false) ↔ NeverDrops (lookup 256 255 table) 0 (modelOf y)
 
   -- the invariant of the search: what is known where it is at a cursor
-  pub record Searching (seen pairs : List ℕ) (at : Cursor) : Type 0 where
+  pub record SearchInvariant (seen pairs : List ℕ) (at : Cursor) : Type 0 where
     pub searchable : Searchable
     pub seen-length : length seen ≡ 8192
     pub pairs-length : length pairs ≡ 8192

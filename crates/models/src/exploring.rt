@@ -16,7 +16,7 @@ ghost use Rattle.running.specs.Running.{WellFormedTable};
 ghost use Rattle.models.specs.Phone.{Phone, noStep, modelOf};
 ghost use Rattle.models.specs.Judging.{stored};
 ghost use Rattle.models.specs.Exploring.{NeverDrops, HasPhone, linksOf, Worklist, Enqueued, leadsTo};
-ghost use Rattle.models.specs.Searching.{Searching, Searched, searchMeasure, NextPair};
+ghost use Rattle.models.specs.Searching.{SearchInvariant, Searched, searchMeasure, NextPair};
 
 // Where the search is. found: how many pairs have been seen. index, pair: the index in the worklist, and the pair, that is being expanded. step:
 // one more than the number of the step that comes next; 0 at the end. dropped: whether a step was dropped.
@@ -104,12 +104,12 @@ fn follow(
     seen: &mut [u8],
     pairs: &mut [u16],
 ) -> Cursor
-    requires { ⌜ ((steps : List Step) × Searching steps (linksOf (now last) (now earlier)) (now table) (now seen) (now pairs) at
+    requires { ⌜ ((steps : List Step) × SearchInvariant steps (linksOf (now last) (now earlier)) (now table) (now seen) (now pairs) at
         × (0 < at .step) × (step ≡ getD steps (at .step - 1) noStep)) ⌝ }
     ensures { λ r. ⌜ ((steps : List Step)
-        → Searching steps (linksOf (now (last .entry)) (now (earlier .entry))) (now (table .entry)) (now (seen .entry)) (now (pairs .entry)) at
+        → SearchInvariant steps (linksOf (now (last .entry)) (now (earlier .entry))) (now (table .entry)) (now (seen .entry)) (now (pairs .entry)) at
         → step ≡ getD steps (at .step - 1) noStep
-        → Searching steps (linksOf (now (last .entry)) (now (earlier .entry))) (now (table .entry)) (now (seen .exit)) (now (pairs .exit)) r) ⌝ }
+        → SearchInvariant steps (linksOf (now (last .entry)) (now (earlier .entry))) (now (table .entry)) (now (seen .exit)) (now (pairs .exit)) r) ⌝ }
     ensures { λ r. ⌜ searchMeasure r < searchMeasure at ⌝ }
 {
     let index = at.index;
@@ -144,7 +144,7 @@ fn search(
     seen: &mut [u8],
     pairs: &mut [u16],
 ) -> bool
-    requires { ⌜ Searching (now steps) (linksOf (now last) (now earlier)) (now table) (now seen) (now pairs) from ⌝ }
+    requires { ⌜ SearchInvariant (now steps) (linksOf (now last) (now earlier)) (now table) (now seen) (now pairs) from ⌝ }
     ensures { λ r. ⌜ Searched (now (steps .entry)) (linksOf (now (last .entry)) (now (earlier .entry))) (now (table .entry)) r ⌝ }
 {
     let mut at = from;
@@ -172,7 +172,7 @@ fn search_array(
     seen: &mut [u8],
     pairs: &mut [u16],
 ) -> bool
-    requires { ⌜ Searching steps (linksOf (now last) (now earlier)) (now table) (now seen) (now pairs) from ⌝ }
+    requires { ⌜ SearchInvariant steps (linksOf (now last) (now earlier)) (now table) (now seen) (now pairs) from ⌝ }
     ensures { λ r. ⌜ Searched steps (linksOf (now (last .entry)) (now (earlier .entry))) (now (table .entry)) r ⌝ }
 {
     search(&steps, from, last, earlier, table, seen, pairs)

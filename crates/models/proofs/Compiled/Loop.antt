@@ -2,7 +2,7 @@
 --     tests        the test at the loop's head, where it isn't known how it comes out: there is a premise for each
 --     AfterLoop    what is shown where the loop is left: the rest of the body runs
 --     loops-down   the loop and the rest of the body, where each iteration ends with less of a measure.        Less     that order
--- Assumes `Given`.
+-- `loops-down` is cited with the body b and the rest by name: left out, they are written out whole, which is slow. Assumes `Given`.
 use Prim.Native.Nat.{ℕ, _<_}
 use mathlib.Core.Bool.{Bool, not}
 use mathlib.Core.List.{List}

@@ -24,7 +24,7 @@ use denote.Signature.{Slot}
 use denote.Triple.Walked.{Stay, Stays, stay-dropped}
 use denote.Exit.{yes}
 use Rattle.models.specs.Exploring.{linksOf}
-use Rattle.models.specs.Searching.{Searching}
+use Rattle.models.specs.Searching.{SearchInvariant}
 use Rattle.models.specs.declared.Step.{Step}
 use Rattle.models.specs.declared.links.Links.{Links}
 use Rattle.models.specs.declared.exploring.Cursor.{Cursor}
@@ -65,7 +65,7 @@ module _ (five : Five (RefT (List ℕ))) where
   links = linksOf (last .now) (earlier .now)
 
   abbrev pub AtStart : List Step → Cursor → Type 0
-  AtStart steps from = Searching steps links (table .now) (seen .now) (pairs .now) from
+  AtStart steps from = SearchInvariant steps links (table .now) (seen .now) (pairs .now) from
 
   abbrev pub slices-vals : Five (List Val)
   slices-vals = (slice-vals last, (slice-vals earlier, (slice-vals table, (slice-vals seen, (slice-vals pairs, tt)))))

@@ -11,7 +11,7 @@ use Rattle.models.specs.Exploring.{Outgoing, equationAfter, pairAfter, S
 use Rattle.models.specs.declared.Step.{Step}
 use Rattle.models.specs.declared.links.Links.{Links}
 use Rattle.models.proofs.Pairs.Chains.{chain-cases}
-use Rattle.models.proofs.Pairs.FoundPairs.{extended-same, extended-trans}
+use Rattle.models.proofs.Pairs.WorklistLaws.{extended-same, extended-trans}
 
 module _ (steps : List Step) (l : Links) (row : List ℕ) (pair : ℕ) (seen₀ pairs₀ : List ℕ) (found₀ : ℕ) where
   pub expanded-none : Worklist seen₀ pairs₀ found₀

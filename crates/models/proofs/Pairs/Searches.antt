@@ -15,12 +15,12 @@ use Rattle.running.specs.Running.{WellFormedTable}
 use Rattle.models.specs.Phone.{Phone, noStep, modelOf}
 use Rattle.models.specs.Judging.{stored}
 use Rattle.models.specs.Exploring.{NeverDrops, HasPhone, Chains, LinksInRange, Worklist, Enqueued, leadsTo, equationAfter, PartlyExpanded}
-use Rattle.models.specs.Searching.{NextPair, rowAt, Expanded, Explored, Expanding, Searchable, Searched, Searching}
+use Rattle.models.specs.Searching.{NextPair, rowAt, Expanded, Explored, Expanding, Searchable, Searched, SearchInvariant}
 use Rattle.models.specs.declared.Step.{Step}
 use Rattle.models.specs.declared.PhoneModel.{PhoneModel}
 use Rattle.models.specs.declared.links.Links.{Links}
 use Rattle.models.specs.declared.exploring.Cursor.{Cursor}
-use Rattle.models.proofs.Pairs.FoundPairs.{found-at-most}
+use Rattle.models.proofs.Pairs.WorklistLaws.{found-at-most}
 use Rattle.models.proofs.Pairs.Chains.{chain-empty}
 use Rattle.models.proofs.Pairs.LinkLaws.{stored-alike, stored-step, stored-length}
 use Rattle.models.proofs.Pairs.Leading.{leads-inside, row-in-range}
@@ -54,8 +54,8 @@ module _ {steps : List Step} {l : Links} {table : List ℕ} (searchable : Search
       step-at-most (yes h) = omega (arith, next .begins h .2, searchable .links-range .last-range (r .pair % 64))
       step-at-most (no h) = omega arith
 
-      searching-next : Searching steps l table seen pairs r
-      searching-next = record {
+      invariant-next-pair : SearchInvariant steps l table seen pairs r
+      invariant-next-pair = record {
         searchable = searchable;
         seen-length = explored .worklist .seen-length;
         pairs-length = explored .worklist .pairs-length;
@@ -76,7 +76,7 @@ module _ {steps : List Step} {l : Links} {table : List ℕ} (searchable : Search
 
 -- ---- following a step
 
-module _ {steps : List Step} {l : Links} {table seen pairs : List ℕ} {at : Cursor} (s : Searching steps l table seen pairs at)
+module _ {steps : List Step} {l : Links} {table seen pairs : List ℕ} {at : Cursor} (s : SearchInvariant steps l table seen pairs at)
     (going : 0 < at .step) where
   abbrev expansion : Expanding steps l table seen pairs at
   expansion = s .expanding going
@@ -135,7 +135,7 @@ module _ {steps : List Step} {l : Links} {table seen pairs : List ℕ} {at : Cur
           (omega (arith, equation-inside, s .searchable .well-formed .few)) label-inside (λ e. kept (leads ∙ e)))
 
       pub followed-dropped : next ≡ 255
-          → Searching steps l table seen pairs (record { found = at .found; index = at .index; pair = at .pair; step = 0; dropped = true })
+          → SearchInvariant steps l table seen pairs (record { found = at .found; index = at .index; pair = at .pair; step = 0; dropped = true })
       followed-dropped e = record {
         searchable = s .searchable;
         seen-length = s .seen-length;
@@ -155,7 +155,7 @@ module _ {steps : List Step} {l : Links} {table seen pairs : List ℕ} {at : Cur
             (expanded-next steps l _ _ _ _ _ _ (at .step - 1) (omega arith) _ _ _ expanded-before _ _ _ next leads-from kept (rw is at enqueued))
 
         pub followed-on : 0 < left
-            → Searching steps l table seen′ pairs′ (record { found = found′; index = at .index; pair = at .pair; step = left; dropped = false })
+            → SearchInvariant steps l table seen′ pairs′ (record { found = found′; index = at .index; pair = at .pair; step = left; dropped = false })
         followed-on more = record {
           searchable = s .searchable;
           seen-length = enqueued .extended .worklist .seen-length;
@@ -173,9 +173,9 @@ module _ {steps : List Step} {l : Links} {table seen pairs : List ℕ} {at : Cur
           finished = λ z. absurd (omega arith);
         }
 
-        pub followed-next : left ≡ 0 → {r : Cursor} → NextPair (l .last) pairs′ (at .index + 1) found′ r → Searching steps l table seen′ pairs′ r
+        pub followed-next : left ≡ 0 → {r : Cursor} → NextPair (l .last) pairs′ (at .index + 1) found′ r → SearchInvariant steps l table seen′ pairs′ r
         followed-next z next-pair =
-            searching-next (s .searchable)
+            invariant-next-pair (s .searchable)
             (explored-next steps l table (s .searchable .steps-range) _ _ _ _ (expansion .explored) (expansion .more) _ _ _ (rw z at expanded-after)) next-pair
 
 -- ---- a search of a stored model
@@ -192,10 +192,10 @@ module _ {model : PhoneModel} {l : Links} {table : List ℕ} (has : HasPhone mod
   }
 
   -- its first cursor
-  pub searching-first : {seen pairs : List ℕ} {found : ℕ} {r : Cursor} → Enqueued 0 (replicate 8192 0) (replicate 8192 0) 0 seen pairs found
-      → NextPair (l .last) pairs 0 found r → Searching (model .steps) l table seen pairs r
-  searching-first enqueued next =
-      searching-next stored-searchable (explored-start (model .steps) l table (stored-step has) _ _ _ enqueued) next
+  pub invariant-start : {seen pairs : List ℕ} {found : ℕ} {r : Cursor} → Enqueued 0 (replicate 8192 0) (replicate 8192 0) 0 seen pairs found
+      → NextPair (l .last) pairs 0 found r → SearchInvariant (model .steps) l table seen pairs r
+  invariant-start enqueued next =
+      invariant-next-pair stored-searchable (explored-start (model .steps) l table (stored-step has) _ _ _ enqueued) next
 
 -- what the end of a search says of the model
 pub stored-searched : (model : PhoneModel) (l : Links) (table : List ℕ) (dropped : Bool) → Searched (model .steps) l table dropped

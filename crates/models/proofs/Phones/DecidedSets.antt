@@ -7,7 +7,7 @@ use mathlib.Core.List.{List, [], _∷_, map}
 use borrow.Author.Tests.{lt-ltb}
 use Rattle.reading.specs.Rule.{Formula, truth, falsity, both, necessity, max, variable}
 use Rattle.synthesis.specs.Violation.{coveredBy}
-use Rattle.enforcement.specs.Model.{InVariable, StateSatisfies, members, StateSatisfiesDecided}
+use Rattle.enforcement.specs.Model.{InVariable, StateSatisfies, asSet, StateSatisfiesDecided}
 use Rattle.enforcement.proofs.DecidedSatisfaction.{decided-satisfied}
 use Rattle.models.specs.Phone.{Phone, modelOf}
 use Rattle.models.specs.Promises.{DecidedSatisfies}
@@ -20,7 +20,7 @@ use Rattle.models.proofs.Phones.Necessities.{necessary, necessary-sound
 module _ (y : Phone) (covered : (pattern code : ℕ) → Bool) where
   -- Every listed state of the sets Ps of the maxes around is in the decided ones Xs.
   abbrev Around : List (ℕ → Type 0) → List (ℕ → Bool) → Type 0
-  Around Ps Xs = (d s : ℕ) → Listed y s → InVariable Ps d s → InVariable (map members Xs) d s
+  Around Ps Xs = (d s : ℕ) → Listed y s → InVariable Ps d s → InVariable (map asSet Xs) d s
 
   -- A decided set whose states satisfy f with Xs, and which has every listed state that satisfies f with any sets within Xs.
   record Decision (Xs : List (ℕ → Bool)) (f : Formula) : Type 1 where
@@ -40,7 +40,7 @@ module _ (y : Phone) (covered : (pattern code : ℕ) → Bool) where
   inVariable (X ∷ Xs) zero s = X s
   inVariable (X ∷ Xs) (suc d) s = inVariable Xs d s
 
-  in-variable-is : (Xs : List (ℕ → Bool)) (d s : ℕ) → (inVariable Xs d s ≡ true) ↔ InVariable (map members Xs) d s
+  in-variable-is : (Xs : List (ℕ → Bool)) (d s : ℕ) → (inVariable Xs d s ≡ true) ↔ InVariable (map asSet Xs) d s
   in-variable-is [] d s = (λ e. tt, λ h. refl)
   in-variable-is (X ∷ Xs) zero s = (λ e. e, λ h. h)
   in-variable-is (X ∷ Xs) (suc d) s = in-variable-is Xs d s

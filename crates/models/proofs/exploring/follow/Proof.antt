@@ -8,10 +8,10 @@ use lib.ListN.{getD}
 use borrow.Author.Needs.{needs}
 use Rattle.models.specs.Phone.{noStep}
 use Rattle.models.specs.Exploring.{leadsTo, linksOf}
-use Rattle.models.specs.Searching.{searchMeasure, rowAt, Searching}
+use Rattle.models.specs.Searching.{searchMeasure, rowAt, SearchInvariant}
 use Rattle.models.specs.declared.Step.{Step}
 use Rattle.models.specs.declared.exploring.Cursor.{Cursor}
-use Rattle.models.proofs.Pairs.FoundPairs.{found-at-most}
+use Rattle.models.proofs.Pairs.WorklistLaws.{found-at-most}
 use Rattle.models.proofs.Pairs.Searches.{index-inside, index-before, worklist, row-inside, label-inside, target-inside, next-inside}
 use Rattle.models.proofs.Pairs.Searches.{followed-dropped, followed-on, followed-next}
 use Rattle.models.proofs.exploring.follow.Statement.{statement}
@@ -57,7 +57,7 @@ returns c =
     let t = c .before in
     let x = at-start (t .before) in
     let e = sym (c .stopped .ensures) in (
-      λ steps s is. subst (Searching steps _ _ _ _) e (followed-dropped s (x .pre .2) is (leads-by-row (t .before)) (t .if1 .taken)),
+      λ steps s is. subst (SearchInvariant steps _ _ _ _) e (followed-dropped s (x .pre .2) is (leads-by-row (t .before)) (t .if1 .taken)),
       subst (λ (r : Cursor). searchMeasure r < searchMeasure (x .args .at)) e (omega (arith, x .pre .2)),
     )
 
@@ -132,8 +132,8 @@ abbrev enqueued : tie.After-next-pair → tie.After-enqueue
 enqueued c = c .before .before .before .before .before .before .before .before .before
 
 followed-by-next-pair : (c : tie.After-next-pair) → let x = start-of-enqueue (enqueued c) .args in let l = linksOf (x .last .now) (x .earlier .now) in
-    (steps : List Step) → Searching steps l (x .table .now) (x .seen .now) (x .pairs .now) (x .at) → x .step ≡ getD steps (x .at .step - 1) noStep
-    → Searching steps l (x .table .now) (enqueued c .enqueue .last .0) (enqueued c .enqueue .last .1 .0) (c .next-pair .result)
+    (steps : List Step) → SearchInvariant steps l (x .table .now) (x .seen .now) (x .pairs .now) (x .at) → x .step ≡ getD steps (x .at .step - 1) noStep
+    → SearchInvariant steps l (x .table .now) (enqueued c .enqueue .last .0) (enqueued c .enqueue .last .1 .0) (c .next-pair .result)
 followed-by-next-pair c steps s is =
     let e = enqueued c .before .before .before .before in
     let x = start-of-enqueue (enqueued c) .args in

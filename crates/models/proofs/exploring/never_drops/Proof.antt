@@ -1,8 +1,8 @@
 -- `exploring::never_drops` meets its contract: the invariant of the search holds at its first cursor, and its end says what is asked.
 use native.Mathlib.Omega.{arith}
 use borrow.Author.Needs.{needs}
-use Rattle.models.proofs.Pairs.FoundPairs.{found-at-most, worklist-none}
-use Rattle.models.proofs.Pairs.Searches.{searching-first, stored-searched}
+use Rattle.models.proofs.Pairs.WorklistLaws.{found-at-most, worklist-none}
+use Rattle.models.proofs.Pairs.Searches.{invariant-start, stored-searched}
 use Rattle.models.proofs.exploring.never_drops.Statement.{statement}
 use Rattle.models.proofs.exploring.never_drops.Tie as tie
 
@@ -59,7 +59,7 @@ search-array-requires : tie.Need-search-array-requires
 search-array-requires c κs =
     let n = enqueued (first-cursor c) in
     let p = chained n .before .before .pre in
-    searching-first (p .0) (chained n .of-model .ensures .1) (p .1) (n .enqueue .ensures) (first-cursor c .next-pair .ensures)
+    invariant-start (p .0) (chained n .of-model .ensures .1) (p .1) (n .enqueue .ensures) (first-cursor c .next-pair .ensures)
 
 -- ---- the return
 

@@ -58,7 +58,7 @@ module _ {M : Type 1} (𝓤 : URA M) (H : Heap 𝓤) (A : Atoms 𝓤) (W : Given
       (begun : AtStart (a .1 .1) (steps κs a .now) (state.from κs a)) where
     -- where the loop begins
     abbrev start : State κs a
-    start = record { at = state.from κs a; seen-now = seen (a .1 .1) .now; pairs-now = pairs (a .1 .1) .now; searching = begun; cursor-is = from-is }
+    start = record { at = state.from κs a; seen-now = seen (a .1 .1) .now; pairs-now = pairs (a .1 .1) .now; invariant = begun; cursor-is = from-is }
 
     walk : ent 𝓤 (onEntry 𝓤 H A search.signature κs qs a (vals κs a))
         (WpFn 𝓤 H (𝓣 .C) (𝓣 .Λ) code.function (flat (typesAt (search.signature .params) κs) (vals κs a)) (state.Post 𝓤 H A W mem run κs qs a))

@@ -12,11 +12,11 @@ use base.Logic.{SProp, ent}
 use base.Fml.{Lft, GName, Share, ftrue, flft}
 use prog.Memory.{Memory}
 use prog.Routine.{Routine}
-use prog.Wp.{Heap, Env, WpFn, Wp, atReturn, Tables}
+use prog.Wp.{Heap, Env, WpFn, Tables}
 use ghost.Atoms.{Atoms}
 use contract.Monad.{Fun}
 use contract.Running.{givenOf, tables, tablesOf}
-use types.Kit.{Given, Item, ‵, raw, _⊛_, ⋆, some, given, later, atRet, _$_, _∵_, !, qed, by, suffices, await, done}
+use types.Kit.{Given, Item, ‵, raw, _⊛_, ⋆, some, given, later, Sq, runs, atRet, _$_, _∵_, !, qed, by, suffices, await, done}
 use types.Kit.{move, keep, drop, use1, use2, split, join, pick, learn, fsplit, fjoin, frame}
 use types.Run.{look, stop, from, lit, of-opd, and-then, no-more, land, returns}
 use types.Run.{enter, exec, alloc1, alloc0, params1, pass0, free0}
@@ -120,21 +120,18 @@ module _ {M : Type 1} (𝓤 : URA M) (H : Heap 𝓤) (A : Atoms 𝓤) (W : Given
         I = Inv 𝓤 H A W mem run κ κ′ q q′ b o γ f states b′ o′ γ′ count l₀ l₁ l₂ l₃ l₄ l₅ l₆ l₇ l₈ l₉
 
         ends : (t : State f states count) → t .next .more ≡ false
-            → ent 𝓤 (⋆ 𝓤 H A (I t)) (Wp 𝓤 H (𝓣 .C) (𝓣 .Λ) E body.t-3 (atReturn 𝓤 H E Post))
+            → Sq W (I t) (runs (𝓣 .C) (𝓣 .Λ) E body.t-3 (atRet E Post))
         ends t e =
-            qed W (I t) ∵ exec ! (𝓣 .C) (𝓣 .Λ) E body.t-3 (atRet E Post) $
             sets-local ! (of-opd ! (reads-local ! 0 refl)) 10 refl (typed the-next 𝓤 H A W (t .next) _ (t .is)) $
             returns ! (look ! 10 refl) $ frees-cell ! 10 13 refl refl $ frees-cell ! 10 12 refl refl $ frees-cell ! 10 11 refl refl $
             frees-cell ! 10 10 refl refl $ frees-cell ! 0 9 refl refl $ frees-room ! 4 8 refl refl $ frees-room ! 4 7 refl refl $
             frees-room ! 4 6 refl refl $ frees-room ! 4 5 refl refl $ frees-room ! 4 4 refl refl $ free0 ! $
             by ! (exits (t .next) (t .list) (t .is) (t .long) (t .read .at-end e))
 
-        looped : (t : State f states count) → ent 𝓤 (⋆ 𝓤 H A (I t)) (Wp 𝓤 H (𝓣 .C) (𝓣 .Λ) E body.t-2 (atReturn 𝓤 H E Post))
-        looped t =
-            qed W (I t) ∵ exec ! (𝓣 .C) (𝓣 .Λ) E body.t-2 (atRet E Post) $ loops-down ! 𝓣 (left f states count) I (λ t. record {
-              prf = iteration 𝓤 H A W mem run κ κ′ q q′ b o γ f states b′ o′ γ′ count l₀ l₁ l₂ l₃ l₄ l₅ l₆ l₇ l₈ l₉ 𝓣 known-next known-put
-                  states-fits room Post t (ends t);
-            }) t
+        looped : (t : State f states count) → Sq W (I t) (runs (𝓣 .C) (𝓣 .Λ) E body.t-2 (atRet E Post))
+        looped t = loops-down ! 𝓣 (left f states count) I {E = E} {b = body.turn-1} {rest = body.t-3} {P = Post}
+            (λ t. iteration 𝓤 H A W mem run κ κ′ q q′ b o γ f states b′ o′ γ′ count l₀ l₁ l₂ l₃ l₄ l₅ l₆ l₇ l₈ l₉ 𝓣 known-next known-put
+            states-fits room Post t (ends t)) t
 
       walk : Room u8 (length f) → StepsBegun f states ys 0 2
           → ent 𝓤 (onEntry 𝓤 H A read-steps.signature (κ, (κ′, tt)) (q, (q′, tt)) a vals)
@@ -158,7 +155,7 @@ module _ {M : Type 1} (𝓤 : URA M) (H : Heap 𝓤) (A : Atoms 𝓤) (W : Given
           (next-told κ b o γ f states 0 2 𝓤 H A W mem run q w) $ await ! tt $ pick ! (λ r. learn ! (λ got.
           land ! (from ! (stop !)) (init-as ! 14 refl (got .0) (typed the-next 𝓤 H A W r _ (got .1))) $
           keep ! (14 ∷ 0 ∷ 1 ∷ 2 ∷ 3 ∷ 12 ∷ 10 ∷ 8 ∷ 6 ∷ 4 ∷ 22 ∷ 20 ∷ 18 ∷ 16 ∷ 23 ∷ 21 ∷ 19 ∷ 17 ∷ 15 ∷ 13 ∷ 11 ∷ 9 ∷ 7 ∷ 5 ∷ []) $
-          by ! (looped l₀ l₁ l₂ l₃ l₄ l₅ l₆ l₇ l₈ l₉ (state f states count r ys 0 (got .1) refl (got .2 ys begun))))))))))))))))
+          looped l₀ l₁ l₂ l₃ l₄ l₅ l₆ l₇ l₈ l₉ (state f states count r ys 0 (got .1) refl (got .2 ys begun)))))))))))))))
         where
           first-ask : NextStep 𝓤 H A mem run .Ghost
           first-ask = to-next κ b o γ f states 0 2 𝓤 H A W mem run q

@@ -32,7 +32,7 @@ use denote.Triple.Spec.{tripleOf}
 use denote.Triple.Statement.{Contract}
 use denote.Triple.Walked.{says}
 use Rattle.models.specs.Phone.{noStep}
-use Rattle.models.specs.Searching.{Searching, searchMeasure}
+use Rattle.models.specs.Searching.{SearchInvariant, searchMeasure}
 use Rattle.models.specs.declared.Step.{Step}
 use Rattle.models.specs.declared.exploring.Cursor.{Cursor}
 use Rattle.models.proofs.Compiled.Loop.{Less}
@@ -83,10 +83,10 @@ module _ {M : Type 1} (𝓤 : URA M) (H : Heap 𝓤) (A : Atoms 𝓤) (W : Given
 
   module _ (more : 0 < t .at .step) where
     pub index-fits : index < 2 ^ 64
-    index-fits = omega (arith, t .searching .step-inside)
+    index-fits = omega (arith, t .invariant .step-inside)
 
     index-inside : index < length (steps κs a .now)
-    index-inside = omega (arith, t .searching .step-inside, t .searching .searchable .steps-length)
+    index-inside = omega (arith, t .invariant .step-inside, t .invariant .searchable .steps-length)
 
     pre-nth-step : ent 𝓤 (⋆ 𝓤 H A (‵ (Steps κs a) ∷ ‵ (flft (κs .0) (qs .0)) ∷ [])) (NthStep 𝓤 H A mem run .pre to-nth-step)
     pre-nth-step =
@@ -186,7 +186,7 @@ module _ {M : Type 1} (𝓤 : URA M) (H : Heap 𝓤) (A : Atoms 𝓤) (W : Given
     module _ (more : 0 < t .at .step) where
       pre-follow : (n : Loans) → ent 𝓤 (⋆ 𝓤 H A (Along s u n)) (Follow 𝓤 H A mem run .pre (to-follow s u n))
       pre-follow n =
-          qed W (Along s u n) ∵ says ! (steps κs a .now, t .searching, more, is) $
+          qed W (Along s u n) ∵ says ! (steps κs a .now, t .invariant, more, is) $
           nothing ! $ move ! (1 ∷ 2 ∷ 3 ∷ 4 ∷ 5 ∷ 0 ∷ []) $ group ! 6 $ frame ! $
           -- [the step; last; earlier; table; seen; pairs]
           nothing ! $ move ! (6 ∷ 0 ∷ []) $ fjoin ! $ move ! (5 ∷ 0 ∷ []) $ fjoin ! $ move ! (4 ∷ 0 ∷ []) $ fjoin ! $ move ! (3 ∷ 0 ∷ []) $ fjoin ! $
@@ -224,8 +224,8 @@ module _ {M : Type 1} (𝓤 : URA M) (H : Heap 𝓤) (A : Atoms 𝓤) (W : Given
 
     -- what `follow` ensures
     abbrev Kept : Cursor → List ℕ → List ℕ → Type 0
-    Kept c ms ps = (xs : List Step) → Searching xs (links (a .1 .1)) (table (a .1 .1) .now) (t .seen-now) (t .pairs-now) (t .at)
-        → s ≡ getD xs index noStep → Searching xs (links (a .1 .1)) (table (a .1 .1) .now) ms ps c
+    Kept c ms ps = (xs : List Step) → SearchInvariant xs (links (a .1 .1)) (table (a .1 .1) .now) (t .seen-now) (t .pairs-now) (t .at)
+        → s ≡ getD xs index noStep → SearchInvariant xs (links (a .1 .1)) (table (a .1 .1) .now) ms ps c
 
     -- where the loop is then
     abbrev next : (c : Cursor) (w : Val) (ms ps : List ℕ) → Kept c ms ps → Is (struct.row-of the-cursor) c (w ∷ []) → State κs a
@@ -233,7 +233,7 @@ module _ {M : Type 1} (𝓤 : URA M) (H : Heap 𝓤) (A : Atoms 𝓤) (W : Given
       at = c;
       seen-now = ms;
       pairs-now = ps;
-      searching = kept (steps κs a .now) (t .searching) is;
+      invariant = kept (steps κs a .now) (t .invariant) is;
       cursor-is = subst (Is (struct.row-of the-cursor) c) (struct.tells the-cursor c (w ∷ []) cursor-is) cursor-is;
     }
 

@@ -26,7 +26,7 @@ use denote.Signature.{plain}
 use denote.Steps.{nothing, owned}
 use denote.Triple.Entry.{Args, Vals, onEntry}
 use denote.Triple.Walked.{says, Stays, stay-slice, walkOf, ends-at}
-use Rattle.models.specs.Searching.{Searching, searchMeasure}
+use Rattle.models.specs.Searching.{SearchInvariant, searchMeasure}
 use Rattle.models.specs.declared.Step.{Step}
 use Rattle.models.specs.declared.exploring.Cursor.{Cursor}
 use Rattle.models.proofs.Compiled.Slices.{slice-at}
@@ -58,7 +58,7 @@ module _ (κs : Lfts 6) (a : Args search.signature κs) where
     pub at : Cursor
     pub seen-now : List ℕ
     pub pairs-now : List ℕ
-    pub searching : Searching (steps .now) (links (a .1 .1)) (table (a .1 .1) .now) seen-now pairs-now at
+    pub invariant : SearchInvariant (steps .now) (links (a .1 .1)) (table (a .1 .1) .now) seen-now pairs-now at
     pub cursor-is : Is (struct.row-of the-cursor) at (struct.vals the-cursor at)
 
   -- the measure
@@ -68,10 +68,10 @@ module _ (κs : Lfts 6) (a : Args search.signature κs) where
   -- both lists are as long as they were
   module _ (begun : AtStart (a .1 .1) (steps .now) from) (t : State) where
     pub seen-now-length : length (t .seen-now) ≡ length (seen (a .1 .1) .now)
-    seen-now-length = t .searching .seen-length ∙ sym (begun .seen-length)
+    seen-now-length = t .invariant .seen-length ∙ sym (begun .seen-length)
 
     pub pairs-now-length : length (t .pairs-now) ≡ length (pairs (a .1 .1) .now)
-    pairs-now-length = t .searching .pairs-length ∙ sym (begun .pairs-length)
+    pairs-now-length = t .invariant .pairs-length ∙ sym (begun .pairs-length)
 
   -- ---- what is owned
 
@@ -125,7 +125,7 @@ module _ {M : Type 1} (𝓤 : URA M) (H : Heap 𝓤) (A : Atoms 𝓤) (W : Given
       qed W (Owned (t .seen-now) (t .pairs-now)) ∵
       suffices ! _ (ends-at 𝓤 H A search.ended stayed (search.clauses 𝓤 H A mem run) W ((κs, qs, tt, a, vals κs a), tt) (vbool (t .at .dropped))
       (t .at .dropped) (tt, (tt, (tt, (tt, (tt, (t .seen-now, (t .pairs-now, tt)))))))
-      (tt, (tt, (tt, (tt, (tt, (seen-now-length κs a begun t, (pairs-now-length κs a begun t, tt)))))))) $ says ! (t .searching .finished none) $
+      (tt, (tt, (tt, (tt, (tt, (seen-now-length κs a begun t, (pairs-now-length κs a begun t, tt)))))))) $ says ! (t .invariant .finished none) $
       nothing ! $ move ! (1 ∷ 2 ∷ 3 ∷ 4 ∷ 5 ∷ 6 ∷ 0 ∷ []) $ group ! 7 $ frame ! $
       -- [steps; last; earlier; table; seen; pairs]
       nothing ! $ move ! (6 ∷ 0 ∷ []) $ fjoin ! $ move ! (5 ∷ 0 ∷ []) $ fjoin ! $ unsaid ! $ unsaid ! $ unsaid ! $ unsaid ! $ unsaid ! $ frame ! $

@@ -175,4 +175,4 @@ module _ {M : Type 1} (𝓤 : URA M) (H : Heap 𝓤) (A : Atoms 𝓤) (W : Given
 
     -- the loop, and what comes after it
     pub loop-and-rest : (t : State κs a) → Sq W (Inv t) (runs (𝓣 .C) (𝓣 .Λ) En mir-of.t-2 (atRet En Post))
-    loop-and-rest t = loops-down ! 𝓣 (left κs a) Inv iteration t
+    loop-and-rest t = loops-down ! 𝓣 (left κs a) Inv {b = mir-of.turn-1} {rest = mir-of.t-3} {P = Post} iteration t
