@@ -6,6 +6,8 @@ use mathlib.Core.List.{List, [], _∷_}
 use lib.ListN.{length, getD}
 use lib.Dec.{ltb, leb, eqb}
 use Rattle.reading.specs.Rule.{Formula, truth, falsity, both, necessity, max, variable, Guards, guarded, Rule}
+use Rattle.reading.specs.Rule.{Symbol, Truth, Falsity, Both, Max, Necessity, Variable}
+use Rattle.reading.specs.Rule.{patternKind, truthKind, falsityKind, bothKind, necessityKind, maxKind, variableKind}
 use Rattle.reading.specs.declared.Pattern.{Pattern}
 
 -- ---- what checking some input gives
@@ -26,7 +28,7 @@ andThen (refused number place) f = refused number place
 
 -- ---- the patterns
 
--- The record of kind 1 at `at`, with `left` of the 32 patterns left.
+-- The pattern record at `at`, with `left` of the 32 patterns left.
 abbrev pub patternAt : List ℕ → (at left : ℕ) → Outcome Pattern
 patternAt s at left =
     let mask = getD s (at + 1) 0 in
@@ -41,7 +43,7 @@ patternAt s at left =
     (accepted (record { mask = mask; first = first; last = last })))))))
 
 abbrev pub isPattern : List ℕ → (at : ℕ) → Bool
-isPattern s at = ltb at (length s) && eqb (getD s at 0) 1
+isPattern s at = ltb at (length s) && eqb (getD s at 0) patternKind
 
 -- some patterns, and the place after them
 pub record Patterns : Type 0 where
@@ -64,17 +66,12 @@ patternsAt (suc left) s at =
 
 -- ---- one node record
 
--- What a node record says of its node: the symbol, and the pattern number or the depth in its body.
-pub data Symbol : Type 0 where
-  Truth Falsity Both Max : Symbol
-  Necessity Variable : ℕ → Symbol
-
 -- a symbol, and the place after its record
 pub record NodeRecord : Type 0 where
   pub symbol : Symbol
   pub next : ℕ
 
--- a kind 5 record
+-- a necessity
 abbrev pub necessityAt : List ℕ → (n at : ℕ) → Outcome NodeRecord
 necessityAt s n at =
     let pattern = getD s (at + 1) 0 in
@@ -82,7 +79,7 @@ necessityAt s n at =
     (refuse (leb n pattern) 6 at
     (accepted (record { symbol = Necessity pattern; next = at + 2 })))
 
--- a kind 7 record
+-- a variable
 abbrev pub variableAt : List ℕ → Guards → (at : ℕ) → Outcome NodeRecord
 variableAt s g at =
     let depth = getD s (at + 1) 0 in
@@ -100,14 +97,14 @@ abbrev pub nodeAt : List ℕ → (n at left : ℕ) → Guards → Outcome NodeRe
 nodeAt s n at left g =
     let kind = getD s at 0 in
     refuse (leb (length s) at) 1 (length s)
-    (refuse (eqb kind 0 || ltb 7 kind) 2 at
-    (refuse (eqb kind 1) 3 at
+    (refuse (eqb kind 0 || ltb variableKind kind) 2 at
+    (refuse (eqb kind patternKind) 3 at
     (refuse (eqb left 0) 4 at
-    (cond (eqb kind 2) (bareAt Truth at)
-    (cond (eqb kind 3) (bareAt Falsity at)
-    (cond (eqb kind 4) (bareAt Both at)
-    (cond (eqb kind 5) (necessityAt s n at)
-    (cond (eqb kind 6) (bareAt Max at)
+    (cond (eqb kind truthKind) (bareAt Truth at)
+    (cond (eqb kind falsityKind) (bareAt Falsity at)
+    (cond (eqb kind bothKind) (bareAt Both at)
+    (cond (eqb kind necessityKind) (necessityAt s n at)
+    (cond (eqb kind maxKind) (bareAt Max at)
     (variableAt s g at)))))))))
 
 -- ---- a formula: a node, then its parts

@@ -7,8 +7,8 @@ use lib.ListN.{length, getD, replicate}
 use lib.Seq.{sets}
 use Rattle.reading.specs.Pattern.{extentOf}
 use Rattle.reading.specs.File.{Outcome, accepted, refused}
-use Rattle.reading.specs.File.{Patterns, Symbol, Truth, Falsity, Both, Max, Necessity, Variable, NodeRecord, Parsed}
-use Rattle.reading.specs.Rule.{Guards}
+use Rattle.reading.specs.File.{Patterns, NodeRecord, Parsed}
+use Rattle.reading.specs.Rule.{Guards, Symbol, Truth, Falsity, Both, Max, Necessity, Variable, kindByte}
 use Rattle.reading.specs.Numbered.{kinds, args, padded, noPattern, noExtent}
 use Rattle.reading.specs.declared.Pattern.{Pattern}
 use Rattle.reading.specs.declared.Acceptance.{Acceptance}
@@ -28,15 +28,7 @@ abbrev pub patternRead : Outcome Pattern → PatternRead
 patternRead (accepted p) = PatternRead′.the-variants.Read p
 patternRead (refused number place) = PatternRead′.the-variants.Refused number place
 
--- the kind byte of a symbol, and the byte of its body
-abbrev pub kindByte : Symbol → ℕ
-kindByte Truth = 2
-kindByte Falsity = 3
-kindByte Both = 4
-kindByte (Necessity p) = 5
-kindByte Max = 6
-kindByte (Variable d) = 7
-
+-- the byte of a symbol's body
 abbrev pub bodyByte : Symbol → ℕ
 bodyByte Truth = 0
 bodyByte Falsity = 0

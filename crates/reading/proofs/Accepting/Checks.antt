@@ -7,7 +7,9 @@ use Prim.Native.Nat.{ℕ, _+_, _≤_, _<_}
 use lib.ListN.{length, getD}
 use borrow.Author.Tests.{le-leb, lt-leb, le-ltb, lt-ltb, eq-eqb, ne-eqb}
 use Rattle.reading.specs.Rule.{Guards}
-use Rattle.reading.specs.File.{accepted, patternAt, Necessity, Variable, necessityAt, variableAt, nodeAt}
+use Rattle.reading.specs.Rule.{Necessity, Variable}
+use Rattle.reading.specs.Rule.{patternKind, necessityKind, variableKind}
+use Rattle.reading.specs.File.{accepted, patternAt, necessityAt, variableAt, nodeAt}
 use Rattle.reading.specs.Representations.{patternRead, nodeRead, guardsOf}
 use Rattle.reading.specs.declared.patterns.PatternRead.the-variants as PatternRead
 use Rattle.reading.specs.declared.formulas.NodeRead.{NodeRead as NodeRead′}
@@ -66,7 +68,7 @@ module _ (s : List ℕ) (n at : ℕ) where
       pub necessity-accepted : necessityAt s n at ≡ accepted (record { symbol = Necessity (getD s (at + 1) 0); next = at + 2 })
       necessity-accepted = simp (lt-leb _ _ b, lt-leb _ _ i)
 
-      pub necessity-read : NodeRead.Read (record { kind = 5; body = getD s (at + 1) 0; next = at + 2 }) ≡ nodeRead (necessityAt s n at)
+      pub necessity-read : NodeRead.Read (record { kind = necessityKind; body = getD s (at + 1) 0; next = at + 2 }) ≡ nodeRead (necessityAt s n at)
       necessity-read = sym (ap nodeRead necessity-accepted)
 
 -- ---- a variable
@@ -87,7 +89,7 @@ module _ (s : List ℕ) (g : Guards) (at : ℕ) where
         pub variable-accepted : variableAt s g at ≡ accepted (record { symbol = Variable (getD s (at + 1) 0); next = at + 2 })
         variable-accepted = simp (lt-leb _ _ b, lt-leb _ _ i, h)
 
-        pub variable-read : NodeRead.Read (record { kind = 7; body = getD s (at + 1) 0; next = at + 2 }) ≡ nodeRead (variableAt s g at)
+        pub variable-read : NodeRead.Read (record { kind = variableKind; body = getD s (at + 1) 0; next = at + 2 }) ≡ nodeRead (variableAt s g at)
         variable-read = sym (ap nodeRead variable-accepted)
 
 -- the same where two counts say which maxes are guarded
@@ -100,7 +102,7 @@ module _ (s : List ℕ) (m u at : ℕ) (order : u ≤ m) (b : at + 1 < length s)
     not-guarded-of h = not-guarded s (guardsOf m u) at b (rw (guards-length m u order) i) (unguarded-at m u (getD s (at + 1) 0) h)
 
     pub variable-read-of : u ≤ getD s (at + 1) 0
-        → NodeRead.Read (record { kind = 7; body = getD s (at + 1) 0; next = at + 2 }) ≡ nodeRead (variableAt s (guardsOf m u) at)
+        → NodeRead.Read (record { kind = variableKind; body = getD s (at + 1) 0; next = at + 2 }) ≡ nodeRead (variableAt s (guardsOf m u) at)
     variable-read-of h = variable-read s (guardsOf m u) at b (rw (guards-length m u order) i) (guarded-at m u (getD s (at + 1) 0) h i)
 
 -- ---- a node
@@ -114,20 +116,20 @@ module _ (s : List ℕ) (n at left : ℕ) (g : Guards) where
     kind-0 h = simp (lt-leb _ _ b, h)
 
     module _ (z : getD s at 0 ≡ 0 → ⊥) where
-      pub kind-over : 7 < getD s at 0 → NodeRead.Refused 2 at ≡ nodeRead (nodeAt s n at left g)
+      pub kind-over : variableKind < getD s at 0 → NodeRead.Refused 2 at ≡ nodeRead (nodeAt s n at left g)
       kind-over h = simp (lt-leb _ _ b, ne-eqb _ _ z, lt-ltb _ _ h)
 
-      module _ (t : getD s at 0 ≤ 7) where
-        pub late-pattern : getD s at 0 ≡ 1 → NodeRead.Refused 3 at ≡ nodeRead (nodeAt s n at left g)
+      module _ (t : getD s at 0 ≤ variableKind) where
+        pub late-pattern : getD s at 0 ≡ patternKind → NodeRead.Refused 3 at ≡ nodeRead (nodeAt s n at left g)
         late-pattern h = simp (lt-leb _ _ b, h)
 
-        module _ (p : getD s at 0 ≡ 1 → ⊥) where
+        module _ (p : getD s at 0 ≡ patternKind → ⊥) where
           pub no-node-left : left ≡ 0 → NodeRead.Refused 4 at ≡ nodeRead (nodeAt s n at left g)
           no-node-left h = simp (lt-leb _ _ b, ne-eqb _ _ z, le-ltb _ _ t, ne-eqb _ _ p, h)
 
           module _ (l : left ≡ 0 → ⊥) where
-            pub node-necessity : getD s at 0 ≡ 5 → (r : NodeRead′) → r ≡ nodeRead (necessityAt s n at) → r ≡ nodeRead (nodeAt s n at left g)
+            pub node-necessity : getD s at 0 ≡ necessityKind → (r : NodeRead′) → r ≡ nodeRead (necessityAt s n at) → r ≡ nodeRead (nodeAt s n at left g)
             node-necessity h r e = simp (lt-leb _ _ b, h, ne-eqb _ _ l) e
 
-            pub node-variable : getD s at 0 ≡ 7 → (r : NodeRead′) → r ≡ nodeRead (variableAt s g at) → r ≡ nodeRead (nodeAt s n at left g)
+            pub node-variable : getD s at 0 ≡ variableKind → (r : NodeRead′) → r ≡ nodeRead (variableAt s g at) → r ≡ nodeRead (nodeAt s n at left g)
             node-variable h r e = simp (lt-leb _ _ b, h, ne-eqb _ _ l) e

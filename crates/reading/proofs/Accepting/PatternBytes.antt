@@ -10,6 +10,7 @@ use lib.Dec.{ltb, leb, eqb}
 use borrow.Author.Tests.{ltb-true, ltb-false, leb-false, eqb-true, eqb-false, lt-ltb}
 use Rattle.reading.specs.Pattern.{WellFormedPattern}
 use Rattle.reading.specs.Rule.{All, Bytes, encodePatterns}
+use Rattle.reading.specs.Rule.{patternKind}
 use Rattle.reading.specs.File.{Outcome, accepted, patternAt, isPattern, Patterns, withPattern, patternsAt}
 use Rattle.reading.specs.declared.Pattern.{Pattern}
 use Rattle.reading.proofs.Basics.ByteLaws.{byte-at}
@@ -71,9 +72,9 @@ pub record PatternsStand (s : List ℕ) (at left : ℕ) (ps : Patterns) : Type 0
   pub over : isPattern s (ps .next) ≡ false
 
 module _ (s : List ℕ) (at : ℕ) where
-  pub one-stands : isPattern s at ≡ true → Byte s at 1
+  pub one-stands : isPattern s at ≡ true → Byte s at patternKind
   one-stands e =
-      let both = and-eq-true-iff (ltb at (length s)) (eqb (getD s at 0) 1) .0 e in
+      let both = and-eq-true-iff (ltb at (length s)) (eqb (getD s at 0) patternKind) .0 e in
       record { inside = ltb-true _ _ (both .0); is = eqb-true _ _ (both .1) }
 
   pub none-read : (left : ℕ) → isPattern s at ≡ false → patternsAt left s at ≡ accepted (record { list = []; next = at })
@@ -85,7 +86,7 @@ module _ (s : List ℕ) (at : ℕ) where
   none-stand left over = record { well-formed = tt; few = omega arith; bytes = refl; ends = omega arith; over = over }
 
   more-stand : (left : ℕ) (p : Pattern) (ps : Patterns)
-      → Byte s at 1 → PatternStands s at (suc left) p → PatternsStand s (at + 4) left ps
+      → Byte s at patternKind → PatternStands s at (suc left) p → PatternsStand s (at + 4) left ps
       → PatternsStand s at (suc left) (record { list = p ∷ ps .list; next = ps .next })
   more-stand left p ps b h hs = record {
     well-formed = (h .well-formed, hs .well-formed);
@@ -109,7 +110,7 @@ patterns-read s [] at left next h =
     rw e (none-read s at left (rw e at (h .over)))
 patterns-read s (p ∷ l) at zero next h = absurd (omega (arith, h .few))
 patterns-read s (p ∷ l) at (suc left) next h =
-    let b : Byte s at 1 = first-byte s at (h .bytes) in
+    let b : Byte s at patternKind = first-byte s at (h .bytes) in
     let one : PatternStands s at (suc left) p = record {
       well-formed = h .well-formed .0;
       some-left = omega arith;
@@ -128,7 +129,7 @@ patterns-read s (p ∷ l) at (suc left) next h =
 
 -- where there is no pattern there are none, else `more` was accepted
 some-or-none : (s : List ℕ) (at left : ℕ) (ps : Patterns) (more : Outcome Patterns)
-    → (Byte s at 1 → more ≡ accepted ps → PatternsStand s at left ps)
+    → (Byte s at patternKind → more ≡ accepted ps → PatternsStand s at left ps)
     → (b : Bool) → isPattern s at ≡ b → cond b more (accepted (record { list = []; next = at })) ≡ accepted ps → PatternsStand s at left ps
 some-or-none s at left ps more some true is e = some (one-stands s at is) e
 some-or-none s at left ps more some false is e =

@@ -8,10 +8,12 @@ use lib.ListN.{length, getD, set}
 use lib.Dec.{eqb}
 use lib.Seq.{sets, set-set}
 use Rattle.reading.specs.Rule.{Formula, both, necessity, max, size, Guards, guarded}
+use Rattle.reading.specs.Rule.{Symbol, Truth, Falsity, Both, Necessity, Max, Variable, kindByte}
+use Rattle.reading.specs.Rule.{truthKind, falsityKind, bothKind, necessityKind, maxKind, variableKind}
 use Rattle.reading.specs.File.{Outcome, accepted, refused, andThen}
-use Rattle.reading.specs.File.{Symbol, Truth, Falsity, Both, Necessity, Max, Variable, NodeRecord, nodeAt, Parsed, under, partsBy, formulaOf}
+use Rattle.reading.specs.File.{NodeRecord, nodeAt, Parsed, under, partsBy, formulaOf}
 use Rattle.reading.specs.Numbered.{kinds, args}
-use Rattle.reading.specs.Representations.{kindByte, bodyByte, nodeRead, formulaRead, passedUp, Reads}
+use Rattle.reading.specs.Representations.{bodyByte, nodeRead, formulaRead, passedUp, Reads}
 use Rattle.reading.specs.declared.formulas.Record.{Record}
 use Rattle.reading.specs.declared.formulas.Rest.{Rest}
 use Rattle.reading.specs.declared.formulas.NodeRead.{NodeRead}
@@ -65,7 +67,7 @@ module _ (left argument : ℕ) (pos : 0 < left) (few : left ≤ 64) (ms ks gs : 
   second = here + suc (size (f .formula))
 
   two-parts : (o : Outcome Parsed) {ks′ gs′ ks″ gs″ : List ℕ} {r : FormulaRead}
-      → ks′ ≡ sets (set ks here 4) (64 - (left - 1)) (kinds (64 - (left - 1)) ms (f .formula))
+      → ks′ ≡ sets (set ks here bothKind) (64 - (left - 1)) (kinds (64 - (left - 1)) ms (f .formula))
       → gs′ ≡ sets (set gs here argument) (64 - (left - 1)) (args (64 - (left - 1)) ms (f .formula))
       → Reads o (f .left) ms ks′ (set gs′ here (64 - f .left)) ks″ gs″ r
       → Reads (andThen o (under (both (f .formula)))) left ms ks gs ks″ gs″ r
@@ -79,7 +81,7 @@ module _ (left argument : ℕ) (pos : 0 < left) (few : left ≤ 64) (ms ks gs : 
         written = (
           h .written .0
               ∙ rw (ek, first-is, second-is)
-              (two-lists ks here 4 (kinds (suc here) ms (f .formula)) (kinds second ms (g .formula)) second after-kinds),
+              (two-lists ks here bothKind (kinds (suc here) ms (f .formula)) (kinds second ms (g .formula)) second after-kinds),
           h .written .1
               ∙ rw (ea, first-is, second-is)
               (two-lists-over gs here argument second (args (suc here) ms (f .formula)) (args second ms (g .formula)) second after-args),
@@ -92,7 +94,7 @@ module _ (left argument : ℕ) (pos : 0 < left) (few : left ≤ 64) (ms ks gs : 
 -- the symbol of a kind and a body
 abbrev symbolFor : (kind body : ℕ) → Symbol
 symbolFor k b =
-    cond (eqb k 2) Truth (cond (eqb k 3) Falsity (cond (eqb k 4) Both (cond (eqb k 5) (Necessity b) (cond (eqb k 6) Max (Variable b)))))
+    cond (eqb k truthKind) Truth (cond (eqb k falsityKind) Falsity (cond (eqb k bothKind) Both (cond (eqb k necessityKind) (Necessity b) (cond (eqb k maxKind) Max (Variable b)))))
 
 symbol-is : (x : Symbol) → symbolFor (kindByte x) (bodyByte x) ≡ x
 symbol-is Truth = refl
@@ -150,10 +152,10 @@ module _ {s : List ℕ} {n at left : ℕ} {g : Guards} {node : Record} (f : Foun
   body-as x e = f .body-is ∙ ap bodyByte (symbol-told ∙ e)
 
 -- the depth of a variable names a max
-pub is-bound : {s : List ℕ} {n at left : ℕ} {g : Guards} {node : Record} → Found s n at left g node → node .kind ≡ 7 → node .body < length g
+pub is-bound : {s : List ℕ} {n at left : ℕ} {g : Guards} {node : Record} → Found s n at left g node → node .kind ≡ variableKind → node .body < length g
 is-bound {s} {n} {at} {left} {g} {node} f e = on (f .stands) (sym (f .kind-is) ∙ e) (f .body-is)
   where
-    on : {r : NodeRecord} → NodeStands s n at g r → kindByte (r .symbol) ≡ 7 → node .body ≡ bodyByte (r .symbol) → node .body < length g
+    on : {r : NodeRecord} → NodeStands s n at g r → kindByte (r .symbol) ≡ variableKind → node .body ≡ bodyByte (r .symbol) → node .body < length g
     on (bare bare-truth b) k i = absurd (omega arith)
     on (bare bare-falsity b) k i = absurd (omega arith)
     on (bare bare-both b) k i = absurd (omega arith)
@@ -180,7 +182,7 @@ module _ (s : List ℕ) (n at left : ℕ) (g : Guards) (ms ks gs : List ℕ) whe
     abbrev one-node : FormulaRead
     one-node = FormulaRead′.Read (record { next = node .next; left = left - 1 })
 
-    pub is-leaf : (node .kind ≡ 4 → ⊥) → (node .kind ≡ 5 → ⊥) → (node .kind ≡ 6 → ⊥) → (node .kind ≡ 7 → ⊥)
+    pub is-leaf : (node .kind ≡ bothKind → ⊥) → (node .kind ≡ necessityKind → ⊥) → (node .kind ≡ maxKind → ⊥) → (node .kind ≡ variableKind → ⊥)
         → Whole (set ks (64 - left) (node .kind)) (set gs (64 - left) (node .body)) one-node
     is-leaf h4 h5 h6 h7 = on (found .symbol) (found .kind-is) (found .body-is) (found .step)
       where
@@ -194,7 +196,7 @@ module _ (s : List ℕ) (n at left : ℕ) (g : Guards) (ms ks gs : List ℕ) whe
         on Max k b e = absurd (h6 k)
         on (Variable d) k b e = absurd (h7 k)
 
-    pub is-variable : node .kind ≡ 7 → (x : ℕ) → x ≡ getD ms (node .body) 0
+    pub is-variable : node .kind ≡ variableKind → (x : ℕ) → x ≡ getD ms (node .body) 0
         → Whole (set ks (64 - left) (node .kind)) (set (set gs (64 - left) (node .body)) (64 - left) x) one-node
     is-variable k x e =
         whole (step-as found (Variable (node .body)) (rw k))
@@ -206,21 +208,21 @@ module _ (s : List ℕ) (n at left : ℕ) (g : Guards) (ms ks gs : List ℕ) whe
         Reads (formulaOf s n (node .next) (left - 1) g′) (left - 1) ms′ (set ks (64 - left) (node .kind)) (set gs (64 - left) (node .body)) ks′ gs′ r
 
     module _ (few : left ≤ 64) {ks′ gs′ : List ℕ} {r : FormulaRead} where
-      pub is-necessity : node .kind ≡ 5 → Part ms (guarded g) ks′ gs′ r → Whole ks′ gs′ r
+      pub is-necessity : node .kind ≡ necessityKind → Part ms (guarded g) ks′ gs′ r → Whole ks′ gs′ r
       is-necessity k h =
           whole (step-as found (Necessity (node .body)) (rw k))
-          (one-part left (found .one-left) few ms ms ks gs 5 (node .body) (necessity (node .body))
+          (one-part left (found .one-left) few ms ms ks gs necessityKind (node .body) (necessity (node .body))
           (formulaOf s n (node .next) (left - 1) (guarded g)) (λ f. refl) (λ f. refl) (rw k at h))
 
-      pub is-max : node .kind ≡ 6 → Part ((64 - left) ∷ ms) (false ∷ g) ks′ gs′ r → Whole ks′ gs′ r
+      pub is-max : node .kind ≡ maxKind → Part ((64 - left) ∷ ms) (false ∷ g) ks′ gs′ r → Whole ks′ gs′ r
       is-max k h =
           let no-body : node .body ≡ 0 = body-as found Max (rw k) in
           whole (step-as found Max (rw k))
-          (one-part left (found .one-left) few ms ((64 - left) ∷ ms) ks gs 6 0 max
+          (one-part left (found .one-left) few ms ((64 - left) ∷ ms) ks gs maxKind 0 max
           (formulaOf s n (node .next) (left - 1) (false ∷ g)) (λ f. refl) (λ f. refl) (rw (k, no-body) at h))
 
     -- the first part of a "both", and what `read_formula` found there
-    module _ (k : node .kind ≡ 4) (few : left ≤ 64) {ks′ gs′ : List ℕ} (first : FormulaRead) (h : Part ms g ks′ gs′ first) where
+    module _ (k : node .kind ≡ bothKind) (few : left ≤ 64) {ks′ gs′ : List ℕ} (first : FormulaRead) (h : Part ms g ks′ gs′ first) where
       abbrev one : Outcome Parsed
       one = formulaOf s n (node .next) (left - 1) g
 

@@ -7,7 +7,7 @@ use Prim.Native.Nat.{ℕ}
 use lib.ListN.{length}
 use Rattle.reading.specs.Pattern.{WellFormedPattern}
 use Rattle.reading.specs.Rule.{Formula, Guards, WellFormed, Rule, All}
-use Rattle.reading.specs.File.{Symbol}
+use Rattle.reading.specs.Rule.{Symbol}
 use Rattle.reading.specs.Faults.{Record, node, recordsBytes, Bound, Begins, BeginsRule, BeginsBound, IsRule}
 use Rattle.reading.specs.declared.Pattern.{Pattern}
 use Rattle.reading.proofs.Basics.AllLaws.{all-front}

@@ -7,7 +7,7 @@ use mathlib.Core.List.{List, [], _∷_, _++_, map, append-assoc, append-nil}
 use Prim.Native.Nat.{ℕ, suc, _<_}
 use lib.ListN.{length, getD, length-map}
 use Rattle.reading.specs.Rule.{Formula, truth, falsity, both, necessity, max, variable, Guards, guarded, WellFormed}
-use Rattle.reading.specs.File.{Symbol, Truth, Falsity, Both, Max, Necessity, Variable}
+use Rattle.reading.specs.Rule.{Symbol, Truth, Falsity, Both, Max, Necessity, Variable}
 use Rattle.reading.specs.Faults.{Bound}
 
 -- ---- contexts

@@ -11,6 +11,7 @@ use lib.Dec.{ltb, leb, eqb}
 use borrow.Author.Tests.{ltb-true, ltb-false, leb-true, leb-false, eqb-true, eqb-false, lt-ltb}
 use Rattle.reading.specs.Pattern.{WellFormedPattern}
 use Rattle.reading.specs.Rule.{Guards, Bytes}
+use Rattle.reading.specs.Rule.{patternKind, necessityKind, variableKind}
 use Rattle.reading.specs.File.{refused, andThen, patternAt, isPattern, necessityAt, variableAt, nodeAt}
 use Rattle.reading.specs.Faults.{Unfinished, KindAt, IsPattern, HasBody, NoKind, Fault, file-ended, pattern-cut, node-cut, no-kind, after-rule, late-pattern}
 use Rattle.reading.specs.Faults.{pattern-33, node-65, bad-pattern, names-nothing, unguarded}
@@ -27,21 +28,21 @@ use Rattle.reading.proofs.Refusing.RecordsHere.{necessity-here, variabl
 
 -- ---- a node
 
-unknown-kind : (k : ℕ) → (eqb k 0 || ltb 7 k) ≡ true → NoKind k
+unknown-kind : (k : ℕ) → (eqb k 0 || ltb variableKind k) ≡ true → NoKind k
 unknown-kind k e = on (eqb k 0) refl e
   where
-    on : (b : Bool) → eqb k 0 ≡ b → (b || ltb 7 k) ≡ true → NoKind k
+    on : (b : Bool) → eqb k 0 ≡ b → (b || ltb variableKind k) ≡ true → NoKind k
     on true q e′ = inl (eqb-true k 0 q)
-    on false q e′ = inr (ltb-true 7 k e′)
+    on false q e′ = inr (ltb-true variableKind k e′)
 
 -- a pattern where none is due
-pattern-late : (s : List ℕ) (at m : ℕ) → (m ≡ 0 → isPattern s at ≡ false) → at < length s → eqb (getD s at 0) 1 ≡ true → 0 < m
+pattern-late : (s : List ℕ) (at m : ℕ) → (m ≡ 0 → isPattern s at ≡ false) → at < length s → eqb (getD s at 0) patternKind ≡ true → 0 < m
 pattern-late s at zero none inside t =
     let z : true ≡ false = rw (lt-ltb at (length s) inside, t) at (none refl) in let z′ : _≡_ {A = ℕ} 0 1 = cc in absurd (omega arith)
 pattern-late s at (suc m) none inside t = omega arith
 
 module _ {s : List ℕ} {at n m : ℕ} {g : Guards} {due : List Guards} (h : ReadTo s at n m (g ∷ due)) {number place : ℕ} where
-  necessity-fault : Byte s at 5 → m < 64 → necessityAt s n at ≡ refused number place → Fault s number place
+  necessity-fault : Byte s at necessityKind → m < 64 → necessityAt s n at ≡ refused number place → Fault s number place
   necessity-fault b few e =
       let kind : KindAt s at HasBody = (b .inside, inl (b .is)) in
       found (Fault s) (leb (length s) (at + 1)) 1 (length s) _ e
@@ -52,7 +53,7 @@ module _ {s : List ℕ} {at n m : ℕ} {g : Guards} {due : List Guards} (h : Rea
       (λ t. names-nothing (still-due h) kind few (omega arith) (λ begins. omega (arith, leb-true n (getD s (at + 1) 0) t, node-bound h (necessity-here s at b whole) begins)))
       (λ f′ e″. absurd (never-refused e″)))
 
-  variable-fault : Byte s at 7 → m < 64 → variableAt s g at ≡ refused number place → Fault s number place
+  variable-fault : Byte s at variableKind → m < 64 → variableAt s g at ≡ refused number place → Fault s number place
   variable-fault b few e =
       let depth = getD s (at + 1) 0 in
       found (Fault s) (leb (length s) (at + 1)) 1 (length s) _ e
@@ -72,7 +73,7 @@ module _ {s : List ℕ} {at n m : ℕ} {g : Guards} {due : List Guards} (h : Rea
       (bound-begins h here bound))
       (λ f″ e‴. absurd (never-refused e‴))))
 
-  by-kind : (left k : ℕ) → Byte s at k → (k ≡ 0 → ⊥) → k ≤ 7 → (k ≡ 1 → ⊥) → m < 64 → ofKind s n at left g k ≡ refused number place → Fault s number place
+  by-kind : (left k : ℕ) → Byte s at k → (k ≡ 0 → ⊥) → k ≤ variableKind → (k ≡ patternKind → ⊥) → m < 64 → ofKind s n at left g k ≡ refused number place → Fault s number place
   by-kind left zero b some known not-pattern few e = absurd (some refl)
   by-kind left (suc zero) b some known not-pattern few e = absurd (not-pattern refl)
   by-kind left (suc (suc zero)) b some known not-pattern few e = absurd (never-refused e)
@@ -91,19 +92,19 @@ module _ {s : List ℕ} {at n m : ℕ} {g : Guards} {due : List Guards} (h : Rea
       (λ t. file-ended (subst (λ (k : ℕ). Unfinished s k n m) (omega (arith, leb-true (length s) at t, h .inside)) (still-due h)))
       (λ f e′.
       let inside : at < length s = leb-false _ _ f in
-      found (Fault s) (eqb kind 0 || ltb 7 kind) 2 at _ e′
+      found (Fault s) (eqb kind 0 || ltb variableKind kind) 2 at _ e′
       (λ t. no-kind (still-due h) (inside, unknown-kind kind t))
       (λ f′ e″.
-      let (some, known) = neither (eqb kind 0) (ltb 7 kind) f′ in
-      found (Fault s) (eqb kind 1) 3 at _ e″
-      (λ t. late-pattern (still-due h) (inside, eqb-true kind 1 t) (pattern-late s at m none inside t))
+      let (some, known) = neither (eqb kind 0) (ltb variableKind kind) f′ in
+      found (Fault s) (eqb kind patternKind) 3 at _ e″
+      (λ t. late-pattern (still-due h) (inside, eqb-true kind patternKind t) (pattern-late s at m none inside t))
       (λ f″ e‴.
-      let range : kind ≤ 7 = ltb-false 7 kind known in
+      let range : kind ≤ variableKind = ltb-false variableKind kind known in
       found (Fault s) (eqb left 0) 4 at _ e‴
       (λ t. node-65 (subst (Unfinished s at n) (omega (arith, eqb-true left 0 t)) (still-due h))
-      (inside, (omega (arith, eqb-false kind 0 some, eqb-false kind 1 f″), range)))
+      (inside, (omega (arith, eqb-false kind 0 some, eqb-false kind patternKind f″), range)))
       (λ f‴ last.
-      by-kind left kind (record { inside = inside; is = refl }) (eqb-false kind 0 some) range (eqb-false kind 1 f″)
+      by-kind left kind (record { inside = inside; is = refl }) (eqb-false kind 0 some) range (eqb-false kind patternKind f″)
       (omega (arith, eqb-false left 0 f‴)) last))))
 
 -- ---- what is due
@@ -133,7 +134,7 @@ due-fault (suc left) (g ∷ due) {s} {at} {n} h count none e =
 
 -- ---- the patterns
 
-module _ {s : List ℕ} {at n : ℕ} (h : ReadTo s at n 0 ([] ∷ [])) (b : Byte s at 1) where
+module _ {s : List ℕ} {at n : ℕ} (h : ReadTo s at n 0 ([] ∷ [])) (b : Byte s at patternKind) where
   abbrev kind : KindAt s at IsPattern
   kind = (b .inside, b .is)
 

@@ -10,7 +10,9 @@ use lib.ListN.{length, getD, take}
 use lib.Dec.{ltb, leb, eqb}
 use borrow.Author.Tests.{leb-true, leb-false, lt-ltb, le-ltb, eqb-true}
 use Rattle.reading.specs.Rule.{Guards, Rule, Bytes}
-use Rattle.reading.specs.File.{Outcome, accepted, refused, patternAt, isPattern, NodeRecord, Symbol, necessityAt, variableAt, nodeAt, ruleOf}
+use Rattle.reading.specs.Rule.{Symbol}
+use Rattle.reading.specs.Rule.{patternKind, necessityKind, variableKind}
+use Rattle.reading.specs.File.{Outcome, accepted, refused, patternAt, isPattern, NodeRecord, necessityAt, variableAt, nodeAt, ruleOf}
 use Rattle.reading.specs.Faults.{IsPattern, NoKind, IsNode, HasBody, IsVariable, KindAt, BeginsRule, BeginsBound, IsRule, Fault}
 use Rattle.reading.specs.Faults.{file-ended, pattern-cut, node-cut, no-kind, after-rule, late-pattern, pattern-33, node-65, bad-pattern, names-nothing}
 use Rattle.reading.specs.Faults.{unguarded}
@@ -89,13 +91,13 @@ module _ {s : List ℕ} {at n m : ℕ} {g : Guards} {due : List Guards} (h : Rea
 
   -- a necessity or a variable, of which its own checks tell
   module _ {number place : ℕ} (few : m < 64) where
-    necessity-refused : KindAt s at (λ k. k ≡ 5) → NodeRead.Refused number place ≡ nodeRead (necessityAt s n at)
+    necessity-refused : KindAt s at (λ k. k ≡ necessityKind) → NodeRead.Refused number place ≡ nodeRead (necessityAt s n at)
         → headAt s 32 0 0 ≡ refused number place
     necessity-refused (inside, is) e =
         node-refused (λ z. no-pattern s at (λ one. omega arith))
         (checks.node-necessity s n at (64 - m) g inside (λ z. omega arith) (omega arith) (λ z. omega arith) (λ z. omega arith) is _ e)
 
-    variable-refused : KindAt s at (λ k. k ≡ 7) → NodeRead.Refused number place ≡ nodeRead (variableAt s g at)
+    variable-refused : KindAt s at (λ k. k ≡ variableKind) → NodeRead.Refused number place ≡ nodeRead (variableAt s g at)
         → headAt s 32 0 0 ≡ refused number place
     variable-refused (inside, is) e =
         node-refused (λ z. no-pattern s at (λ one. omega arith))
@@ -192,7 +194,7 @@ module _ {s : List ℕ} {at n : ℕ} {due : List Guards} (h : ReadTo s at n 0 du
           → headAt s 32 0 0 ≡ refused 5 at
       on (accepted p) e say =
           let stands = pattern-stands s at (32 - n) p (byte-at s bytes (at + 1)) e in
-          let b : Byte s at 1 = record { inside = kind .0; is = kind .1 } in
+          let b : Byte s at patternKind = record { inside = kind .0; is = kind .1 } in
           absurd (none (front-read (next-pattern h few (pattern-stood s at b stands) (stands .well-formed)) .begins))
       on (refused number place) e say = let (is, here) = five few whole e in say 5 at (e ∙ rw (is, here))
 

@@ -10,7 +10,9 @@ use lib.Seq.{length-take-le, drop-append-seam}
 use borrow.Author.Tests.{lt-ltb, ne-eqb}
 use Rattle.reading.specs.Pattern.{WellFormedPattern}
 use Rattle.reading.specs.Rule.{Guards, All}
-use Rattle.reading.specs.File.{isPattern, Symbol, Truth, Falsity, Both, Max, Necessity, Variable}
+use Rattle.reading.specs.Rule.{Symbol, Truth, Falsity, Both, Max, Necessity, Variable}
+use Rattle.reading.specs.Rule.{patternKind}
+use Rattle.reading.specs.File.{isPattern}
 use Rattle.reading.specs.Faults.{pattern, node, recordBytes, recordsBytes, patternsIn, nodesIn, Front, BeginsRule, Unfinished}
 use Rattle.reading.specs.declared.Pattern.{Pattern}
 use Rattle.reading.proofs.Basics.Places.{byte-of, first-byte, rest-of, rest-after}
@@ -76,8 +78,8 @@ module _ (s : List ℕ) where
 
   -- ---- where the formula begins
 
-  pub no-pattern : (at : ℕ) → (getD s at 0 ≡ 1 → ⊥) → isPattern s at ≡ false
-  no-pattern at other = rw (ne-eqb (getD s at 0) 1 other, and-false)
+  pub no-pattern : (at : ℕ) → (getD s at 0 ≡ patternKind → ⊥) → isPattern s at ≡ false
+  no-pattern at other = rw (ne-eqb (getD s at 0) patternKind other, and-false)
 
   pub head-over : (left n at : ℕ) → isPattern s at ≡ false → headAt s left n at ≡ dueAt s 64 n at ([] ∷ [])
   unfolding headAt

@@ -9,8 +9,9 @@ use native.Mathlib.Omega.{arith}
 use lib.ListN.{length}
 use lib.Dec.{ltb}
 use Rattle.reading.specs.Rule.{Guards, guarded, Rule}
+use Rattle.reading.specs.Rule.{Symbol, Truth, Falsity, Both, Max, Necessity, Variable}
 use Rattle.reading.specs.File.{Outcome, accepted, refused, refuse, andThen, patternAt, isPattern, Patterns, withPattern, patternsAt}
-use Rattle.reading.specs.File.{Symbol, Truth, Falsity, Both, Max, Necessity, Variable, nodeAt, Parsed, partsBy, formulaOf, endOfFile, ruleOf}
+use Rattle.reading.specs.File.{nodeAt, Parsed, partsBy, formulaOf, endOfFile, ruleOf}
 use Rattle.reading.specs.declared.Pattern.{Pattern}
 use Rattle.reading.proofs.Basics.Outcomes.{then-agree}
 use Rattle.reading.proofs.Accepting.NodeBytes.{node-accepts}

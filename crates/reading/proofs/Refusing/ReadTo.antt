@@ -8,7 +8,7 @@ use lib.ListN.{length, take, drop, length-append}
 use lib.Seq.{take-add, take-append-seam}
 use Rattle.reading.specs.Pattern.{WellFormedPattern}
 use Rattle.reading.specs.Rule.{Guards, All}
-use Rattle.reading.specs.File.{Symbol}
+use Rattle.reading.specs.Rule.{Symbol}
 use Rattle.reading.specs.Faults.{Record, pattern, node, recordBytes, recordsBytes, BeginsRule, BeginsBound, IsRule, Front, Unfinished}
 use Rattle.reading.specs.declared.Pattern.{Pattern}
 use Rattle.reading.proofs.Basics.AllLaws.{all-append, all-last}

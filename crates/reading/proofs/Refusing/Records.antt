@@ -9,7 +9,8 @@ use native.Mathlib.Omega.{arith}
 use lib.Dec.{eqb}
 use lib.ListN.{length, getD, drop, length-append}
 use Rattle.reading.specs.Rule.{Formula, truth, falsity, both, necessity, max, variable, Rule, encodePatterns, encodeFormula, encode}
-use Rattle.reading.specs.File.{Symbol, Truth, Falsity, Both, Max, Necessity, Variable}
+use Rattle.reading.specs.Rule.{Symbol, Truth, Falsity, Both, Max, Necessity, Variable}
+use Rattle.reading.specs.Rule.{patternKind, truthKind, falsityKind, bothKind, necessityKind, maxKind}
 use Rattle.reading.specs.Faults.{Record, pattern, node, recordBytes, recordsBytes, patternsIn, nodesIn}
 use Rattle.reading.specs.declared.Pattern.{Pattern}
 use Rattle.reading.proofs.Refusing.Contexts.{symbols}
@@ -20,12 +21,12 @@ use Rattle.reading.proofs.Refusing.Contexts.{symbols}
 firstRecord : List ℕ → Record × List ℕ
 firstRecord s =
     let k = getD s 0 0 in
-    cond (eqb k 1) (pattern (record { mask = getD s 1 0; first = getD s 2 0; last = getD s 3 0 }), drop 4 s)
-    (cond (eqb k 2) (node Truth, drop 1 s)
-    (cond (eqb k 3) (node Falsity, drop 1 s)
-    (cond (eqb k 4) (node Both, drop 1 s)
-    (cond (eqb k 5) (node (Necessity (getD s 1 0)), drop 2 s)
-    (cond (eqb k 6) (node Max, drop 1 s)
+    cond (eqb k patternKind) (pattern (record { mask = getD s 1 0; first = getD s 2 0; last = getD s 3 0 }), drop 4 s)
+    (cond (eqb k truthKind) (node Truth, drop 1 s)
+    (cond (eqb k falsityKind) (node Falsity, drop 1 s)
+    (cond (eqb k bothKind) (node Both, drop 1 s)
+    (cond (eqb k necessityKind) (node (Necessity (getD s 1 0)), drop 2 s)
+    (cond (eqb k maxKind) (node Max, drop 1 s)
     (node (Variable (getD s 1 0)), drop 2 s))))))
 
 first-record : (x : Record) (rest : List ℕ) → firstRecord (recordBytes x ++ rest) ≡ (x, rest)
@@ -95,11 +96,11 @@ formula-bytes : (f : Formula) → recordsBytes (map node (symbols f)) ≡ encode
 formula-bytes truth = refl
 formula-bytes falsity = refl
 formula-bytes (both f g) =
-    ap (λ (l : List ℕ). 4 ∷ l)
+    ap (λ (l : List ℕ). bothKind ∷ l)
     (ap recordsBytes (map-append node (symbols f) (symbols g))
     ∙ (bytes-of-both (map node (symbols f)) (map node (symbols g)) ∙ rw (formula-bytes f, formula-bytes g)))
-formula-bytes (necessity p f) = ap (λ (l : List ℕ). 5 ∷ p ∷ l) (formula-bytes f)
-formula-bytes (max f) = ap (λ (l : List ℕ). 6 ∷ l) (formula-bytes f)
+formula-bytes (necessity p f) = ap (λ (l : List ℕ). necessityKind ∷ p ∷ l) (formula-bytes f)
+formula-bytes (max f) = ap (λ (l : List ℕ). maxKind ∷ l) (formula-bytes f)
 formula-bytes (variable d) = refl
 
 pub rule-bytes : (r : Rule) → recordsBytes (records (r .patterns) (symbols (r .formula))) ≡ encode r

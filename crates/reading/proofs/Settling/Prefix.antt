@@ -7,6 +7,7 @@ use native.Mathlib.Omega.{arith}
 use lib.ListN.{length}
 use borrow.Author.Tests.{lt-ltb}
 use Rattle.reading.specs.Rule.{Guards, Bytes}
+use Rattle.reading.specs.Rule.{patternKind, nodeBytes, Necessity, Truth}
 use Rattle.reading.specs.File.{Outcome, accepted, andThen, patternAt, isPattern, Patterns, patternsAt}
 use Rattle.reading.specs.File.{NodeRecord, necessityAt, variableAt, nodeAt, Parsed, formulaAt, formulaOf, endOfFile, ruleOf}
 use Rattle.reading.specs.Promises.{SettledByFirstBytes, NotByFewer}
@@ -129,7 +130,7 @@ times (suc n) bytes rest = bytes ++ times n bytes rest
 
 -- 32 patterns, a formula of 64 nodes that is not whole, and one more node
 longest : List ℕ
-longest = times 32 (1 ∷ 1 ∷ 0 ∷ 0 ∷ []) (times 64 (5 ∷ 0 ∷ []) (2 ∷ []))
+longest = times 32 (patternKind ∷ 1 ∷ 0 ∷ 0 ∷ []) (times 64 (nodeBytes (Necessity 0)) (nodeBytes Truth))
 
 times-bytes : (n : ℕ) (bytes rest : List ℕ) → Bytes bytes → Bytes rest → Bytes (times n bytes rest)
 unfolding times
