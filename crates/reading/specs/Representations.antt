@@ -4,10 +4,10 @@ use mathlib.Core.Path.{_≡_}
 use mathlib.Core.List.{List, [], _∷_, _++_, map}
 use mathlib.Core.Bool.{true, false}
 use lib.ListN.{length, getD, replicate}
+use lib.Dec.{eqb}
 use lib.Seq.{sets}
 use Rattle.reading.specs.Pattern.{extentOf}
-use Rattle.reading.specs.File.{Outcome, accepted, refused}
-use Rattle.reading.specs.File.{Patterns, NodeRecord, Parsed}
+use Rattle.reading.specs.File.{Outcome, accepted, refused, refuse, andThen, RecordFormat, Records, recordsAt, NodeRecord, Parsed}
 use Rattle.reading.specs.Rule.{Guards, Symbol, Truth, Falsity, Both, Max, Necessity, Variable, kindByte}
 use Rattle.reading.specs.Numbered.{kinds, args, padded, noPattern, noExtent}
 use Rattle.reading.specs.declared.Pattern.{Pattern}
@@ -61,9 +61,27 @@ abbrev pub passedUp : NodeRead → FormulaRead
 passedUp (NodeRead′.the-variants.Read r) = FormulaRead′.the-variants.Refused 0 0
 passedUp (NodeRead′.the-variants.Refused number place) = FormulaRead′.the-variants.Refused number place
 
+-- ---- a list of records, read one after the other
+
+-- the record at `at`, of which `left` are left
+abbrev pub recordAt : {A : Type 0} → RecordFormat A → (left at : ℕ) → Outcome A
+recordAt r left at = refuse (eqb left 0) (r .tooMany at) at (r .one at)
+
+-- the records of an outcome, after some that were read before
+abbrev pub prepend : {A : Type 0} → List A → Outcome (Records A) → Outcome (Records A)
+prepend done o = andThen o (λ xs. accepted (record { list = done ++ xs .list; next = xs .next }))
+
+-- Of at most `limit` records from `start` on n are read, up to `at`, and stand in an array, of which the rest is blank.
+pub record RecordsBegun {A : Type 0} (r : RecordFormat A) (blank : A) (limit start : ℕ) (array : List A) (n at : ℕ) : Type 0 where
+  pub done : List A
+  pub counted : length done ≡ n
+  pub few : n ≤ limit
+  pub stored : array ≡ padded limit blank done
+  pub rest : recordsAt r limit start ≡ prepend done (recordsAt r (limit - n) at)
+
 -- ---- the patterns that a file begins with
 
-abbrev pub headOf : Patterns → Head
+abbrev pub headOf : Records Pattern → Head
 headOf ps = record {
   answer = Acceptance′.the-variants.Accepted;
   next = ps .next;
@@ -72,7 +90,7 @@ headOf ps = record {
   extents = padded 32 noExtent (map extentOf (ps .list));
 }
 
-abbrev pub HeadOf : Outcome Patterns → Head → Type 0
+abbrev pub HeadOf : Outcome (Records Pattern) → Head → Type 0
 HeadOf (accepted ps) h = h ≡ headOf ps
 HeadOf (refused number place) h = h .answer ≡ Acceptance′.the-variants.Refused number place
 

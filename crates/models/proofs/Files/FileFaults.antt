@@ -1,25 +1,27 @@
 -- A model file is refused with a number at a place exactly where a clause of `Fault` has it so.
 use mathlib.Core.Path.{_≡_, refl, sym, ap, _∙_, subst}
 use mathlib.Core.Logic.{_↔_, inl, inr}
-use mathlib.Core.Bool.{Bool, true, false, cond, not, _||_}
+use mathlib.Core.Bool.{Bool, true, false, cond, not}
 use mathlib.Core.List.{List, []}
 use Prim.Native.Nat.{ℕ, zero, suc, _+_, _-_, _≤_, _<_}
 use native.Mathlib.Omega.{arith}
 use lib.Dec.{eqb, ltb, leb}
 use lib.ListN.{length, getD, take}
-use borrow.Author.Tests.{ltb-true, leb-true, leb-false, eqb-true, eqb-false, le-leb, lt-leb, ne-eqb, not-true, not-false}
+use borrow.Author.Tests.{ltb-true, leb-true, leb-false, eqb-true, eqb-false, le-leb, lt-leb, lt-ltb, ne-eqb, not-true, not-false}
 use Rattle.reading.specs.Faults.{KindAt}
 use Rattle.reading.specs.Rule.{Bytes}
-use Rattle.reading.specs.File.{Outcome, accepted, refused, refuse, andThen}
+use Rattle.reading.specs.File.{Outcome, accepted, refused, refuse, andThen, recordsAt}
+use Rattle.reading.specs.Representations.{recordAt}
 use Rattle.reading.specs.declared.Acceptance.the-variants.{Refused}
-use Rattle.models.specs.Phone.{Phone, statesOf, among, endingAt, stepAt, recordLength, stepsAt, phoneOf}
+use Rattle.models.specs.Phone.{Phone, statesKind, isStep, statesOf, among, endingAt, stepAt, recordLength, stepFormat, stepsAt, phoneOf}
 use Rattle.models.specs.Judging.{modelReadingOf}
 use Rattle.models.specs.Faults.{ModelBefore, BeginsModel, IsCount, IsStep, afterStep}
 use Rattle.models.specs.Faults.{Fault, empty-file, count-cut, step-cut, not-count, bad-count, not-step, bad-step, step-513}
 use Rattle.models.specs.Promises.{RefusesAtTheFault, HasOneFault}
 use Rattle.models.specs.declared.Step.{Step}
+use Rattle.reading.proofs.RecordLists.RecordWays.{record-accepted, records-refused}
 use Rattle.reading.proofs.Refusing.OneFault.{one-fault}
-use Rattle.models.proofs.Files.StepLaws.{is-step, is-no-step, a-step, one-refused}
+use Rattle.models.proofs.Files.StepLaws.{is-step, is-no-step, a-step}
 use Rattle.models.proofs.Files.RecordChecks as Checks
 use Rattle.models.proofs.Files.StepBytes.{StepDue, step-due}
 use Rattle.models.proofs.Files.FileWays.{no-states-found, no-step-found}
@@ -59,7 +61,7 @@ module _ (f : List ℕ) where
   states-faulty =
       checked (eqb (length f) 0) 11 (length f) _ (λ e. empty-file (eqb-true _ _ e)) λ some.
       let inside : 0 < length f = omega (arith, eqb-false (length f) 0 some) in
-      checked (not (eqb (getD f 0 0) 16)) 12 0 _ (λ e. not-count (inside, eqb-false _ _ (not-true _ e))) λ kind.
+      checked (not (eqb (getD f 0 0) statesKind)) 12 0 _ (λ e. not-count (inside, eqb-false _ _ (not-true _ e))) λ kind.
       let count : KindAt f 0 IsCount = (inside, eqb-true _ _ (not-false _ kind)) in
       checked (eqb (length f) 1) 11 (length f) _ (λ e. count-cut count (omega (arith, eqb-true (length f) 1 e))) λ long.
       let whole : 2 ≤ length f = omega (arith, eqb-false (length f) 1 long) in
@@ -85,27 +87,33 @@ module _ (f : List ℕ) where
         checked (leb states (x .to)) 13 at _ (λ e. bad (λ g. omega (arith, leb-true states (x .to) e, among g .1))) λ to.
         tt
 
-    step-faulty : {at n : ℕ} (m : ModelBefore f at n) (left : ℕ) → left + n ≡ 512 → at < length f
-        → Faulty (stepAt f (m .phone .states) at left)
-    step-faulty {at} m left all inside =
-        checked (not (eqb (getD f at 0) 17 || eqb (getD f at 0) 18)) 12 at _ (λ e.
-        not-step m (inside, is-no-step (getD f at 0) (not-true _ e))) λ step.
-        let kind : KindAt f at IsStep = (inside, is-step (getD f at 0) (not-false _ step)) in
-        checked (eqb left 0) 14 at _ (λ e.
-        step-513 (subst (ModelBefore f at) (omega (arith, eqb-true left 0 e)) m) kind) λ some.
+    -- what is no step, and a step
+    kind-faulty : {A : Type 0} {at n : ℕ} (m : ModelBefore f at n) → at < length f → (o : Outcome A) → (KindAt f at IsStep → Faulty o)
+        → Faulty (refuse (not (isStep (getD f at 0))) 12 at o)
+    kind-faulty {at = at} m inside o later =
+        checked (not (isStep (getD f at 0))) 12 at o (λ e. not-step m (inside, is-no-step (getD f at 0) (not-true _ e)))
+        (λ step. later (inside, is-step (getD f at 0) (not-false _ step)))
+
+    step-faulty : {at n : ℕ} (m : ModelBefore f at n) → n < 512 → at < length f → Faulty (stepAt f (m .phone .states) at)
+    step-faulty {at} m few inside =
+        kind-faulty m inside _ λ kind.
         let due = step-due f (m .phone .states) at bytes kind in
-        rw (due .checks) (record-faulty m (omega (arith, eqb-false left 0 some)) kind due)
+        rw (due .checks) (record-faulty m few kind due)
+
+    one-too-many : {at : ℕ} (m : ModelBefore f at 512) → at < length f → Fault f (cond (isStep (getD f at 0)) 14 12) at
+    one-too-many {at} m inside = on (isStep (getD f at 0)) refl
+      where
+        on : (b : Bool) → isStep (getD f at 0) ≡ b → Fault f (cond b 14 12) at
+        on true is = step-513 m (inside, is-step (getD f at 0) is)
+        on false is = not-step m (inside, is-no-step (getD f at 0) is)
 
     steps-faulty : (left : ℕ) {at n : ℕ} (m : ModelBefore f at n) → left + n ≡ 512 → Faulty (stepsAt left f (m .phone .states) at)
-    unfolding stepsAt
-    steps-faulty zero {at} m all =
-        more-faulty at _ [] λ inside.
-        then-faulty (stepAt f (m .phone .states) at zero) _ (step-faulty m zero all inside) λ x e.
-        tt
+    unfolding recordsAt
+    steps-faulty zero {at} m all = more-faulty at _ _ (one-too-many (subst (ModelBefore f at) (omega arith) m))
     steps-faulty (suc left) {at} {n} m all =
-        more-faulty at _ [] λ inside.
-        then-faulty (stepAt f (m .phone .states) at (suc left)) _ (step-faulty m (suc left) all inside) λ x e.
-        let (longer, same) = step-longer m bytes inside (omega arith) (suc left) x e in
+        more-faulty at _ _ λ inside.
+        then-faulty (stepAt f (m .phone .states) at) _ (step-faulty m (omega arith) inside) λ x e.
+        let (longer, same) = step-longer m bytes inside (omega arith) x e in
         then-faulty (stepsAt left f (m .phone .states) (at + recordLength x)) _ (rw same at (steps-faulty left longer (omega arith))) λ xs e.
         tt
 
@@ -139,11 +147,11 @@ module _ (f : List ℕ) {number place : ℕ} where
   unfolding phoneOf
   first-refused e = rw e
 
-  next-refused : {at n : ℕ} (m : ModelBefore f at n) → at < length f → stepAt f (m .phone .states) at (512 - n) ≡ refused number place
-      → phoneOf f ≡ refused number place
+  next-refused : {at n : ℕ} (m : ModelBefore f at n) → at < length f
+      → recordAt (stepFormat f (m .phone .states)) (512 - n) at ≡ refused number place → phoneOf f ≡ refused number place
   next-refused {at} {n} m inside e =
       let few : n ≤ 512 = omega (arith, m .steps-are, m .within-limits .few-steps) in
-      refused-there m (omega arith) (512 - n) (omega arith) (one-refused f (m .phone .states) at (512 - n) inside e)
+      refused-there m (omega arith) (512 - n) (omega arith) (records-refused (stepFormat f (m .phone .states)) at (512 - n) (lt-ltb _ _ inside) e)
 
 module _ (f : List ℕ) (bytes : Bytes f) where
   -- the checks of a step that may come next
@@ -151,8 +159,8 @@ module _ (f : List ℕ) (bytes : Bytes f) where
     due : StepDue f (m .phone .states) at
     due = step-due f (m .phone .states) at bytes kind
 
-    due-checks : stepAt f (m .phone .states) at (512 - n) ≡ endingAt f (m .phone .states) at (due .last) (due .step)
-    due-checks = rw (a-step (getD f at 0) (kind .1), ne-eqb (512 - n) 0 (λ z. omega arith)) (due .checks)
+    due-checks : recordAt (stepFormat f (m .phone .states)) (512 - n) at ≡ endingAt f (m .phone .states) at (due .last) (due .step)
+    due-checks = rw (ne-eqb (512 - n) 0 (λ z. omega arith), a-step (getD f at 0) (kind .1)) (due .checks)
 
     cut-refused : length f < afterStep f at → phoneOf f ≡ refused 11 (length f)
     cut-refused cut = next-refused f m (kind .0) (due-checks ∙ rw (le-leb (length f) (due .last) (omega (arith, due .after))))
@@ -160,11 +168,11 @@ module _ (f : List ℕ) (bytes : Bytes f) where
     bad-refused : afterStep f at ≤ length f → (BeginsModel (take (afterStep f at) f) → ⊥) → phoneOf f ≡ refused 13 at
     bad-refused whole none =
         let states = m .phone .states in
-        let checks : stepAt f states at (512 - n) ≡ among states at (due .step) =
+        let checks : recordAt (stepFormat f states) (512 - n) at ≡ among states at (due .step) =
         due-checks ∙ rw (lt-leb (length f) (due .last) (omega (arith, due .after))) in
         let ends : at + recordLength (due .step) ≡ afterStep f at = due .ends ∙ sym (due .after) in
         next-refused f m (kind .0) (checks ∙ among-refused states at (due .step) λ e.
-        let (longer, same) = step-longer m bytes (kind .0) few (512 - n) (due .step) (checks ∙ e) in
+        let (longer, same) = step-longer m bytes (kind .0) few (due .step) (record-accepted (stepFormat f states) at (512 - n) (checks ∙ e) .1) in
         none (rw ends at (model-begins longer)))
 
   pub fault-refuses : {number place : ℕ} → Fault f number place → phoneOf f ≡ refused number place
@@ -179,11 +187,11 @@ module _ (f : List ℕ) (bytes : Bytes f) where
       first-refused f (no-states-found (statesOf f)
       (Checks.states-over f (λ z. omega arith) kind (λ z. omega arith) (λ z. omega arith) many))
   fault-refuses (not-step {at} {n} m (inside, other)) =
-      next-refused f m inside (no-step-found (stepAt f (m .phone .states) at (512 - n))
+      next-refused f m inside (no-step-found (recordAt (stepFormat f (m .phone .states)) (512 - n) at)
       (Checks.no-step f (m .phone .states) at (512 - n) (λ e. other (inl e)) (λ e. other (inr e))))
   fault-refuses (bad-step m kind few whole none) = bad-refused m few kind whole none
   fault-refuses (step-513 {at} m (inside, kind)) =
-      next-refused f m inside (no-step-found (stepAt f (m .phone .states) at 0)
+      next-refused f m inside (no-step-found (recordAt (stepFormat f (m .phone .states)) 0 at)
       (Checks.no-step-left f (m .phone .states) at 0 (a-step (getD f at 0) kind) refl))
 
 -- ---- the promise

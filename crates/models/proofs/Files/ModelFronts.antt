@@ -11,11 +11,12 @@ use lib.Seq.{length-take-le, take-add, take-at}
 use Rattle.reading.specs.Rule.{All, Bytes}
 use Rattle.reading.specs.File.{accepted, refused}
 use Rattle.reading.proofs.Basics.AllLaws.{all-append}
+use Rattle.reading.proofs.RecordLists.RecordsAccepted.{records-after}
 use Rattle.models.specs.Phone.{WellFormedStep, recordBytes, encodeStep, encodeSteps, encodePhone}
-use Rattle.models.specs.Phone.{statesOf, stepAt, recordLength, stepsAt, phoneOf}
+use Rattle.models.specs.Phone.{codeStepKind, silentStepKind, statesOf, stepAt, recordLength, stepFormat, stepsAt, phoneOf}
 use Rattle.models.specs.Faults.{ModelBefore, BeginsModel}
 use Rattle.models.specs.declared.Step.{Step}
-use Rattle.models.proofs.Files.StepBytes.{length-step, step-stands, refused-after}
+use Rattle.models.proofs.Files.StepBytes.{length-step, step-stands, reads-steps}
 use Rattle.models.proofs.Files.Encoding.{states-read}
 
 -- ---- encodings of steps
@@ -28,8 +29,8 @@ encode-append (x ∷ xs) ys = rw (encode-append xs ys, append-assoc (encodeStep 
 same-record : (b b′ : Bool) (x y : Step) {p q : List ℕ} → recordBytes b x ++ p ≡ recordBytes b′ y ++ q
     → (x .from ≡ y .from) × (x .to ≡ y .to) × (p ≡ q)
 same-record true true x y e = (cc, cc, cc)
-same-record true false x y e = let z : _≡_ {A = ℕ} 18 17 = cc in absurd (omega arith)
-same-record false true x y e = let z : _≡_ {A = ℕ} 17 18 = cc in absurd (omega arith)
+same-record true false x y e = let z : _≡_ {A = ℕ} silentStepKind codeStepKind = cc in absurd (omega arith)
+same-record false true x y e = let z : _≡_ {A = ℕ} codeStepKind silentStepKind = cc in absurd (omega arith)
 same-record false false x y e = (cc, cc, cc)
 
 no-record : (b : Bool) (x : Step) (p : List ℕ) → recordBytes b x ++ p ≡ [] → ⊥
@@ -76,16 +77,18 @@ module _ {f : List ℕ} {at n : ℕ} (m : ModelBefore f at n) where
       let well = m .within-limits .well-formed in
       let first : statesOf f ≡ accepted (m .phone .states) = ap statesOf whole ∙ states-read _ _ (well .some-states) (well .few-states) in
       let steps : stepsAt 512 f (m .phone .states) 2 ≡ refused number place =
-      refused-after f (m .phone .states) (m .phone .steps) 2 at left 512 (drop at f) (well .steps) (ap (drop 2) whole)
-      (omega (arith, ap length (m .bytes-are), length-take-le at f inside)) (omega (arith, m .steps-are)) e in
+      records-after f (stepFormat f (m .phone .states)) encodeStep (WellFormedStep (m .phone .states)) (reads-steps f (m .phone .states))
+      (m .phone .steps) 2 at left 512 (drop at f) (well .steps) (ap (drop 2) whole)
+      (omega (arith, ap length (m .bytes-are), length-take-le at f inside)) (omega (arith, m .steps-are))
+      ∙ rw e in
       rw (first, steps)
 
   -- with a step that is accepted there it is a longer one
-  pub step-longer : Bytes f → at < length f → n < 512 → (left : ℕ) (x : Step) → stepAt f (m .phone .states) at left ≡ accepted x
+  pub step-longer : Bytes f → at < length f → n < 512 → (x : Step) → stepAt f (m .phone .states) at ≡ accepted x
       → (longer : ModelBefore f (at + recordLength x) (suc n)) × (longer .phone .states ≡ m .phone .states)
-  step-longer bytes inside few left x e =
+  step-longer bytes inside few x e =
       let well = m .within-limits .well-formed in
-      let stands = step-stands f (m .phone .states) at left x bytes inside e in
+      let stands = step-stands f (m .phone .states) at x bytes inside e in
       let steps = m .phone .steps ++ x ∷ [] in
       let counted : length steps ≡ suc n = length-append (m .phone .steps) (x ∷ []) ∙ omega (arith, m .steps-are) in (
         record {

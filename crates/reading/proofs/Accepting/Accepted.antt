@@ -40,7 +40,7 @@ rule-stands s bytes r e =
         few-patterns = patterns .few;
         few-nodes = omega (arith, formula .nodes);
       },
-      patterns .bytes ∙ ap (λ (l : List ℕ). bp ++ l) (formula .bytes ∙ ap (λ (l : List ℕ). bf ++ l) none ∙ append-nil bf),
+      patterns .bytes-are ∙ ap (λ (l : List ℕ). bp ++ l) (formula .bytes ∙ ap (λ (l : List ℕ). bf ++ l) none ∙ append-nil bf),
     )
 
 -- a formula does not begin as a pattern
@@ -63,7 +63,7 @@ rule-read s bytes r w e =
     let patterns : PatternsStand s 0 32 (record { list = r .patterns; next = next }) = record {
       well-formed = w .well-formed .patterns;
       few = w .few-patterns;
-      bytes = e ∙ ap (λ (l : List ℕ). bp ++ l) (sym (rest-after s 0 bp e));
+      bytes-are = e ∙ ap (λ (l : List ℕ). bp ++ l) (sym (rest-after s 0 bp e));
       ends = refl;
       over = no-pattern (r .formula) s next from;
     } in

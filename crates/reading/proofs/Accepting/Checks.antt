@@ -9,8 +9,10 @@ use borrow.Author.Tests.{le-leb, lt-leb, le-ltb, lt-ltb, eq-eqb, ne-eqb}
 use Rattle.reading.specs.Rule.{Guards}
 use Rattle.reading.specs.Rule.{Necessity, Variable}
 use Rattle.reading.specs.Rule.{patternKind, necessityKind, variableKind}
-use Rattle.reading.specs.File.{accepted, patternAt, necessityAt, variableAt, nodeAt}
-use Rattle.reading.specs.Representations.{patternRead, nodeRead, guardsOf}
+use Rattle.reading.specs.File.{accepted, patternAt, patternFormat, necessityAt, variableAt, nodeAt}
+use Rattle.reading.specs.Representations.{recordAt, patternRead, nodeRead, guardsOf}
+use Rattle.reading.specs.declared.Pattern.{Pattern}
+use Rattle.reading.specs.declared.patterns.PatternRead.{PatternRead as PatternRead′}
 use Rattle.reading.specs.declared.patterns.PatternRead.the-variants as PatternRead
 use Rattle.reading.specs.declared.formulas.NodeRead.{NodeRead as NodeRead′}
 use Rattle.reading.specs.declared.formulas.NodeRead.the-variants as NodeRead
@@ -19,40 +21,43 @@ use Rattle.reading.proofs.Functions.Scopes.{guards-length, unguarded-at
 -- ---- a pattern
 
 module _ (s : List ℕ) (at left : ℕ) where
-  pub no-pattern-left : left ≡ 0 → PatternRead.Refused 4 at ≡ patternRead (patternAt s at left)
+  -- what `read_pattern` answers
+  abbrev read-at : PatternRead′
+  read-at = patternRead (recordAt (patternFormat s) left at)
+
+  pub no-pattern-left : left ≡ 0 → PatternRead.Refused 4 at ≡ read-at
   no-pattern-left h = simp (eq-eqb _ _ h)
 
   module _ (l : left ≡ 0 → ⊥) where
-    pub pattern-cut : length s ≤ at + 3 → PatternRead.Refused 1 (length s) ≡ patternRead (patternAt s at left)
+    pub pattern-cut : length s ≤ at + 3 → PatternRead.Refused 1 (length s) ≡ read-at
     pattern-cut h = simp (ne-eqb _ _ l, le-leb _ _ h)
 
     module _ (b : at + 3 < length s) where
-      pub no-kind : getD s (at + 1) 0 ≡ 0 → PatternRead.Refused 5 at ≡ patternRead (patternAt s at left)
+      pub no-kind : getD s (at + 1) 0 ≡ 0 → PatternRead.Refused 5 at ≡ read-at
       no-kind h = simp (ne-eqb _ _ l, lt-leb _ _ b, eq-eqb _ _ h)
 
       module _ (k : getD s (at + 1) 0 ≡ 0 → ⊥) where
-        pub first-over : 31 < getD s (at + 2) 0 → PatternRead.Refused 5 at ≡ patternRead (patternAt s at left)
+        pub first-over : 31 < getD s (at + 2) 0 → PatternRead.Refused 5 at ≡ read-at
         first-over h = simp (ne-eqb _ _ l, lt-leb _ _ b, ne-eqb _ _ k, lt-ltb _ _ h)
 
         module _ (f : getD s (at + 2) 0 ≤ 31) where
-          pub last-over : 31 < getD s (at + 3) 0 → PatternRead.Refused 5 at ≡ patternRead (patternAt s at left)
+          pub last-over : 31 < getD s (at + 3) 0 → PatternRead.Refused 5 at ≡ read-at
           last-over h = simp (ne-eqb _ _ l, lt-leb _ _ b, ne-eqb _ _ k, le-ltb _ _ f, lt-ltb _ _ h)
 
           module _ (t : getD s (at + 3) 0 ≤ 31) where
-            pub first-past-last : getD s (at + 3) 0 < getD s (at + 2) 0 → PatternRead.Refused 5 at ≡ patternRead (patternAt s at left)
+            pub first-past-last : getD s (at + 3) 0 < getD s (at + 2) 0 → PatternRead.Refused 5 at ≡ read-at
             first-past-last h = simp (ne-eqb _ _ l, lt-leb _ _ b, ne-eqb _ _ k, le-ltb _ _ f, le-ltb _ _ t, lt-ltb _ _ h)
 
-            module _ (o : getD s (at + 2) 0 ≤ getD s (at + 3) 0) where
-              pub pattern-accepted : patternAt s at left ≡ accepted (record {
-                mask = getD s (at + 1) 0;
-                first = getD s (at + 2) 0;
-                last = getD s (at + 3) 0;
-              })
-              pattern-accepted = simp (ne-eqb _ _ l, lt-leb _ _ b, ne-eqb _ _ k, le-ltb _ _ f, le-ltb _ _ t, le-ltb _ _ o)
+module _ (s : List ℕ) (at : ℕ) (b : at + 3 < length s) (k : getD s (at + 1) 0 ≡ 0 → ⊥) (f : getD s (at + 2) 0 ≤ 31) (t : getD s (at + 3) 0 ≤ 31)
+    (o : getD s (at + 2) 0 ≤ getD s (at + 3) 0) where
+  abbrev pub pattern-there : Pattern
+  pattern-there = record { mask = getD s (at + 1) 0; first = getD s (at + 2) 0; last = getD s (at + 3) 0 }
 
-              pub pattern-read : PatternRead.Read (record { mask = getD s (at + 1) 0; first = getD s (at + 2) 0; last = getD s (at + 3) 0 })
-                  ≡ patternRead (patternAt s at left)
-              pattern-read = sym (ap patternRead pattern-accepted)
+  pub pattern-accepted : patternAt s at ≡ accepted pattern-there
+  pattern-accepted = simp (lt-leb _ _ b, ne-eqb _ _ k, le-ltb _ _ f, le-ltb _ _ t, le-ltb _ _ o)
+
+  pub pattern-read : (left : ℕ) → (left ≡ 0 → ⊥) → PatternRead.Read pattern-there ≡ read-at s at left
+  pattern-read left l = simp (ne-eqb _ _ l, pattern-accepted)
 
 -- ---- a necessity
 

@@ -7,9 +7,10 @@ use lib.ListN.{length, drop, replicate, length-replicate}
 use lib.Seq.{sets, sets-eq}
 use borrow.Author.Tests.{le-ltb, lt-ltb}
 use Rattle.reading.specs.Rule.{size}
-use Rattle.reading.specs.File.{Outcome, accepted, refused, andThen, Patterns, patternsAt, Parsed, formulaOf, endOfFile, ruleOf}
+use Rattle.reading.specs.File.{Outcome, accepted, refused, andThen, Records, patternsAt, Parsed, formulaOf, endOfFile, ruleOf}
 use Rattle.reading.specs.Numbered.{kinds, args, padded, blank, readingOf}
 use Rattle.reading.specs.Representations.{HeadOf, headOf, IsScope, enclosing, guardsOf, Reads, formulaAnswer}
+use Rattle.reading.specs.declared.Pattern.{Pattern}
 use Rattle.reading.specs.declared.Acceptance.{Acceptance}
 use Rattle.reading.specs.declared.Acceptance as Acceptance′
 use Rattle.reading.specs.declared.Reading.{Reading}
@@ -36,13 +37,13 @@ sets-blank m x vs h =
 
 -- ---- the patterns
 
-answer-head : (o : Outcome Patterns) (h : Head) → HeadOf o h → {number place : ℕ} → h .answer ≡ Acceptance′.the-variants.Refused number place
+answer-head : (o : Outcome (Records Pattern)) (h : Head) → HeadOf o h → {number place : ℕ} → h .answer ≡ Acceptance′.the-variants.Refused number place
     → o ≡ refused number place
 answer-head (accepted ps) h e a = let z : _≡_ {A = ℕ} 0 1 = cc (ap (λ (x : Head). x .answer) e) in absurd (omega arith)
 answer-head (refused number place) h e a = cc
 
-accepted-head : (o : Outcome Patterns) (h : Head) → HeadOf o h → h .answer ≡ Acceptance′.the-variants.Accepted
-    → (ps : Patterns) × (o ≡ accepted ps) × (h ≡ headOf ps)
+accepted-head : (o : Outcome (Records Pattern)) (h : Head) → HeadOf o h → h .answer ≡ Acceptance′.the-variants.Accepted
+    → (ps : Records Pattern) × (o ≡ accepted ps) × (h ≡ headOf ps)
 accepted-head (accepted ps) h e a = (ps, refl, e)
 accepted-head (refused number place) h e a = let z : _≡_ {A = ℕ} 0 1 = cc in absurd (omega arith)
 
@@ -55,14 +56,14 @@ head-refused s h r is e a = a ∙ rw (answer-head (patternsAt 32 s 0) h is e, e)
 
 -- `read_rule` after the patterns ps, with what `read_formula` found and left in the arrays
 pub record AfterPatterns (s : List ℕ) (h : Head) (ks gs : List ℕ) (found : FormulaRead) : Type 0 where
-  pub ps : Patterns
+  pub ps : Records Pattern
   pub read : patternsAt 32 s 0 ≡ accepted ps
   pub is : h ≡ headOf ps
   pub reads : Reads (formulaOf s (length (ps .list)) (ps .next) 64 []) 64 [] (replicate 64 0) (replicate 64 0) ks gs found
 
 -- and after the formula of f
 pub record AfterFormula (s : List ℕ) (h : Head) (ks gs : List ℕ) (rest : Rest) : Type 0 where
-  pub ps : Patterns
+  pub ps : Records Pattern
   pub f : Parsed
   pub says : ruleOf s ≡ endOfFile s (ps .list) f
   pub is : h ≡ headOf ps
@@ -100,7 +101,7 @@ module _ {s : List ℕ} {h : Head} {ks gs : List ℕ} {rest : Rest} (x : AfterFo
       let nodes : 64 - rest .left ≡ size (x .f .formula) = omega (arith, left-is, x .nodes) in
       rw (x .says, le-ltb _ _ over) (cc)
 
-then-formula : (s : List ℕ) (ps : Patterns) → patternsAt 32 s 0 ≡ accepted ps
+then-formula : (s : List ℕ) (ps : Records Pattern) → patternsAt 32 s 0 ≡ accepted ps
     → ruleOf s ≡ andThen (formulaOf s (length (ps .list)) (ps .next) 64 []) (endOfFile s (ps .list))
 unfolding ruleOf
 then-formula s ps e = rw e
@@ -112,7 +113,7 @@ module _ (s : List ℕ) (h : Head) (is : HeadOf (patternsAt 32 s 0) h) (ok : h .
   after-patterns : AfterPatterns s h ks gs found
   after-patterns = go (accepted-head (patternsAt 32 s 0) h is ok)
     where
-      go : (ps : Patterns) × (patternsAt 32 s 0 ≡ accepted ps) × (h ≡ headOf ps) → AfterPatterns s h ks gs found
+      go : (ps : Records Pattern) × (patternsAt 32 s 0 ≡ accepted ps) × (h ≡ headOf ps) → AfterPatterns s h ks gs found
       go (ps, read, e) =
           let next : h .next ≡ ps .next = ap (λ (x : Head). x .next) e in
           let count : h .count ≡ length (ps .list) = ap (λ (x : Head). x .count) e in

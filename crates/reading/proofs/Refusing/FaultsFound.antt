@@ -16,10 +16,10 @@ use Rattle.reading.specs.File.{refused, andThen, patternAt, isPattern, n
 use Rattle.reading.specs.Faults.{Unfinished, KindAt, IsPattern, HasBody, NoKind, Fault, file-ended, pattern-cut, node-cut, no-kind, after-rule, late-pattern}
 use Rattle.reading.specs.Faults.{pattern-33, node-65, bad-pattern, names-nothing, unguarded}
 use Rattle.reading.proofs.Basics.ByteLaws.{byte-at}
-use Rattle.reading.proofs.Basics.Outcomes.{never-accepted, neither, found, never-refused, refused-by}
+use Rattle.reading.proofs.Basics.Outcomes.{neither, found, never-refused, refused-by}
 use Rattle.reading.proofs.Basics.Places.{Byte}
 use Rattle.reading.proofs.Accepting.NodeBytes.{ofKind, node-accepts}
-use Rattle.reading.proofs.Accepting.PatternBytes.{pattern-stands, one-stands}
+use Rattle.reading.proofs.Accepting.PatternBytes.{pattern-stands, pattern-kind}
 use Rattle.reading.proofs.Refusing.Contexts.{guards, parts, done}
 use Rattle.reading.proofs.Refusing.LeftToRight.{dueAt, due-over, headAt}
 use Rattle.reading.proofs.Refusing.ReadTo.{ReadTo, front-read, rule-read-to, still-due, next-node, next-pattern, pattern-needed}
@@ -143,16 +143,12 @@ module _ {s : List ℕ} {at n : ℕ} (h : ReadTo s at n 0 ([] ∷ [])) (b : Byte
       → (WellFormedPattern (record { mask = getD s (at + 1) 0; first = getD s (at + 2) 0; last = getD s (at + 3) 0 }) → ⊥) → Fault s 5 at
   bad few whole unfit = bad-pattern (still-due h) kind few (omega arith) (λ begins. unfit (pattern-needed h (pattern-here s at b whole) begins))
 
-  pattern-fault : {number place : ℕ} (left : ℕ) → left + n ≡ 32 → patternAt s at left ≡ refused number place → Fault s number place
-  pattern-fault left count e =
+  pattern-fault : {number place : ℕ} → n < 32 → patternAt s at ≡ refused number place → Fault s number place
+  pattern-fault few e =
       let mask = getD s (at + 1) 0 in
       let first = getD s (at + 2) 0 in
       let last = getD s (at + 3) 0 in
-      found (Fault s) (eqb left 0) 4 at _ e
-      (λ t. pattern-33 (subst (λ (k : ℕ). Unfinished s at k 0) (omega (arith, eqb-true left 0 t)) (still-due h)) kind)
-      (λ f e₁.
-      let few : n < 32 = omega (arith, eqb-false left 0 f) in
-      found (Fault s) (leb (length s) (at + 3)) 1 (length s) _ e₁
+      found (Fault s) (leb (length s) (at + 3)) 1 (length s) _ e
       (λ t. pattern-cut (still-due h) kind few (omega (arith, leb-true (length s) (at + 3) t)))
       (λ f₁ e₂.
       let whole : at + 3 < length s = leb-false _ _ f₁ in
@@ -167,33 +163,34 @@ module _ {s : List ℕ} {at n : ℕ} (h : ReadTo s at n 0 ([] ∷ [])) (b : Byte
       (λ f₄ e₅.
       found (Fault s) (ltb last first) 5 at _ e₅
       (λ t. bad few whole (λ w. omega (arith, w .in-order, ltb-true last first t)))
-      (λ f₅ e₆. absurd (never-refused e₆)))))))
+      (λ f₅ e₆. absurd (never-refused e₆))))))
 
 head-fault : (left : ℕ) {s : List ℕ} → Bytes s → {at n : ℕ} {number place : ℕ} → ReadTo s at n 0 ([] ∷ []) → left + n ≡ 32
     → headAt s left n at ≡ refused number place → Fault s number place
 unfolding headAt
 head-fault zero {s} bytes {at} {n} {number} {place} h count e = on (isPattern s at) refl e
   where
-    on : (c : Bool) → isPattern s at ≡ c
-        → cond c (andThen (patternAt s at zero) (λ p. refused 4 at)) (dueAt s 64 n at ([] ∷ [])) ≡ refused number place → Fault s number place
+    on : (c : Bool) → isPattern s at ≡ c → cond c (refused 4 at) (dueAt s 64 n at ([] ∷ [])) ≡ refused number place → Fault s number place
     on true is e′ =
-        refused-by {B = Unit {0}} (patternAt s at zero) (λ p. refused 4 at) e′
-        (pattern-fault h (one-stands s at is) zero count)
-        (λ p e₁ e₂. absurd (never-accepted e₁))
+        let b = pattern-kind s at is in
+        let full : n ≡ 32 = omega arith in
+        let four : 4 ≡ number = cc in
+        let here : at ≡ place = cc in
+        rw (← four, ← here) (pattern-33 (subst (λ (k : ℕ). Unfinished s at k 0) full (still-due h)) (b .inside, b .is))
     on false is e′ = due-fault 64 ([] ∷ []) h (omega arith) (λ z. is) e′
 head-fault (suc left) {s} bytes {at} {n} {number} {place} h count e =
     on (isPattern s at) refl e (head-fault left bytes {at = at + 4} {n = suc n})
   where
     on : (c : Bool) → isPattern s at ≡ c
-        → cond c (andThen (patternAt s at (suc left)) (λ p. headAt s left (suc n) (at + 4))) (dueAt s 64 n at ([] ∷ [])) ≡ refused number place
+        → cond c (andThen (patternAt s at) (λ p. headAt s left (suc n) (at + 4))) (dueAt s 64 n at ([] ∷ [])) ≡ refused number place
         → (ReadTo s (at + 4) (suc n) 0 ([] ∷ []) → left + suc n ≡ 32 → headAt s left (suc n) (at + 4) ≡ refused number place → Fault s number place)
         → Fault s number place
     on true is e′ later =
-        let b = one-stands s at is in
-        refused-by (patternAt s at (suc left)) _ e′
-        (pattern-fault h b (suc left) count)
+        let b = pattern-kind s at is in
+        refused-by (patternAt s at) _ e′
+        (pattern-fault h b (omega arith))
         (λ p e₁ e₂.
-        let stands = pattern-stands s at (suc left) p (byte-at s bytes (at + 1)) e₁ in
+        let stands = pattern-stands s at p (byte-at s bytes (at + 1)) e₁ in
         later (next-pattern h (omega arith) (pattern-stood s at b stands) (stands .well-formed)) (omega arith) e₂)
     on false is e′ later = due-fault 64 ([] ∷ []) h (omega arith) (λ z. is) e′
 

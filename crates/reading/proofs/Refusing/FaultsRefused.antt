@@ -1,6 +1,6 @@
 -- What a clause of `Fault` says is refused so: reading comes to the clause's place, and there the reader's check is the clause's condition. With that,
 -- and with the other direction, a file is refused exactly as a clause says.
-use mathlib.Core.Path.{_≡_, refl, ap, _∙_}
+use mathlib.Core.Path.{_≡_, refl, sym, ap, _∙_}
 use mathlib.Core.Logic.{_↔_, inl, inr}
 use mathlib.Core.Bool.{Bool, true, false}
 use mathlib.Core.List.{List, [], _∷_}
@@ -12,13 +12,13 @@ use borrow.Author.Tests.{leb-true, leb-false, lt-ltb, le-ltb, eqb-true}
 use Rattle.reading.specs.Rule.{Guards, Rule, Bytes}
 use Rattle.reading.specs.Rule.{Symbol}
 use Rattle.reading.specs.Rule.{patternKind, necessityKind, variableKind}
-use Rattle.reading.specs.File.{Outcome, accepted, refused, patternAt, isPattern, NodeRecord, necessityAt, variableAt, nodeAt, ruleOf}
+use Rattle.reading.specs.File.{Outcome, accepted, refused, patternAt, isPattern, patternFormat, NodeRecord, necessityAt, variableAt, nodeAt, ruleOf}
 use Rattle.reading.specs.Faults.{IsPattern, NoKind, IsNode, HasBody, IsVariable, KindAt, BeginsRule, BeginsBound, IsRule, Fault}
 use Rattle.reading.specs.Faults.{file-ended, pattern-cut, node-cut, no-kind, after-rule, late-pattern, pattern-33, node-65, bad-pattern, names-nothing}
 use Rattle.reading.specs.Faults.{unguarded}
 use Rattle.reading.specs.Numbered.{readingOf}
 use Rattle.reading.specs.Promises.{RefusesAtTheFault, HasOneFault}
-use Rattle.reading.specs.Representations.{patternRead, nodeRead}
+use Rattle.reading.specs.Representations.{recordAt, patternRead, nodeRead}
 use Rattle.reading.specs.declared.Pattern.{Pattern}
 use Rattle.reading.specs.declared.Acceptance.the-variants.{Refused}
 use Rattle.reading.specs.declared.patterns.PatternRead.the-variants as PatternRead
@@ -28,6 +28,7 @@ use Rattle.reading.proofs.Basics.Outcomes.{found, never-refused}
 use Rattle.reading.proofs.Accepting.Checks as checks
 use Rattle.reading.proofs.Basics.Places.{Byte}
 use Rattle.reading.proofs.Refusing.Contexts.{guards, Consumes, done, consumes-same}
+use Rattle.reading.proofs.RecordLists.RecordWays.{record-left, record-accepted}
 use Rattle.reading.proofs.Accepting.PatternBytes.{pattern-stands}
 use Rattle.reading.proofs.Refusing.LeftToRight.{dueAt, due-over, headAt, refused-left-to-right}
 use Rattle.reading.proofs.Refusing.ReadTo.{ReadTo, front-read, over-read, next-node, next-pattern, node-bound, bound-begins}
@@ -53,10 +54,11 @@ module _ (s : List ℕ) {number place : ℕ} where
   due-refused zero n at g due e = rw e
   due-refused (suc left) n at g due e = rw e
 
-  head-refused : (left n at : ℕ) → isPattern s at ≡ true → patternAt s at left ≡ refused number place → headAt s left n at ≡ refused number place
+  head-refused : (left n at : ℕ) → isPattern s at ≡ true → recordAt (patternFormat s) left at ≡ refused number place
+      → headAt s left n at ≡ refused number place
   unfolding headAt
   head-refused zero n at is e = rw is cc
-  head-refused (suc left) n at is e = rw (is, e)
+  head-refused (suc left) n at is e = rw (is, sym (record-left (patternFormat s) at left) ∙ e)
 
 pub answer-refused : (o : Outcome Rule) (number place : ℕ) → (o ≡ refused number place) ↔ (readingOf o .answer ≡ Refused number place)
 answer-refused (accepted r) number place =
@@ -164,11 +166,11 @@ abbrev FiveAt : (at number place : ℕ) → Type 0
 FiveAt at number place = (number ≡ 5) × (place ≡ at)
 
 module _ {s : List ℕ} {at n : ℕ} {due : List Guards} (h : ReadTo s at n 0 due) (kind : KindAt s at IsPattern) where
-  pattern-refused : {number place : ℕ} → patternAt s at (32 - n) ≡ refused number place → headAt s 32 0 0 ≡ refused number place
+  pattern-refused : {number place : ℕ} → recordAt (patternFormat s) (32 - n) at ≡ refused number place → headAt s 32 0 0 ≡ refused number place
   pattern-refused e = go-to-pattern h ∙ head-refused s (32 - n) n at (rw (lt-ltb at (length s) (kind .0), kind .1)) e
 
-  told : {number place : ℕ} → PatternRead.Refused number place ≡ patternRead (patternAt s at (32 - n)) → headAt s 32 0 0 ≡ refused number place
-  told e = pattern-refused (pattern-told (patternAt s at (32 - n)) e)
+  told : {number place : ℕ} → PatternRead.Refused number place ≡ patternRead (recordAt (patternFormat s) (32 - n) at) → headAt s 32 0 0 ≡ refused number place
+  told e = pattern-refused (pattern-told (recordAt (patternFormat s) (32 - n) at) e)
 
   pattern-33-refused : n ≡ 32 → headAt s 32 0 0 ≡ refused 4 at
   pattern-33-refused full = told (checks.no-pattern-left s at (32 - n) (omega arith))
@@ -177,7 +179,7 @@ module _ {s : List ℕ} {at n : ℕ} {due : List Guards} (h : ReadTo s at n 0 du
   pattern-cut-refused few cut = told (checks.pattern-cut s at (32 - n) (λ z. omega arith) (omega arith))
 
   -- whole and one of the 32, it can be refused with 5 only
-  five : {number place : ℕ} → n < 32 → at + 4 ≤ length s → patternAt s at (32 - n) ≡ refused number place → FiveAt at number place
+  five : {number place : ℕ} → n < 32 → at + 4 ≤ length s → recordAt (patternFormat s) (32 - n) at ≡ refused number place → FiveAt at number place
   five few whole e =
       found (FiveAt at) (eqb (32 - n) 0) 4 at _ e (λ t. absurd (omega (arith, eqb-true (32 - n) 0 t))) (λ f e₁.
       found (FiveAt at) (leb (length s) (at + 3)) 1 (length s) _ e₁ (λ t. absurd (omega (arith, leb-true (length s) (at + 3) t))) (λ f₁ e₂.
@@ -187,13 +189,13 @@ module _ {s : List ℕ} {at n : ℕ} {due : List Guards} (h : ReadTo s at n 0 du
       found (FiveAt at) (ltb (getD s (at + 3) 0) (getD s (at + 2) 0)) 5 at _ e₅ (λ t. (refl, refl)) (λ f₅ e₆. absurd (never-refused e₆)))))))
 
   bad-refused : Bytes s → n < 32 → at + 4 ≤ length s → (BeginsRule (take (at + 4) s) → ⊥) → headAt s 32 0 0 ≡ refused 5 at
-  bad-refused bytes few whole none = on (patternAt s at (32 - n)) refl (λ number place e. pattern-refused e)
+  bad-refused bytes few whole none = on (recordAt (patternFormat s) (32 - n) at) refl (λ number place e. pattern-refused e)
     where
-      on : (o : Outcome Pattern) → patternAt s at (32 - n) ≡ o
-          → ((number place : ℕ) → patternAt s at (32 - n) ≡ refused number place → headAt s 32 0 0 ≡ refused number place)
+      on : (o : Outcome Pattern) → recordAt (patternFormat s) (32 - n) at ≡ o
+          → ((number place : ℕ) → recordAt (patternFormat s) (32 - n) at ≡ refused number place → headAt s 32 0 0 ≡ refused number place)
           → headAt s 32 0 0 ≡ refused 5 at
       on (accepted p) e say =
-          let stands = pattern-stands s at (32 - n) p (byte-at s bytes (at + 1)) e in
+          let stands = pattern-stands s at p (byte-at s bytes (at + 1)) (record-accepted (patternFormat s) at (32 - n) e .1) in
           let b : Byte s at patternKind = record { inside = kind .0; is = kind .1 } in
           absurd (none (front-read (next-pattern h few (pattern-stood s at b stands) (stands .well-formed)) .begins))
       on (refused number place) e say = let (is, here) = five few whole e in say 5 at (e ∙ rw (is, here))

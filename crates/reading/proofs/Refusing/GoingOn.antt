@@ -7,21 +7,23 @@ use Prim.Native.Nat.{ℕ, zero, suc, _+_, _-_}
 use native.Mathlib.Omega.{arith}
 use lib.ListN.{length, getD, take, drop, length-append, take-append-drop}
 use lib.Seq.{length-take-le, drop-append-seam}
-use borrow.Author.Tests.{lt-ltb, ne-eqb}
+use borrow.Author.Tests.{ne-eqb}
 use Rattle.reading.specs.Pattern.{WellFormedPattern}
-use Rattle.reading.specs.Rule.{Guards, All}
+use Rattle.reading.specs.Rule.{Guards, All, patternBytes, encodePatterns}
 use Rattle.reading.specs.Rule.{Symbol, Truth, Falsity, Both, Max, Necessity, Variable}
 use Rattle.reading.specs.Rule.{patternKind}
-use Rattle.reading.specs.File.{isPattern}
+use Rattle.reading.specs.File.{Outcome, andThen, Records, isPattern, patternFormat, patternsAt}
 use Rattle.reading.specs.Faults.{pattern, node, recordBytes, recordsBytes, patternsIn, nodesIn, Front, BeginsRule, Unfinished}
 use Rattle.reading.specs.declared.Pattern.{Pattern}
+use Rattle.reading.proofs.Basics.Outcomes.{then-agree}
 use Rattle.reading.proofs.Basics.Places.{byte-of, first-byte, rest-of, rest-after}
+use Rattle.reading.proofs.RecordLists.RecordsAccepted.{records-after}
 use Rattle.reading.proofs.Accepting.NodeBytes.{NodeStands, bare, of-necessity, of-variable, bare-truth, bare-falsity, bare-both, bare-max, node-accepts}
-use Rattle.reading.proofs.Accepting.PatternBytes.{PatternStands, pattern-reads}
+use Rattle.reading.proofs.Accepting.PatternBytes.{reads-patterns}
 use Rattle.reading.proofs.Refusing.Contexts.{guards, Allows, Consumes, done, more}
-use Rattle.reading.proofs.Refusing.Records.{records, bytes-of-both, patterns-in, nodes-in}
+use Rattle.reading.proofs.Refusing.Records.{records, bytes-of-both, pattern-bytes, patterns-in, nodes-in}
 use Rattle.reading.proofs.Refusing.Beginnings.{rule-shape}
-use Rattle.reading.proofs.Refusing.LeftToRight.{dueAt, headAt}
+use Rattle.reading.proofs.Refusing.LeftToRight.{then-then, dueAt, headAt, then-formula, patterns-head}
 use Rattle.reading.proofs.Refusing.ReadTo.{ReadTo, rule-read-to}
 
 module _ (s : List ℕ) where
@@ -55,26 +57,17 @@ module _ (s : List ℕ) where
       (rest-after s at bs from′))
 
   patterns-go : (ps : List Pattern) (left left′ n n′ at at′ : ℕ) (rest : List ℕ) → All WellFormedPattern ps → left ≡ length ps + left′
-      → n′ ≡ n + length ps → at′ ≡ at + length (recordsBytes (map pattern ps)) → drop at s ≡ recordsBytes (map pattern ps) ++ rest
+      → n′ ≡ n + length ps → at′ ≡ at + length (encodePatterns ps) → drop at s ≡ encodePatterns ps ++ rest
       → headAt s left n at ≡ headAt s left′ n′ at′
-  unfolding headAt
-  patterns-go [] left left′ n n′ at at′ rest all count number ends from =
-      let same : left ≡ left′ = omega arith in
-      let same′ : n ≡ n′ = omega arith in
-      let same″ : at ≡ at′ = omega arith in
-      rw (same, same′, same″)
-  patterns-go (p ∷ ps) zero left′ n n′ at at′ rest all count number ends from = absurd (omega arith)
-  patterns-go (p ∷ ps) (suc left) left′ n n′ at at′ rest all count number ends from =
-      let b = first-byte s at from in
-      let stands : PatternStands s at (suc left) p = record {
-        well-formed = all .0;
-        some-left = omega arith;
-        mask = byte-of s at 1 (at + 1) from refl (omega arith);
-        first = byte-of s at 2 (at + 2) from refl (omega arith);
-        last = byte-of s at 3 (at + 3) from refl (omega arith);
-      } in
-      rw (lt-ltb at (length s) (b .inside), b .is, pattern-reads s at (suc left) p stands)
-      (patterns-go ps left left′ (suc n) n′ (at + 4) at′ rest (all .1) (omega arith) (omega arith) (omega arith) (rest-of s at 4 (at + 4) from refl))
+  patterns-go ps left left′ n n′ at at′ rest all count number ends from =
+      let others = patternsAt left′ s at′ in
+      sym (patterns-head s left n at)
+      ∙ (ap (λ (o : Outcome (Records Pattern)). andThen o (then-formula s n))
+      (records-after s (patternFormat s) patternBytes WellFormedPattern (reads-patterns s) ps at at′ left′ left rest all from ends count)
+      ∙ (then-then others _ (then-formula s n)
+      ∙ (then-agree others _ (then-formula s n′) (λ qs e.
+      ap (λ (k : ℕ). dueAt s 64 k (qs .next) ([] ∷ [])) (omega (arith, length-append ps (qs .list))))
+      ∙ patterns-head s left′ n′ at′)))
 
   -- ---- where the formula begins
 
@@ -97,53 +90,53 @@ module _ (s : List ℕ) where
 -- ---- to a place
 
 module _ {s : List ℕ} {at n m : ℕ} {due : List Guards} (h : ReadTo s at n m due) where
-  abbrev patternBytes : List ℕ
-  patternBytes = recordsBytes (map pattern (h .patterns))
+  abbrev front-patterns : List ℕ
+  front-patterns = encodePatterns (h .patterns)
 
-  abbrev nodeBytes : List ℕ
-  nodeBytes = recordsBytes (map node (h .nodes))
+  abbrev front-nodes : List ℕ
+  front-nodes = recordsBytes (map node (h .nodes))
 
-  front-bytes : take at s ≡ patternBytes ++ nodeBytes
-  front-bytes = h .are ∙ bytes-of-both (map pattern (h .patterns)) (map node (h .nodes))
+  front-bytes : take at s ≡ front-patterns ++ front-nodes
+  front-bytes = h .are ∙ (bytes-of-both (map pattern (h .patterns)) (map node (h .nodes)) ∙ ap (λ (l : List ℕ). l ++ front-nodes) (pattern-bytes (h .patterns)))
 
-  place-is : at ≡ length patternBytes + length nodeBytes
-  place-is = sym (length-take-le at s (h .inside)) ∙ (ap length front-bytes ∙ length-append patternBytes nodeBytes)
+  place-is : at ≡ length front-patterns + length front-nodes
+  place-is = sym (length-take-le at s (h .inside)) ∙ (ap length front-bytes ∙ length-append front-patterns front-nodes)
 
-  whole : s ≡ patternBytes ++ (nodeBytes ++ drop at s)
-  whole = sym (take-append-drop at s) ∙ (ap (λ (l : List ℕ). l ++ drop at s) front-bytes ∙ append-assoc patternBytes nodeBytes (drop at s))
+  whole : s ≡ front-patterns ++ (front-nodes ++ drop at s)
+  whole = sym (take-append-drop at s) ∙ (ap (λ (l : List ℕ). l ++ drop at s) front-bytes ∙ append-assoc front-patterns front-nodes (drop at s))
 
-  to-formula : headAt s 32 0 0 ≡ headAt s (32 - n) n (length patternBytes)
+  to-formula : headAt s 32 0 0 ≡ headAt s (32 - n) n (length front-patterns)
   to-formula =
-      patterns-go s (h .patterns) 32 (32 - n) 0 n 0 (length patternBytes) (nodeBytes ++ drop at s) (h .well-formed)
+      patterns-go s (h .patterns) 32 (32 - n) 0 n 0 (length front-patterns) (front-nodes ++ drop at s) (h .well-formed)
       (omega (arith, h .npatterns, h .few-patterns)) (omega (arith, h .npatterns)) (omega arith) whole
 
-  formula-from : drop (length patternBytes) s ≡ nodeBytes ++ drop at s
-  formula-from = rest-of s 0 (length patternBytes) (length patternBytes) whole (omega arith) ∙ drop-append-seam patternBytes (nodeBytes ++ drop at s)
+  formula-from : drop (length front-patterns) s ≡ front-nodes ++ drop at s
+  formula-from = rest-of s 0 (length front-patterns) (length front-patterns) whole (omega arith) ∙ drop-append-seam front-patterns (front-nodes ++ drop at s)
 
-  formula-first : (m ≡ 0 → isPattern s at ≡ false) → isPattern s (length patternBytes) ≡ false
+  formula-first : (m ≡ 0 → isPattern s at ≡ false) → isPattern s (length front-patterns) ≡ false
   formula-first none = on (h .nodes) refl
     where
-      on : (xs : List Symbol) → h .nodes ≡ xs → isPattern s (length patternBytes) ≡ false
+      on : (xs : List Symbol) → h .nodes ≡ xs → isPattern s (length front-patterns) ≡ false
       on [] is =
-          let same : at ≡ length patternBytes = omega (arith, place-is, ap (λ (l : List Symbol). length (recordsBytes (map node l))) is) in
+          let same : at ≡ length front-patterns = omega (arith, place-is, ap (λ (l : List Symbol). length (recordsBytes (map node l))) is) in
           rw (← same) (none (omega (arith, h .nnodes, ap length is)))
       on (x ∷ xs) is =
           let rest = recordsBytes (map node xs) in
-          let bytes : nodeBytes ≡ recordBytes (node x) ++ rest = ap (λ (l : List Symbol). recordsBytes (map node l)) is in
-          node-first s (length patternBytes) x (rest ++ drop at s)
+          let bytes : front-nodes ≡ recordBytes (node x) ++ rest = ap (λ (l : List Symbol). recordsBytes (map node l)) is in
+          node-first s (length front-patterns) x (rest ++ drop at s)
           (formula-from ∙ (ap (λ (l : List ℕ). l ++ drop at s) bytes ∙ append-assoc (recordBytes (node x)) rest (drop at s)))
 
   pub go-to-node : (m ≡ 0 → isPattern s at ≡ false) → headAt s 32 0 0 ≡ dueAt s (64 - m) n at due
   go-to-node none =
       to-formula
-      ∙ (head-over s (32 - n) n (length patternBytes) (formula-first none)
-      ∙ nodes-go s (h .consumes) 64 (64 - m) (length patternBytes) at (drop at s) (omega (arith, h .nnodes, h .few-nodes)) place-is formula-from)
+      ∙ (head-over s (32 - n) n (length front-patterns) (formula-first none)
+      ∙ nodes-go s (h .consumes) 64 (64 - m) (length front-patterns) at (drop at s) (omega (arith, h .nnodes, h .few-nodes)) place-is formula-from)
 
 -- before the formula
 pub go-to-pattern : {s : List ℕ} {at n : ℕ} {due : List Guards} → ReadTo s at n 0 due → headAt s 32 0 0 ≡ headAt s (32 - n) n at
 go-to-pattern {s} {at} {n} h =
-    let none : length (nodeBytes h) ≡ 0 = on (h .nodes) (h .nnodes) in
-    let same : length (patternBytes h) ≡ at = omega (arith, place-is h) in
+    let none : length (front-nodes h) ≡ 0 = on (h .nodes) (h .nnodes) in
+    let same : length (front-patterns h) ≡ at = omega (arith, place-is h) in
     rw same at (to-formula h)
   where
     on : (xs : List Symbol) → length xs ≡ 0 → length (recordsBytes (map node xs)) ≡ 0

@@ -10,7 +10,7 @@ use lib.ListN.{length}
 use lib.Dec.{ltb}
 use Rattle.reading.specs.Rule.{Guards, guarded, Rule}
 use Rattle.reading.specs.Rule.{Symbol, Truth, Falsity, Both, Max, Necessity, Variable}
-use Rattle.reading.specs.File.{Outcome, accepted, refused, refuse, andThen, patternAt, isPattern, Patterns, withPattern, patternsAt}
+use Rattle.reading.specs.File.{Outcome, accepted, refused, refuse, andThen, Records, withRecord, recordsAt, patternAt, isPattern, patternsAt}
 use Rattle.reading.specs.File.{nodeAt, Parsed, partsBy, formulaOf, endOfFile, ruleOf}
 use Rattle.reading.specs.declared.Pattern.{Pattern}
 use Rattle.reading.proofs.Basics.Outcomes.{then-agree}
@@ -34,7 +34,7 @@ module _ {A B : Type 0} where
   refusal-then (accepted a) f = refl
   refusal-then (refused number place) f = refl
 
-  then-then : {C : Type 0} (o : Outcome A) (f : A → Outcome B) (g : B → Outcome C) → andThen (andThen o f) g ≡ andThen o (λ a. andThen (f a) g)
+  pub then-then : {C : Type 0} (o : Outcome A) (f : A → Outcome B) (g : B → Outcome C) → andThen (andThen o f) g ≡ andThen o (λ a. andThen (f a) g)
   then-then (accepted a) f g = refl
   then-then (refused number place) f g = refl
 
@@ -102,33 +102,31 @@ module _ (s : List ℕ) where
 
   -- n patterns were read, and `left` of the 32 are left
   unfoldable pub headAt : (left n at : ℕ) → Outcome Unit
-  headAt zero n at = cond (isPattern s at) (andThen (patternAt s at zero) (λ p. refused 4 at)) (dueAt 64 n at ([] ∷ []))
+  headAt zero n at = cond (isPattern s at) (refused 4 at) (dueAt 64 n at ([] ∷ []))
   headAt (suc left) n at =
-      cond (isPattern s at) (andThen (patternAt s at (suc left)) (λ p. headAt left (suc n) (at + 4))) (dueAt 64 n at ([] ∷ []))
+      cond (isPattern s at) (andThen (patternAt s at) (λ p. headAt left (suc n) (at + 4))) (dueAt 64 n at ([] ∷ []))
 
-  abbrev then-formula : ℕ → Patterns → Outcome Unit
+  abbrev pub then-formula : ℕ → Records Pattern → Outcome Unit
   then-formula n ps = dueAt 64 (n + length (ps .list)) (ps .next) ([] ∷ [])
 
-  patterns-head : (left n at : ℕ) → andThen (patternsAt left s at) (then-formula n) ≡ headAt left n at
-  unfolding patternsAt headAt
+  pub patterns-head : (left n at : ℕ) → andThen (patternsAt left s at) (then-formula n) ≡ headAt left n at
+  unfolding recordsAt headAt
   patterns-head zero n at = on (isPattern s at)
     where
-      on : (b : Bool)
-          → andThen (cond b (andThen (patternAt s at zero) (λ p. accepted (record { list = p ∷ []; next = at }))) (accepted (record { list = []; next = at })))
-          (then-formula n)
-          ≡ cond b (andThen (patternAt s at zero) (λ p. refused 4 at)) (dueAt 64 n at ([] ∷ []))
+      on : (b : Bool) → andThen (cond b (refused 4 at) (accepted (record { list = []; next = at }))) (then-formula n)
+          ≡ cond b (refused 4 at) (dueAt 64 n at ([] ∷ []))
       on true = refl
       on false = ap (λ (k : ℕ). dueAt 64 k at ([] ∷ [])) (omega arith)
   patterns-head (suc left) n at = on (isPattern s at) (patterns-head left (suc n) (at + 4))
     where
       on : (b : Bool) → andThen (patternsAt left s (at + 4)) (then-formula (suc n)) ≡ headAt left (suc n) (at + 4)
-          → andThen (cond b (andThen (patternAt s at (suc left)) (λ p. andThen (patternsAt left s (at + 4)) (withPattern p)))
+          → andThen (cond b (andThen (patternAt s at) (λ p. andThen (patternsAt left s (at + 4)) (withRecord p)))
           (accepted (record { list = []; next = at }))) (then-formula n)
-          ≡ cond b (andThen (patternAt s at (suc left)) (λ p. headAt left (suc n) (at + 4))) (dueAt 64 n at ([] ∷ []))
+          ≡ cond b (andThen (patternAt s at) (λ p. headAt left (suc n) (at + 4))) (dueAt 64 n at ([] ∷ []))
       on true e =
-          then-then (patternAt s at (suc left)) _ (then-formula n)
-          ∙ then-agree (patternAt s at (suc left)) _ _ (λ p q.
-          then-then (patternsAt left s (at + 4)) (withPattern p) (then-formula n)
+          then-then (patternAt s at) _ (then-formula n)
+          ∙ then-agree (patternAt s at) _ _ (λ p q.
+          then-then (patternsAt left s (at + 4)) (withRecord p) (then-formula n)
           ∙ (then-agree (patternsAt left s (at + 4)) _ (then-formula (suc n)) (λ ps q′.
           ap (λ (k : ℕ). dueAt 64 k (ps .next) ([] ∷ [])) (omega arith))
           ∙ e))

@@ -88,7 +88,7 @@ same-records xs ys e =
 abbrev pub records : List Pattern → List Symbol → List Record
 records ps xs = map pattern ps ++ map node xs
 
-pattern-bytes : (ps : List Pattern) → recordsBytes (map pattern ps) ≡ encodePatterns ps
+pub pattern-bytes : (ps : List Pattern) → recordsBytes (map pattern ps) ≡ encodePatterns ps
 pattern-bytes [] = refl
 pattern-bytes (p ∷ ps) = ap (λ (l : List ℕ). recordBytes (pattern p) ++ l) (pattern-bytes ps)
 

@@ -12,7 +12,7 @@ use Rattle.reading.specs.Faults.{pattern, node}
 use Rattle.reading.specs.declared.Pattern.{Pattern}
 use Rattle.reading.proofs.Basics.Places.{Byte, from-byte}
 use Rattle.reading.proofs.Accepting.NodeBytes.{NodeStands, bare, of-necessity, of-variable, bare-truth, bare-falsity, bare-both, bare-max}
-use Rattle.reading.proofs.Accepting.PatternBytes.{PatternStands}
+use Rattle.reading.proofs.Accepting.PatternBytes.{PatternStands, pattern-bytes}
 use Rattle.reading.proofs.Refusing.Contexts.{guards, Allows}
 use Rattle.reading.proofs.Refusing.ReadTo.{Stands}
 
@@ -46,8 +46,8 @@ module _ (s : List ℕ) (at : ℕ) where
     inside = omega arith;
   }
 
-  pub pattern-stood : {left : ℕ} {p : Pattern} → Byte s at patternKind → PatternStands s at left p → Stands s at (at + 4) (pattern p)
-  pattern-stood {p = p} b h = rw (h .mask .is, h .first .is, h .last .is) at (pattern-here b (h .last .inside))
+  pub pattern-stood : {p : Pattern} → Byte s at patternKind → PatternStands s at p → Stands s at (at + 4) (pattern p)
+  pattern-stood {p} b h = record { bytes = pattern-bytes s at p b h; ends = refl; inside = omega (arith, h .last .inside) }
 
   pub node-here : {n : ℕ} {g : Guards} {r : NodeRecord} → NodeStands s n at g r → Stands s at (r .next) (node (r .symbol)) × Allows guards n g (r .symbol)
   node-here (bare bare-truth b) = (record { bytes = from-byte (at + 1) b refl; ends = refl; inside = omega (arith, b .inside) }, tt)

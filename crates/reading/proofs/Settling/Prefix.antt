@@ -1,6 +1,5 @@
 -- Two files that agree in 257 bytes say the same, and 256 aren't enough.
-use mathlib.Core.Path.{_≡_, refl, ap}
-use mathlib.Core.Bool.{Bool, true, false, cond}
+use mathlib.Core.Path.{_≡_, refl}
 use mathlib.Core.List.{List, [], _∷_, _++_}
 use Prim.Native.Nat.{ℕ, zero, suc, _+_, _-_, _*_, _≤_, _<_}
 use native.Mathlib.Omega.{arith}
@@ -8,36 +7,20 @@ use lib.ListN.{length}
 use borrow.Author.Tests.{lt-ltb}
 use Rattle.reading.specs.Rule.{Guards, Bytes}
 use Rattle.reading.specs.Rule.{patternKind, nodeBytes, Necessity, Truth}
-use Rattle.reading.specs.File.{Outcome, accepted, andThen, patternAt, isPattern, Patterns, patternsAt}
+use Rattle.reading.specs.File.{accepted, andThen, recordsAt, patternAt, isPattern, patternFormat, patternsAt}
 use Rattle.reading.specs.File.{NodeRecord, necessityAt, variableAt, nodeAt, Parsed, formulaAt, formulaOf, endOfFile, ruleOf}
 use Rattle.reading.specs.Promises.{SettledByFirstBytes, NotByFewer}
 use Rattle.reading.specs.declared.Pattern.{Pattern}
 use Rattle.reading.proofs.Settling.Agreement.{Agree, inside, settled}
-use Rattle.reading.proofs.Basics.Outcomes.{accepted-is, never-accepted, accepted-by, both-agree}
+use Rattle.reading.proofs.Basics.Outcomes.{both-agree}
 use Rattle.reading.proofs.Basics.ByteLaws.{bytes-append}
+use Rattle.reading.proofs.RecordLists.RecordsAgree.{FormatsAgree, records-agree, records-next}
 use Rattle.reading.proofs.Accepting.Encoding.{length-formula}
 use Rattle.reading.proofs.Accepting.NodeBytes.{NodeStands, bare, of-necessity, of-variable, node-accepts}
 use Rattle.reading.proofs.Accepting.Sound.{FormulaStands}
 use Rattle.reading.proofs.Accepting.Steps.{parts-same, formula-step, formula-sound}
 
 -- ---- how far a file is read
-
--- at the end of the patterns, or after one more
-or-ended : (b : Bool) (o : Outcome Patterns) (at : ℕ) (ps : Patterns) → cond b o (accepted (record { list = []; next = at })) ≡ accepted ps
-    → (o ≡ accepted ps → ps .next ≤ 128) → at ≤ 128 → ps .next ≤ 128
-or-ended true o at ps e more h = more e
-or-ended false o at ps e more h = omega (arith, ap (λ (x : Patterns). x .next) (accepted-is e))
-
--- a pattern has four bytes
-patterns-next : (left : ℕ) (s : List ℕ) (at : ℕ) (ps : Patterns) → at + 4 * left ≤ 128 → patternsAt left s at ≡ accepted ps
-    → ps .next ≤ 128
-unfolding patternsAt
-patterns-next zero s at ps h e = or-ended (isPattern s at) _ at ps e (λ z. absurd (never-accepted z)) (omega arith)
-patterns-next (suc left) s at ps h e =
-    or-ended (isPattern s at) _ at ps e (λ z.
-    let (p, first, rest) = accepted-by (patternAt s at (suc left)) _ z in
-    let (qs, others, whole) = accepted-by (patternsAt left s (at + 4)) _ rest in
-    omega (arith, patterns-next left s (at + 4) qs (omega arith) others, ap (λ (x : Patterns). x .next) (accepted-is whole))) (omega arith)
 
 -- fewer than `bound` nodes are left, each with room for its two bytes before byte 256
 abbrev Room : (bound at left : ℕ) → Type 0
@@ -64,8 +47,8 @@ module _ (bound : ℕ) (s : List ℕ) (n at left : ℕ) (g : Guards) where
   )
 
 module _ (s t : List ℕ) (a : Agree 257 s t) where
-  pattern-agrees : (at left : ℕ) → at + 3 < 257 → patternAt s at left ≡ patternAt t at left
-  pattern-agrees at left h =
+  pattern-agrees : (at : ℕ) → at + 3 < 257 → patternAt s at ≡ patternAt t at
+  pattern-agrees at h =
       let last = inside 257 s t a (at + 3) h in
       rw (last .0, last .1, a .same (at + 1) (omega arith), a .same (at + 2) (omega arith), a .same (at + 3) h)
 
@@ -95,11 +78,14 @@ module _ (s t : List ℕ) (a : Agree 257 s t) where
       parts-same s n (Room bound) (after-formula bound s n) (formulaOf s n) (formulaOf t n) (formula-sound s n) (formula-agrees bound n)
       at (left - 1) g stands room))
 
-  patterns-agree : (left at : ℕ) → at + 4 * left ≤ 128 → patternsAt left s at ≡ patternsAt left t at
-  unfolding patternsAt
-  patterns-agree zero at h = rw (is-pattern-agrees at (omega arith))
-  patterns-agree (suc left) at h =
-      rw (is-pattern-agrees at (omega arith), pattern-agrees at (suc left) (omega arith), patterns-agree left (at + 4) (omega arith))
+  formats-agree : FormatsAgree (patternFormat s) (patternFormat t) 4 257
+  formats-agree = record {
+    more = is-pattern-agrees;
+    one = λ at h. pattern-agrees at (omega arith);
+    tooMany = λ at h. refl;
+    width = λ p. refl;
+    narrow = λ p. omega arith;
+  }
 
   end-of-file-agrees : (ps : List Pattern) (f : Parsed) → f .next < 257 → endOfFile s ps f ≡ endOfFile t ps f
   end-of-file-agrees ps f h = rw (lt-ltb (f .next) (length s) (omega (arith, a .long)), lt-ltb (f .next) (length t) (omega (arith, a .long′)))
@@ -115,8 +101,8 @@ module _ (s t : List ℕ) (a : Agree 257 s t) where
   rule-agrees : ruleOf s ≡ ruleOf t
   unfolding ruleOf
   rule-agrees =
-      both-agree (patternsAt 32 s 0) (patternsAt 32 t 0) _ _ (patterns-agree 32 0 (omega arith)) (λ ps e.
-      formula-ends (ps .list) (length (ps .list)) (ps .next) (patterns-next 32 s 0 ps (omega arith) e))
+      both-agree (patternsAt 32 s 0) (patternsAt 32 t 0) _ _ (records-agree _ _ 4 257 formats-agree 32 0 (omega arith)) (λ ps e.
+      formula-ends (ps .list) (length (ps .list)) (ps .next) (records-next (patternFormat s) 4 (λ p. omega arith) 32 0 ps e))
 
 pub first-bytes : SettledByFirstBytes
 first-bytes = settled ruleOf 257 rule-agrees
@@ -142,5 +128,5 @@ unfolding longest
 longest-bytes = times-bytes 32 _ _ (search arith) (times-bytes 64 _ _ (search arith) (search arith))
 
 pub no-fewer : NotByFewer
-unfolding longest times ruleOf patternsAt formulaOf formulaAt
+unfolding longest times ruleOf recordsAt formulaOf formulaAt
 no-fewer = (longest, longest-bytes, refl, refl)

@@ -5,10 +5,13 @@ use lib.ListN.{length}
 use native.Mathlib.Omega.{arith}
 use borrow.Author.Needs.{needs}
 use Rattle.reading.specs.File.{Outcome, accepted}
-use Rattle.models.specs.Phone.{stepAt, recordLength}
+use Rattle.reading.specs.Representations.{recordAt}
+use Rattle.reading.proofs.Basics.ByteLaws.{slice-bytes}
+use Rattle.reading.proofs.RecordLists.RecordWays.{record-accepted}
+use Rattle.models.specs.Phone.{recordLength, stepFormat}
 use Rattle.models.specs.declared.Step.{Step}
 use Rattle.models.proofs.Files.FileWays.{step-found, all-read, step-refused, step-read}
-use Rattle.models.proofs.Files.StepBytes.{step-fits}
+use Rattle.models.proofs.Files.StepBytes.{step-inside}
 use Rattle.models.proofs.loading.next_step.Statement.{statement}
 use Rattle.models.proofs.loading.next_step.Tie as tie
 
@@ -18,7 +21,7 @@ module _ (c : tie.After-record-length) where
   start = c .before .before .before .before .before .before .before
 
   abbrev found : Outcome Step
-  found = stepAt (start .args .bytes .now) (start .args .states) (start .args .at) (512 - start .args .n)
+  found = recordAt (stepFormat (start .args .bytes .now) (start .args .states)) (512 - start .args .n) (start .args .at)
 
   abbrev step : Step
   step = c .before .before .found .given .0 .0
@@ -31,9 +34,10 @@ module _ (c : tie.After-record-length) where
 
   ends : start .args .at + recordLength step ≤ length (start .args .bytes .now)
   ends =
-      step-fits (start .args .bytes .now) (start .args .states) (start .args .at) (512 - start .args .n) step
-      (start .pre .1 .are-bytes) inside is-read
-      .whole
+      let bytes = start .args .bytes .now in
+      step-inside bytes (start .args .states) (start .args .at) step
+      (slice-bytes bytes (c .before .before .before .before .before .before .shared-slice-known .given)) inside
+      (record-accepted (stepFormat bytes (start .args .states)) (start .args .at) (512 - start .args .n) is-read .1)
 
 no-more-requires : tie.Need-no-more-requires
 no-more-requires c κs = search needs

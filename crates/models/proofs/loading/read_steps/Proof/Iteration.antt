@@ -39,7 +39,7 @@ use Rattle.models.proofs.Compiled.ReaderSlices.{file-val, File, Records
 use Rattle.models.proofs.Compiled.LentAgain.{OnLoan, lends-again-at, comes-back-at}
 use Rattle.models.proofs.Compiled.Loop.{tests, Less, AfterLoop}
 use Rattle.models.proofs.Compiled.Landing.{init-as, store-as}
-use Rattle.models.proofs.Files.FileWays.{begun-length}
+use Rattle.reading.proofs.RecordLists.RecordsRead.{begun-length}
 use Rattle.models.proofs.loading.next_step.Symbol.{name as #next-step}
 use Rattle.models.proofs.steps.put_step.Symbol.{name as #put-step}
 use Rattle.models.proofs.loading.read_steps.Code.Mir as body
@@ -121,7 +121,7 @@ module _ {M : Type 1} (𝓤 : URA M) (H : Heap 𝓤) (A : Atoms 𝓤) (W : Given
           sets-local ! (of-opd ! (reads-field ! 0 0 refl refl refl)) 5 refl (tt, tt) $
           tests ! (reads-local ! 5 refl)
           (λ h.
-          let begun = t .read .one-more (is-true (x .more) h) in
+          let begun = t .read .begun (is-true (x .more) h) in
           let inside : x .n < length ys = omega (arith, begun .few, begun-length begun, same) in
           let one-fits : x .n + 1 < 2 ^ 64 = omega (arith, begun .few) in
           -- the slice is lent again, for a lifetime of its own
