@@ -1,5 +1,6 @@
 -- Outcomes, places and lists.
 pub mod Outcomes
+pub mod Cases
 pub mod AllLaws
 pub mod ByteLaws
 pub mod ListLaws

@@ -26,6 +26,11 @@ abbrev pub andThen : {A B : Type 0} → Outcome A → (A → Outcome B) → Outc
 andThen (accepted a) f = f a
 andThen (refused number place) f = refused number place
 
+-- one value for what is accepted, another for a refusal
+abbrev pub byCase : {A R : Type 0} → (value : A → R) → (refusal : (number place : ℕ) → R) → Outcome A → R
+byCase value refusal (accepted a) = value a
+byCase value refusal (refused number place) = refusal number place
+
 -- ---- a list of records
 
 -- What a list of records needs to know of them: whether one more begins at a place, what the one there says, how many bytes it has, and the number

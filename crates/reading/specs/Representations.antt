@@ -7,7 +7,7 @@ use lib.ListN.{length, getD, replicate}
 use lib.Dec.{eqb}
 use lib.Seq.{sets}
 use Rattle.reading.specs.Pattern.{extentOf}
-use Rattle.reading.specs.File.{Outcome, accepted, refused, refuse, andThen, RecordFormat, Records, recordsAt, NodeRecord, Parsed}
+use Rattle.reading.specs.File.{Outcome, accepted, refused, refuse, andThen, byCase, RecordFormat, Records, recordsAt, NodeRecord, Parsed}
 use Rattle.reading.specs.Rule.{Guards, Symbol, Truth, Falsity, Both, Max, Necessity, Variable, kindByte}
 use Rattle.reading.specs.Numbered.{kinds, args, padded, noPattern, noExtent}
 use Rattle.reading.specs.declared.Pattern.{Pattern}
@@ -17,6 +17,8 @@ use Rattle.reading.specs.declared.patterns.PatternRead.{PatternRead}
 use Rattle.reading.specs.declared.patterns.PatternRead as PatternRead′
 use Rattle.reading.specs.declared.patterns.Head.{Head}
 use Rattle.reading.specs.declared.formulas.Scope.{Scope}
+use Rattle.reading.specs.declared.formulas.Record.{Record}
+use Rattle.reading.specs.declared.formulas.Rest.{Rest}
 use Rattle.reading.specs.declared.formulas.NodeRead.{NodeRead}
 use Rattle.reading.specs.declared.formulas.NodeRead as NodeRead′
 use Rattle.reading.specs.declared.formulas.FormulaRead.{FormulaRead}
@@ -25,8 +27,7 @@ use Rattle.reading.specs.declared.formulas.FormulaRead as FormulaRead′
 -- ---- the case of each outcome; a refusal has the paper's number and place
 
 abbrev pub patternRead : Outcome Pattern → PatternRead
-patternRead (accepted p) = PatternRead′.the-variants.Read p
-patternRead (refused number place) = PatternRead′.the-variants.Refused number place
+patternRead = byCase PatternRead′.the-variants.Read PatternRead′.the-variants.Refused
 
 -- the byte of a symbol's body
 abbrev pub bodyByte : Symbol → ℕ
@@ -37,14 +38,18 @@ bodyByte (Necessity p) = p
 bodyByte Max = 0
 bodyByte (Variable d) = d
 
+abbrev pub nodeOf : NodeRecord → Record
+nodeOf r = record { kind = kindByte (r .symbol); body = bodyByte (r .symbol); next = r .next }
+
 abbrev pub nodeRead : Outcome NodeRecord → NodeRead
-nodeRead (accepted r) = NodeRead′.the-variants.Read (record { kind = kindByte (r .symbol); body = bodyByte (r .symbol); next = r .next })
-nodeRead (refused number place) = NodeRead′.the-variants.Refused number place
+nodeRead = byCase (λ r. NodeRead′.the-variants.Read (nodeOf r)) NodeRead′.the-variants.Refused
 
 -- a formula's case has the place after it and the nodes left; its nodes are in the arrays
+abbrev pub restOf : Parsed → Rest
+restOf f = record { next = f .next; left = f .left }
+
 abbrev pub formulaRead : Outcome Parsed → FormulaRead
-formulaRead (accepted f) = FormulaRead′.the-variants.Read (record { next = f .next; left = f .left })
-formulaRead (refused number place) = FormulaRead′.the-variants.Refused number place
+formulaRead = byCase (λ f. FormulaRead′.the-variants.Read (restOf f)) FormulaRead′.the-variants.Refused
 
 -- ---- refusals passed up
 

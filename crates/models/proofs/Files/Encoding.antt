@@ -11,7 +11,7 @@ use Rattle.reading.specs.Rule.{All, Bytes}
 use Rattle.reading.specs.File.{Outcome, accepted, refused}
 use Rattle.reading.specs.declared.Acceptance.the-variants.{Accepted}
 use Rattle.reading.proofs.Basics.ByteLaws.{bytes-append}
-use Rattle.reading.proofs.Basics.Outcomes.{accepted-is, accepted-by, then-accepts, passes}
+use Rattle.reading.proofs.Basics.Outcomes.{accepted-is, andThen-accepted, then-accepts, refuse-accepted}
 use Rattle.reading.proofs.Numbering.NumberedLaws.{padded-at}
 use Rattle.models.specs.Phone.{Phone, WellFormedStep, WellFormedPhone, PhoneWithinLimits, recordBytes, encodeStep, encodeSteps, encodePhone}
 use Rattle.models.specs.Phone.{noStep, statesKind, statesOf, stepsAt, phoneOf}
@@ -26,11 +26,11 @@ use Rattle.models.proofs.Files.StepBytes.{from-here, steps-accept, step
 pub states-stand : (f : List ℕ) (states : ℕ) → statesOf f ≡ accepted states → (1 ≤ states) × (states ≤ 64) × (f ≡ statesKind ∷ states ∷ drop 2 f)
 unfolding statesOf
 states-stand f states e =
-    let some = passes (eqb (length f) 0) 11 (length f) _ e in
-    let kind = passes (not (eqb (getD f 0 0) statesKind)) 12 0 _ (some .1) in
-    let whole = passes (eqb (length f) 1) 11 (length f) _ (kind .1) in
-    let least = passes (eqb (getD f 1 0) 0) 12 0 _ (whole .1) in
-    let most = passes (ltb 64 (getD f 1 0)) 12 0 _ (least .1) in
+    let some = refuse-accepted (eqb (length f) 0) 11 (length f) _ e in
+    let kind = refuse-accepted (not (eqb (getD f 0 0) statesKind)) 12 0 _ (some .1) in
+    let whole = refuse-accepted (eqb (length f) 1) 11 (length f) _ (kind .1) in
+    let least = refuse-accepted (eqb (getD f 1 0) 0) 12 0 _ (whole .1) in
+    let most = refuse-accepted (ltb 64 (getD f 1 0)) 12 0 _ (least .1) in
     let is : getD f 1 0 ≡ states = accepted-is (most .1) in
     let sixteen : getD f 0 0 ≡ statesKind = eqb-true _ _ (not-false _ (kind .0)) in
     let inside : 1 < length f = omega (arith, eqb-false (length f) 0 (some .0), eqb-false (length f) 1 (whole .0)) in (
@@ -53,9 +53,9 @@ states-read states bytes some few =
 phone-stands : (f : List ℕ) → Bytes f → (y : Phone) → phoneOf f ≡ accepted y → PhoneWithinLimits y × (f ≡ encodePhone y)
 unfolding phoneOf
 phone-stands f bytes y e =
-    let head = accepted-by (statesOf f) _ e in
+    let head = andThen-accepted (statesOf f) _ e in
     let states = head .0 in
-    let body = accepted-by (stepsAt 512 f states 2) _ (head .2) in
+    let body = andThen-accepted (stepsAt 512 f states 2) _ (head .2) in
     let (some, few, first) = states-stand f states (head .1) in
     let xs = body .0 in
     let stands = steps-accept f states bytes 2 512 xs .0 (body .1) in

@@ -19,12 +19,14 @@ use Rattle.models.specs.Faults.{ModelBefore, BeginsModel, IsCount, IsSte
 use Rattle.models.specs.Faults.{Fault, empty-file, count-cut, step-cut, not-count, bad-count, not-step, bad-step, step-513}
 use Rattle.models.specs.Promises.{RefusesAtTheFault, HasOneFault}
 use Rattle.models.specs.declared.Step.{Step}
+use Rattle.reading.proofs.Basics.Outcomes.{byCase-refused}
+use Rattle.reading.proofs.Basics.Cases.{acceptanceOf, acceptance-refused}
 use Rattle.reading.proofs.RecordLists.RecordWays.{record-accepted, records-refused}
 use Rattle.reading.proofs.Refusing.OneFault.{one-fault}
 use Rattle.models.proofs.Files.StepLaws.{is-step, is-no-step, a-step}
 use Rattle.models.proofs.Files.RecordChecks as Checks
 use Rattle.models.proofs.Files.StepBytes.{StepDue, step-due}
-use Rattle.models.proofs.Files.FileWays.{no-states-found, no-step-found}
+use Rattle.models.proofs.Files.Cases.{states-cases, step-cases}
 use Rattle.models.proofs.Files.Encoding.{states-stand}
 use Rattle.models.proofs.Files.ModelFronts.{refused-there, step-longer, model-begins, begins-among}
 
@@ -176,30 +178,32 @@ module _ (f : List ℕ) (bytes : Bytes f) where
         none (rw ends at (model-begins longer)))
 
   pub fault-refuses : {number place : ℕ} → Fault f number place → phoneOf f ≡ refused number place
-  fault-refuses (empty-file e) = first-refused f (no-states-found (statesOf f) (Checks.file-empty f e))
+  fault-refuses (empty-file e) = first-refused f (byCase-refused states-cases (λ n. n) (statesOf f) _ _ (Checks.file-empty f e))
   fault-refuses (count-cut (inside, kind) cut) =
-      first-refused f (no-states-found (statesOf f) (Checks.states-cut f (λ z. omega arith) kind (omega arith)))
+      first-refused f (byCase-refused states-cases (λ n. n) (statesOf f) _ _ (Checks.states-cut f (λ z. omega arith) kind (omega arith)))
   fault-refuses (step-cut m kind few cut) = cut-refused m few kind cut
-  fault-refuses (not-count (inside, other)) = first-refused f (no-states-found (statesOf f) (Checks.other-kind f (λ z. omega arith) other))
+  fault-refuses (not-count (inside, other)) = first-refused f (byCase-refused states-cases (λ n. n) (statesOf f) _ _ (Checks.other-kind f (λ z. omega arith) other))
   fault-refuses (bad-count (inside, kind) whole (inl none)) =
-      first-refused f (no-states-found (statesOf f) (Checks.no-states f (λ z. omega arith) kind (λ z. omega arith) none))
+      first-refused f (byCase-refused states-cases (λ n. n) (statesOf f) _ _ (Checks.no-states f (λ z. omega arith) kind (λ z. omega arith) none))
   fault-refuses (bad-count (inside, kind) whole (inr many)) =
-      first-refused f (no-states-found (statesOf f)
+      first-refused f (byCase-refused states-cases (λ n. n) (statesOf f) _ _
       (Checks.states-over f (λ z. omega arith) kind (λ z. omega arith) (λ z. omega arith) many))
   fault-refuses (not-step {at} {n} m (inside, other)) =
-      next-refused f m inside (no-step-found (recordAt (stepFormat f (m .phone .states)) (512 - n) at)
+      next-refused f m inside (byCase-refused step-cases (λ x. x) (recordAt (stepFormat f (m .phone .states)) (512 - n) at) _ _
       (Checks.no-step f (m .phone .states) at (512 - n) (λ e. other (inl e)) (λ e. other (inr e))))
   fault-refuses (bad-step m kind few whole none) = bad-refused m few kind whole none
   fault-refuses (step-513 {at} m (inside, kind)) =
-      next-refused f m inside (no-step-found (recordAt (stepFormat f (m .phone .states)) 0 at)
+      next-refused f m inside (byCase-refused step-cases (λ x. x) (recordAt (stepFormat f (m .phone .states)) 0 at) _ _
       (Checks.no-step-left f (m .phone .states) at 0 (a-step (getD f at 0) kind) refl))
 
 -- ---- the promise
 
+answer-is : (o : Outcome Phone) → modelReadingOf o .answer ≡ acceptanceOf o
+answer-is (accepted y) = refl
+answer-is (refused number place) = refl
+
 pub model-refused : (o : Outcome Phone) (number place : ℕ) → (o ≡ refused number place) ↔ (modelReadingOf o .answer ≡ Refused number place)
-model-refused (accepted y) number place =
-    (λ e. let z : _≡_ {A = ℕ} 0 1 = cc in absurd (omega arith), λ e. let z : _≡_ {A = ℕ} 0 1 = cc in absurd (omega arith))
-model-refused (refused other there) number place = (λ e. cc, λ e. cc)
+model-refused o number place = rw (answer-is o) (acceptance-refused o number place)
 
 pub refuses-at-the-fault : RefusesAtTheFault
 refuses-at-the-fault f bytes number place = (

@@ -10,6 +10,7 @@ use Rattle.reading.specs.File.{Outcome, accepted, refused, andThen, Records}
 use Rattle.reading.specs.Representations.{recordAt}
 use Rattle.reading.specs.declared.Acceptance.{Acceptance}
 use Rattle.reading.specs.declared.Acceptance.the-variants.{Accepted, Refused}
+use Rattle.reading.proofs.Basics.Outcomes.{byCase-refused}
 use Rattle.reading.proofs.RecordLists.RecordsRead.{begun-one, begun-all, begun-refused}
 use Rattle.models.specs.Phone.{noStep, statesOf, recordLength, stepFormat, stepsAt, phoneOf}
 use Rattle.models.specs.Loading.{StepsBegun, LoadedAs, NextRead}
@@ -23,24 +24,7 @@ use Rattle.models.specs.declared.records.StatesRead.{StatesRead}
 use Rattle.models.specs.declared.records.StatesRead.the-variants as StatesRead′
 use Rattle.models.specs.declared.records.StepRead.{StepRead}
 use Rattle.models.specs.declared.records.StepRead.the-variants as StepRead′
-
--- ---- what the readers of records found
-
-pub states-found : (o : Outcome ℕ) {n : ℕ} → StatesRead′.Read n ≡ statesRead o → o ≡ accepted n
-states-found (accepted n) e = cc
-states-found (refused number place) e = let z : _≡_ {A = ℕ} 0 1 = cc in absurd (omega arith)
-
-pub no-states-found : (o : Outcome ℕ) {number place : ℕ} → StatesRead′.Refused number place ≡ statesRead o → o ≡ refused number place
-no-states-found (accepted n) e = let z : _≡_ {A = ℕ} 0 1 = cc in absurd (omega arith)
-no-states-found (refused number place) e = cc
-
-pub step-found : (o : Outcome Step) {x : Step} → StepRead′.Read x ≡ stepRead o → o ≡ accepted x
-step-found (accepted x) e = cc
-step-found (refused number place) e = let z : _≡_ {A = ℕ} 0 1 = cc in absurd (omega arith)
-
-pub no-step-found : (o : Outcome Step) {number place : ℕ} → StepRead′.Refused number place ≡ stepRead o → o ≡ refused number place
-no-step-found (accepted x) e = let z : _≡_ {A = ℕ} 0 1 = cc in absurd (omega arith)
-no-step-found (refused number place) e = cc
+use Rattle.models.proofs.Files.Cases.{states-cases, step-cases}
 
 -- ---- the ways out of `next_step`
 
@@ -58,7 +42,7 @@ module _ {f : List ℕ} {states : ℕ} {steps : List Step} {n at : ℕ} (b : Ste
       → {number place : ℕ} → found ≡ StepRead′.Refused number place → (a : Acceptance) → a ≡ stepAnswer found
       → (next : Next) → next ≡ record { more = false; answer = a; step = noStep; n = n; at = 0 } → NextRead f states steps n next
   step-refused inside found is e a is-a =
-      no-more a (rw (begun-refused b (lt-ltb _ _ inside) (no-step-found _ (sym e ∙ is))) (is-a ∙ rw e))
+      no-more a (rw (begun-refused b (lt-ltb _ _ inside) (byCase-refused step-cases (λ x. x) _ _ _ (sym e ∙ is))) (is-a ∙ rw e))
 
   pub step-read : (x : Step) → at < length f → recordAt (stepFormat f states) (512 - n) at ≡ accepted x
       → NextRead f states steps n (record { more = true; answer = Accepted; step = x; n = n; at = at + recordLength x })
@@ -74,7 +58,7 @@ module _ (f : List ℕ) (found : StatesRead) (is : found ≡ statesRead (statesO
   pub states-refused : {number place : ℕ} → found ≡ StatesRead′.Refused number place
       → (a : Acceptance) → a ≡ statesAnswer found → (r : ModelReading) → r ≡ record { answer = a; model = blank } → r ≡ modelReadingOf (phoneOf f)
   unfolding phoneOf
-  states-refused e a is-a r is-r = is-r ∙ rw (no-states-found (statesOf f) (sym e ∙ is), is-a, e)
+  states-refused e a is-a r is-r = is-r ∙ rw (byCase-refused states-cases (λ n. n) (statesOf f) _ _ (sym e ∙ is), is-a, e)
 
 module _ (states : ℕ) (steps : List Step) (n : ℕ) where
   -- what is handed up of an outcome

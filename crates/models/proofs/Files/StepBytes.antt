@@ -12,7 +12,7 @@ use Rattle.reading.specs.Rule.{All, Bytes}
 use Rattle.reading.specs.Faults.{KindAt}
 use Rattle.reading.specs.File.{accepted, refused, Records, recordsAt}
 use Rattle.reading.proofs.Basics.ByteLaws.{byte-at}
-use Rattle.reading.proofs.Basics.Outcomes.{passes}
+use Rattle.reading.proofs.Basics.Outcomes.{refuse-accepted}
 use Rattle.reading.proofs.Basics.Places.{Byte, from-byte, byte-of, first-byte, rest-after}
 use Rattle.reading.proofs.RecordLists.RecordsAccepted.{ReadsRecords, FindsRecords, RecordsStand, records-after, records-read, records-accept}
 use Rattle.models.specs.Phone.{WellFormedStep, codeStepKind, silentStepKind, recordBytes, encodeStep, encodeSteps}
@@ -90,9 +90,9 @@ pub record StepStands (f : List ℕ) (states at : ℕ) (x : Step) : Type 0 where
 module _ (f : List ℕ) (states at : ℕ) (x : Step) where
   pub step-stands : Bytes f → at < length f → stepAt f states at ≡ accepted x → StepStands f states at x
   step-stands bytes inside e =
-      let kind = passes (not (isStep (getD f at 0))) 12 at _ e in
+      let kind = refuse-accepted (not (isStep (getD f at 0))) 12 at _ e in
       let due = step-due f states at bytes (inside, is-step (getD f at 0) (not-false _ (kind .0))) in
-      let whole = passes (leb (length f) (due .last)) 11 (length f) _ (sym (due .checks) ∙ kind .1) in
+      let whole = refuse-accepted (leb (length f) (due .last)) 11 (length f) _ (sym (due .checks) ∙ kind .1) in
       let (from, to, is) = among-is states at (due .step) x (whole .1) in
       subst (StepStands f states at) is (record {
         well-formed = record { from = from; label = due .label; to = to };

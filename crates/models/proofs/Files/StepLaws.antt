@@ -7,7 +7,7 @@ use native.Mathlib.Omega.{arith}
 use lib.Dec.{eqb, leb}
 use borrow.Author.Tests.{leb-false, eqb-true, eqb-false}
 use Rattle.reading.specs.File.{accepted}
-use Rattle.reading.proofs.Basics.Outcomes.{accepted-is, passes, neither}
+use Rattle.reading.proofs.Basics.Outcomes.{accepted-is, refuse-accepted, neither}
 use Rattle.models.specs.Phone.{codeStepKind, silentStepKind, isStep, among, recordLength}
 use Rattle.models.specs.Faults.{IsStep, NoStep}
 use Rattle.models.specs.declared.Step.{Step}
@@ -30,8 +30,8 @@ a-step k (inr silent) = rw silent
 
 pub among-is : (states at : ℕ) (x y : Step) → among states at x ≡ accepted y → (x .from < states) × (x .to < states) × (x ≡ y)
 among-is states at x y e =
-    let from = passes (leb states (x .from)) 13 at _ e in
-    let to = passes (leb states (x .to)) 13 at _ (from .1) in
+    let from = refuse-accepted (leb states (x .from)) 13 at _ e in
+    let to = refuse-accepted (leb states (x .to)) 13 at _ (from .1) in
     (leb-false _ _ (from .0), leb-false _ _ (to .0), accepted-is (to .1))
 
 pub record-bounds : (x : Step) → (3 ≤ recordLength x) × (recordLength x ≤ 4)

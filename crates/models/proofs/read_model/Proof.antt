@@ -4,11 +4,13 @@ use Prim.Native.Nat.{ℕ}
 use mathlib.Core.List.{List}
 use borrow.Author.Needs.{needs}
 use Rattle.reading.specs.File.{accepted}
+use Rattle.reading.proofs.Basics.Outcomes.{byCase-value}
 use Rattle.reading.proofs.RecordLists.RecordsRead.{begun-none}
 use Rattle.models.specs.Phone.{noStep, statesOf, stepFormat}
 use Rattle.models.specs.Loading.{StepsBegun}
 use Rattle.models.specs.declared.PhoneModel.{PhoneModel}
-use Rattle.models.proofs.Files.FileWays.{states-found, states-refused, loaded-accepted, loaded-refused}
+use Rattle.models.proofs.Files.Cases.{states-cases}
+use Rattle.models.proofs.Files.FileWays.{states-refused, loaded-accepted, loaded-refused}
 use Rattle.models.proofs.read_model.Statement.{statement}
 use Rattle.models.proofs.read_model.Tie as tie
 
@@ -21,7 +23,7 @@ module _ (c : tie.After-known-told) where
   states = c .before .first .given .0 .0
 
   states-are : statesOf f ≡ accepted states
-  states-are = states-found (statesOf f) (sym (c .before .first .given .1) ∙ c .before .before .before .read-states .ensures)
+  states-are = byCase-value states-cases (statesOf f) _ (sym (c .before .first .given .1) ∙ c .before .before .before .read-states .ensures)
 
 read-states-requires : tie.Need-read-states-requires
 read-states-requires c κs = search needs

@@ -14,7 +14,7 @@ use Rattle.reading.specs.Numbered.{numbered, readingOf}
 use Rattle.reading.specs.Promises.{AcceptsEncodings, OneRule, AnswersAccepted}
 use Rattle.reading.specs.declared.Acceptance.the-variants.{Accepted}
 use Rattle.reading.specs.declared.Reading.{Reading}
-use Rattle.reading.proofs.Basics.Outcomes.{accepted-is, accepted-by, then-accepts, passes}
+use Rattle.reading.proofs.Basics.Outcomes.{accepted-is, andThen-accepted, then-accepts, refuse-accepted}
 use Rattle.reading.proofs.Basics.Places.{first-byte, rest-after}
 use Rattle.reading.proofs.Accepting.PatternBytes.{PatternsStand, patterns-accept}
 use Rattle.reading.proofs.Accepting.Sound.{FormulaStands}
@@ -24,11 +24,11 @@ use Rattle.reading.proofs.Accepting.Encoding.{encoding-is-bytes}
 rule-stands : (s : List ℕ) → Bytes s → (r : Rule) → ruleOf s ≡ accepted r → RuleWithinLimits r × (s ≡ encode r)
 unfolding ruleOf
 rule-stands s bytes r e =
-    let head = accepted-by (patternsAt 32 s 0) _ e in
+    let head = andThen-accepted (patternsAt 32 s 0) _ e in
     let ps = head .0 in
-    let body = accepted-by (formulaOf s (length (ps .list)) (ps .next) 64 []) (endOfFile s (ps .list)) (head .2) in
+    let body = andThen-accepted (formulaOf s (length (ps .list)) (ps .next) 64 []) (endOfFile s (ps .list)) (head .2) in
     let f = body .0 in
-    let end = passes (ltb (f .next) (length s)) 3 (f .next) _ (body .2) in
+    let end = refuse-accepted (ltb (f .next) (length s)) 3 (f .next) _ (body .2) in
     let patterns = patterns-accept s bytes 0 32 ps .0 (head .1) in
     let formula = formula-accepts s (length (ps .list)) (ps .next) 64 [] f .0 (body .1) in
     let bp = encodePatterns (ps .list) in
@@ -96,7 +96,7 @@ pub reading-of-encoding : (r : Rule) → RuleWithinLimits r → readingOf (ruleO
 reading-of-encoding r w = ap readingOf (reading-accepts (encode r) (encoding-is-bytes r w) r .1 (w, refl))
 
 pub answer-accepted : AnswersAccepted
-answer-accepted s bytes = (λ e. on (ruleOf s) refl e, λ h. rw (h .2) (ap (λ (x : Reading). x .answer) (reading-of-encoding (h .0) (h .1))))
+answer-accepted s bytes = (λ e. on (ruleOf s) refl e, λ (r, w, is, rule). rw is (ap (λ (x : Reading). x .answer) (reading-of-encoding r w)))
   where
     on : (o : Outcome Rule) → ruleOf s ≡ o → readingOf o .answer ≡ Accepted
         → (r : Rule) × RuleWithinLimits r × (s ≡ encode r) × (readingOf (ruleOf s) .rule ≡ numbered r)

@@ -15,7 +15,7 @@ use Rattle.reading.specs.File.{Outcome, accepted}
 use Rattle.reading.specs.File.{NodeRecord, necessityAt, variableAt, bareAt, nodeAt}
 use Rattle.reading.specs.Representations.{nodeRead}
 use Rattle.reading.specs.declared.formulas.NodeRead.the-variants as NodeRead
-use Rattle.reading.proofs.Basics.Outcomes.{accepted-is, passes, neither}
+use Rattle.reading.proofs.Basics.Outcomes.{accepted-is, refuse-accepted, neither}
 use Rattle.reading.proofs.Basics.Places.{Byte}
 use Rattle.reading.proofs.Accepting.Checks.{necessity-accepted, variable-accepted}
 
@@ -84,15 +84,15 @@ module _ (s : List ℕ) (n at left : ℕ) (g : Guards) where
 
     necessity-stands : Byte s at necessityKind → necessityAt s n at ≡ accepted r → NodeStands s n at g r
     necessity-stands b e =
-        let whole = passes (leb (length s) (at + 1)) 1 (length s) _ e in
-        let known = passes (leb n (getD s (at + 1) 0)) 6 at _ (whole .1) in
+        let whole = refuse-accepted (leb (length s) (at + 1)) 1 (length s) _ e in
+        let known = refuse-accepted (leb n (getD s (at + 1) 0)) 6 at _ (whole .1) in
         read-as (of-necessity (leb-false _ _ (known .0)) b (record { inside = leb-false _ _ (whole .0); is = refl })) (known .1)
 
     variable-stands : Byte s at variableKind → variableAt s g at ≡ accepted r → NodeStands s n at g r
     variable-stands b e =
-        let whole = passes (leb (length s) (at + 1)) 1 (length s) _ e in
-        let known = passes (leb (length g) (getD s (at + 1) 0)) 6 at _ (whole .1) in
-        let guard = passes (not (getD g (getD s (at + 1) 0) false)) 7 at _ (known .1) in
+        let whole = refuse-accepted (leb (length s) (at + 1)) 1 (length s) _ e in
+        let known = refuse-accepted (leb (length g) (getD s (at + 1) 0)) 6 at _ (whole .1) in
+        let guard = refuse-accepted (not (getD g (getD s (at + 1) 0) false)) 7 at _ (known .1) in
         let depth : Byte s (at + 1) (getD s (at + 1) 0) = record { inside = leb-false _ _ (whole .0); is = refl } in
         read-as (of-variable (leb-false _ _ (known .0)) (not-false _ (guard .0)) b depth) (guard .1)
 
@@ -109,10 +109,10 @@ module _ (s : List ℕ) (n at left : ℕ) (g : Guards) where
 
     node-stands : nodeAt s n at left g ≡ accepted r → (0 < left) × NodeStands s n at g r
     node-stands e =
-        let begun = passes (leb (length s) at) 1 (length s) _ e in
-        let known = passes (eqb (getD s at 0) 0 || ltb variableKind (getD s at 0)) 2 at _ (begun .1) in
-        let node = passes (eqb (getD s at 0) patternKind) 3 at _ (known .1) in
-        let few = passes (eqb left 0) 4 at _ (node .1) in
+        let begun = refuse-accepted (leb (length s) at) 1 (length s) _ e in
+        let known = refuse-accepted (eqb (getD s at 0) 0 || ltb variableKind (getD s at 0)) 2 at _ (begun .1) in
+        let node = refuse-accepted (eqb (getD s at 0) patternKind) 3 at _ (known .1) in
+        let few = refuse-accepted (eqb left 0) 4 at _ (node .1) in
         let range = neither (eqb (getD s at 0) 0) (ltb variableKind (getD s at 0)) (known .0) in
         let here : Byte s at (getD s at 0) = record { inside = leb-false _ _ (begun .0); is = refl } in (
           omega (arith, eqb-false left 0 (few .0)),

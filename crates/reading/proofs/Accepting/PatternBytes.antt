@@ -13,7 +13,7 @@ use Rattle.reading.specs.Rule.{Bytes, patternKind, patternBytes}
 use Rattle.reading.specs.File.{accepted, Records, patternAt, isPattern, patternFormat, patternsAt}
 use Rattle.reading.specs.declared.Pattern.{Pattern}
 use Rattle.reading.proofs.Basics.ByteLaws.{byte-at}
-use Rattle.reading.proofs.Basics.Outcomes.{accepted-is, passes}
+use Rattle.reading.proofs.Basics.Outcomes.{accepted-is, refuse-accepted}
 use Rattle.reading.proofs.Basics.Places.{Byte, from-byte, byte-of, first-byte}
 use Rattle.reading.proofs.RecordLists.RecordsAccepted.{ReadsRecords, FindsRecords, RecordsStand, records-accept}
 use Rattle.reading.proofs.Accepting.Checks.{pattern-accepted}
@@ -40,11 +40,11 @@ module _ (s : List ℕ) (at : ℕ) (p : Pattern) where
 
   pub pattern-stands : getD s (at + 1) 0 < 256 → patternAt s at ≡ accepted p → PatternStands s at p
   pattern-stands mask e =
-      let whole = passes (leb (length s) (at + 3)) 1 (length s) _ e in
-      let kind = passes (eqb (getD s (at + 1) 0) 0) 5 at _ (whole .1) in
-      let first = passes (ltb 31 (getD s (at + 2) 0)) 5 at _ (kind .1) in
-      let last = passes (ltb 31 (getD s (at + 3) 0)) 5 at _ (first .1) in
-      let order = passes (ltb (getD s (at + 3) 0) (getD s (at + 2) 0)) 5 at _ (last .1) in
+      let whole = refuse-accepted (leb (length s) (at + 3)) 1 (length s) _ e in
+      let kind = refuse-accepted (eqb (getD s (at + 1) 0) 0) 5 at _ (whole .1) in
+      let first = refuse-accepted (ltb 31 (getD s (at + 2) 0)) 5 at _ (kind .1) in
+      let last = refuse-accepted (ltb 31 (getD s (at + 3) 0)) 5 at _ (first .1) in
+      let order = refuse-accepted (ltb (getD s (at + 3) 0) (getD s (at + 2) 0)) 5 at _ (last .1) in
       let inside : at + 3 < length s = leb-false _ _ (whole .0) in
       subst (λ (x : Pattern). PatternStands s at x) (accepted-is (order .1)) (record {
         well-formed = record {

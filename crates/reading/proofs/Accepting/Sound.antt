@@ -7,7 +7,7 @@ use native.Mathlib.Omega.{arith}
 use lib.ListN.{length, drop, length-append}
 use Rattle.reading.specs.Rule.{size, Guards, guarded, WellFormed, encodeFormula}
 use Rattle.reading.specs.File.{Outcome, accepted, NodeRecord, nodeAt, Parsed, partsBy, formulaAt}
-use Rattle.reading.proofs.Basics.Outcomes.{accepted-is, never-accepted, accepted-by}
+use Rattle.reading.proofs.Basics.Outcomes.{accepted-is, never-accepted, andThen-accepted}
 use Rattle.reading.proofs.Basics.Places.{from-byte}
 use Rattle.reading.proofs.Accepting.NodeBytes.{bare-truth, bare-falsity, bare-both, bare-max, NodeStands, bare, of-necessity, of-variable, node-accepts}
 
@@ -36,9 +36,9 @@ module _ (s : List ℕ) (n : ℕ) (read : Reader) (sound : Sound s n read) (at l
   parts-stand (bare bare-falsity b) e =
       subst Whole (accepted-is e) (record { well-formed = tt; bytes = from-byte (at + 1) b refl; ends = refl; nodes = omega arith })
   parts-stand (bare bare-both b) e =
-      let first = accepted-by (read (at + 1) left g) _ e in
+      let first = andThen-accepted (read (at + 1) left g) _ e in
       let a = first .0 in
-      let second = accepted-by (read (a .next) (a .left) g) _ (first .2) in
+      let second = andThen-accepted (read (a .next) (a .left) g) _ (first .2) in
       let h = second .0 in
       let stands = sound (at + 1) left g a (first .1) in
       let stands′ = sound (a .next) (a .left) g h (second .1) in
@@ -49,7 +49,7 @@ module _ (s : List ℕ) (n : ℕ) (read : Reader) (sound : Sound s n read) (at l
         nodes = omega (arith, stands .nodes, stands′ .nodes);
       })
   parts-stand (of-necessity p b a) e =
-      let part = accepted-by (read (at + 2) left (guarded g)) _ e in
+      let part = andThen-accepted (read (at + 2) left (guarded g)) _ e in
       let stands = sound (at + 2) left (guarded g) (part .0) (part .1) in
       subst Whole (accepted-is (part .2)) (record {
         well-formed = (p, stands .well-formed);
@@ -58,7 +58,7 @@ module _ (s : List ℕ) (n : ℕ) (read : Reader) (sound : Sound s n read) (at l
         nodes = omega (arith, stands .nodes);
       })
   parts-stand (bare bare-max b) e =
-      let part = accepted-by (read (at + 1) left (false ∷ g)) _ e in
+      let part = andThen-accepted (read (at + 1) left (false ∷ g)) _ e in
       let stands = sound (at + 1) left (false ∷ g) (part .0) (part .1) in
       subst Whole (accepted-is (part .2)) (record {
         well-formed = stands .well-formed;
@@ -78,7 +78,7 @@ pub at-sound : (depth : ℕ) (s : List ℕ) (n : ℕ) → Sound s n (formulaAt d
 unfolding formulaAt
 at-sound zero s n at left g f e = absurd (never-accepted e)
 at-sound (suc depth) s n at left g f e =
-    let node = accepted-by (nodeAt s n at left g) _ e in
+    let node = andThen-accepted (nodeAt s n at left g) _ e in
     let stands = node-accepts s n at left g (node .0) .0 (node .1) in
     let pos : 0 < left = stands .0 in
     let whole : suc (left - 1) ≡ left = omega arith in

@@ -1,33 +1,20 @@
 -- The loop over pattern records: what is read so far, with the extents, and what it leaves at each way out.
-use mathlib.Core.Path.{_≡_, refl, sym, ap, _∙_}
+use mathlib.Core.Path.{_≡_, refl, _∙_}
 use mathlib.Core.Bool.{true, false}
 use mathlib.Core.List.{List, [], _∷_, map, map-append}
 use Prim.Native.Nat.{ℕ, _+_, _-_, _<_}
 use native.Mathlib.Omega.{arith}
 use lib.ListN.{length, set, replicate, length-map}
 use Rattle.reading.specs.Pattern.{extentOf}
-use Rattle.reading.specs.File.{Outcome, accepted, refused, isPattern, patternFormat, patternsAt}
+use Rattle.reading.specs.File.{accepted, refused, isPattern, patternFormat, patternsAt}
 use Rattle.reading.specs.Numbered.{padded, noPattern, noExtent}
-use Rattle.reading.specs.Representations.{recordAt, RecordsBegun, patternRead, HeadOf}
+use Rattle.reading.specs.Representations.{recordAt, RecordsBegun, HeadOf}
 use Rattle.reading.specs.declared.Pattern.{Pattern}
 use Rattle.reading.specs.declared.Extent.{Extent}
 use Rattle.reading.specs.declared.Acceptance as Acceptance′
-use Rattle.reading.specs.declared.patterns.PatternRead.the-variants as PatternRead
 use Rattle.reading.specs.declared.patterns.Head.{Head}
 use Rattle.reading.proofs.RecordLists.RecordWays.{record-accepted}
 use Rattle.reading.proofs.RecordLists.RecordsRead.{set-padded, begun-none, begun-one, begun-all, begun-refused}
-
--- ---- what `read_pattern` found
-
-pub found-pattern : (o : Outcome Pattern) {p : Pattern} → PatternRead.Read p ≡ patternRead o → o ≡ accepted p
-found-pattern (accepted p) e = cc
-found-pattern (refused number place) e = let z : _≡_ {A = ℕ} 0 1 = cc in absurd (omega arith)
-
-pub no-pattern-found : (o : Outcome Pattern) {number place : ℕ} → PatternRead.Refused number place ≡ patternRead o → o ≡ refused number place
-no-pattern-found (accepted p) e = let z : _≡_ {A = ℕ} 0 1 = cc in absurd (omega arith)
-no-pattern-found (refused number place) e = cc
-
--- ---- the loop
 
 -- n patterns are read, up to `at`, and the arrays have them and their extents
 pub record PatternsBegun (s : List ℕ) (list : List Pattern) (extents : List Extent) (at n : ℕ) : Type 0 where

@@ -13,33 +13,25 @@ use Rattle.reading.specs.Rule.{truthKind, falsityKind, bothKind, necessi
 use Rattle.reading.specs.File.{Outcome, accepted, refused, andThen}
 use Rattle.reading.specs.File.{NodeRecord, nodeAt, Parsed, under, partsBy, formulaOf}
 use Rattle.reading.specs.Numbered.{kinds, args}
-use Rattle.reading.specs.Representations.{bodyByte, nodeRead, formulaRead, passedUp, Reads}
+use Rattle.reading.specs.Representations.{bodyByte, nodeOf, nodeRead, restOf, passedUp, Reads}
 use Rattle.reading.specs.declared.formulas.Record.{Record}
 use Rattle.reading.specs.declared.formulas.Rest.{Rest}
 use Rattle.reading.specs.declared.formulas.NodeRead.{NodeRead}
 use Rattle.reading.specs.declared.formulas.NodeRead.the-variants as NodeRead′
 use Rattle.reading.specs.declared.formulas.FormulaRead.{FormulaRead}
 use Rattle.reading.specs.declared.formulas.FormulaRead.the-variants as FormulaRead′
+use Rattle.reading.proofs.Basics.Outcomes.{byCase-refused, byCase-accepted}
+use Rattle.reading.proofs.Basics.Cases.{node-cases, formula-cases}
 use Rattle.reading.proofs.Accepting.Steps.{formula-step, formula-sound}
 use Rattle.reading.proofs.Accepting.NodeBytes.{bare-truth, bare-falsity, bare-both, bare-max, NodeStands, bare, of-necessity, of-variable, node-accepts}
 use Rattle.reading.proofs.Numbering.NumberedLaws.{kinds-size, args-size}
 use Rattle.reading.proofs.Functions.Stores.{two-lists, two-lists-over}
 
--- what a formula's answer says of it
-pub not-read : (o : Outcome Parsed) {number place : ℕ} → formulaRead o ≡ FormulaRead′.Refused number place → o ≡ refused number place
-not-read (accepted f) e = let z : _≡_ {A = ℕ} 0 1 = cc in absurd (omega arith)
-not-read (refused number place) e = cc
-
-pub was-read : (o : Outcome Parsed) {rest : Rest} → formulaRead o ≡ FormulaRead′.Read rest
-    → (f : Parsed) × (o ≡ accepted f) × (rest ≡ record { next = f .next; left = f .left })
-was-read (accepted f) e = (f, refl, cc)
-was-read (refused number place) e = let z : _≡_ {A = ℕ} 0 1 = cc in absurd (omega arith)
-
 -- a part that was read leaves no more nodes than there were
 pub rest-left : (s : List ℕ) (n at left : ℕ) (g : Guards) {ms ks gs ks′ gs′ : List ℕ} (r : FormulaRead) (rest : Rest)
     → Reads (formulaOf s n at left g) left ms ks gs ks′ gs′ r → r ≡ FormulaRead′.Read rest → rest .left ≤ left
 rest-left s n at left g r rest h e =
-    let a = was-read (formulaOf s n at left g) (sym (h .answer) ∙ e) in
+    let a = byCase-accepted formula-cases restOf (formulaOf s n at left g) rest (sym e ∙ h .answer) in
     omega (arith, formula-sound s n at left g (a .0) (a .1) .nodes, ap (λ (x : Rest). x .left) (a .2))
 
 -- A node with one part: the node's kind and argument are stored, then those of the part.
@@ -104,16 +96,6 @@ symbol-is (Necessity p) = refl
 symbol-is Max = refl
 symbol-is (Variable d) = refl
 
--- the record of a node that was found
-found-node : (o : Outcome NodeRecord) {node : Record} → NodeRead′.Read node ≡ nodeRead o
-    → (r : NodeRecord) × (o ≡ accepted r) × (node ≡ record { kind = kindByte (r .symbol); body = bodyByte (r .symbol); next = r .next })
-found-node (accepted r) e = (r, refl, cc)
-found-node (refused number place) e = let z : _≡_ {A = ℕ} 0 1 = cc in absurd (omega arith)
-
-not-found : (o : Outcome NodeRecord) {number place : ℕ} → NodeRead′.Refused number place ≡ nodeRead o → o ≡ refused number place
-not-found (accepted r) e = let z : _≡_ {A = ℕ} 0 1 = cc in absurd (omega arith)
-not-found (refused number place) e = cc
-
 -- The node that was found stands in the file, and the formula is that node and its parts.
 pub record Found (s : List ℕ) (n at left : ℕ) (g : Guards) (node : Record) : Type 0 where
   pub symbol : Symbol
@@ -125,10 +107,9 @@ pub record Found (s : List ℕ) (n at left : ℕ) (g : Guards) (node : Record) :
 
 module _ (s : List ℕ) (n at left : ℕ) (g : Guards) (found : NodeRead) (told : found ≡ nodeRead (nodeAt s n at left g)) where
   pub found-is : (node : Record) → found ≡ NodeRead′.Read node → Found s n at left g node
-  found-is node is = go (found-node (nodeAt s n at left g) (sym is ∙ told))
+  found-is node is = go (byCase-accepted node-cases nodeOf (nodeAt s n at left g) node (sym is ∙ told))
     where
-      go : (r : NodeRecord) × (nodeAt s n at left g ≡ accepted r)
-          × (node ≡ record { kind = kindByte (r .symbol); body = bodyByte (r .symbol); next = r .next }) → Found s n at left g node
+      go : (r : NodeRecord) × (nodeAt s n at left g ≡ accepted r) × (node ≡ nodeOf r) → Found s n at left g node
       go (r, e, node-is) =
           let next : node .next ≡ r .next = ap (λ (x : Record). x .next) node-is in
           let read = node-accepts s n at left g r .0 e in record {
@@ -175,7 +156,7 @@ module _ (s : List ℕ) (n at left : ℕ) (g : Guards) (ms ks gs : List ℕ) whe
   pub node-refused : (found : NodeRead) {number place : ℕ} {r : FormulaRead} {ks′ gs′ : List ℕ} → found ≡ nodeRead (nodeAt s n at left g)
       → found ≡ NodeRead′.Refused number place → r ≡ passedUp found → Whole ks′ gs′ r
   node-refused found {number} {place} told is e =
-      whole {o = refused number place} (formula-step s n at left g ∙ rw (not-found (nodeAt s n at left g) (sym is ∙ told)))
+      whole {o = refused number place} (formula-step s n at left g ∙ rw (byCase-refused node-cases nodeOf (nodeAt s n at left g) number place (sym is ∙ told)))
       (record { answer = e ∙ ap passedUp is; written = tt })
 
   module _ (node : Record) (found : Found s n at left g node) where
@@ -231,7 +212,7 @@ module _ (s : List ℕ) (n at left : ℕ) (g : Guards) (ms ks gs : List ℕ) whe
 
       pub first-refused : {number place : ℕ} → first ≡ FormulaRead′.Refused number place → Whole ks′ gs′ first
       first-refused {number} {place} e =
-          whole {o = refused number place} (both-step ∙ rw (not-read one (sym (h .answer) ∙ e))) (record { answer = e; written = tt })
+          whole {o = refused number place} (both-step ∙ rw (byCase-refused formula-cases restOf one number place (sym e ∙ h .answer))) (record { answer = e; written = tt })
 
       second-part : (f : Parsed) → one ≡ accepted f → {ks″ gs″ : List ℕ} {r : FormulaRead}
           → Reads (formulaOf s n (f .next) (f .left) g) (f .left) ms ks′ (set gs′ (64 - left) (64 - f .left)) ks″ gs″ r → Whole ks″ gs″ r
@@ -244,4 +225,4 @@ module _ (s : List ℕ) (n at left : ℕ) (g : Guards) (ms ks gs : List ℕ) whe
       pub is-both : (rest : Rest) → first ≡ FormulaRead′.Read rest → {ks″ gs″ : List ℕ} {r : FormulaRead}
           → Reads (formulaOf s n (rest .next) (rest .left) g) (rest .left) ms ks′ (set gs′ (64 - left) (64 - rest .left)) ks″ gs″ r
           → Whole ks″ gs″ r
-      is-both rest e h′ = let a = was-read one (sym (h .answer) ∙ e) in second-part (a .0) (a .1) (rw (a .2) at h′)
+      is-both rest e h′ = let a = byCase-accepted formula-cases restOf one rest (sym e ∙ h .answer) in second-part (a .0) (a .1) (rw (a .2) at h′)

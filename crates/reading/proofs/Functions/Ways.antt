@@ -9,7 +9,7 @@ use borrow.Author.Tests.{le-ltb, lt-ltb}
 use Rattle.reading.specs.Rule.{size}
 use Rattle.reading.specs.File.{Outcome, accepted, refused, andThen, Records, patternsAt, Parsed, formulaOf, endOfFile, ruleOf}
 use Rattle.reading.specs.Numbered.{kinds, args, padded, blank, readingOf}
-use Rattle.reading.specs.Representations.{HeadOf, headOf, IsScope, enclosing, guardsOf, Reads, formulaAnswer}
+use Rattle.reading.specs.Representations.{HeadOf, headOf, IsScope, enclosing, guardsOf, restOf, Reads, formulaAnswer}
 use Rattle.reading.specs.declared.Pattern.{Pattern}
 use Rattle.reading.specs.declared.Acceptance.{Acceptance}
 use Rattle.reading.specs.declared.Acceptance as Acceptance′
@@ -19,9 +19,10 @@ use Rattle.reading.specs.declared.formulas.Scope.{Scope}
 use Rattle.reading.specs.declared.formulas.Rest.{Rest}
 use Rattle.reading.specs.declared.formulas.FormulaRead.{FormulaRead}
 use Rattle.reading.specs.declared.formulas.FormulaRead as FormulaRead′
+use Rattle.reading.proofs.Basics.Outcomes.{byCase-refused, byCase-accepted}
+use Rattle.reading.proofs.Basics.Cases.{formula-cases}
 use Rattle.reading.proofs.Accepting.Steps.{formula-sound}
 use Rattle.reading.proofs.Numbering.NumberedLaws.{kinds-size, args-size}
-use Rattle.reading.proofs.Functions.Parts.{not-read, was-read}
 
 -- ---- stores into blank arrays
 
@@ -67,7 +68,7 @@ pub record AfterFormula (s : List ℕ) (h : Head) (ks gs : List ℕ) (rest : Res
   pub f : Parsed
   pub says : ruleOf s ≡ endOfFile s (ps .list) f
   pub is : h ≡ headOf ps
-  pub is-rest : rest ≡ record { next = f .next; left = f .left }
+  pub is-rest : rest ≡ restOf f
   pub nodes : size (f .formula) + f .left ≡ 64
   pub kinds-are : ks ≡ padded 64 0 (kinds 0 [] (f .formula))
   pub args-are : gs ≡ padded 64 0 (args 0 [] (f .formula))
@@ -123,7 +124,8 @@ module _ (s : List ℕ) (h : Head) (is : HeadOf (patternsAt 32 s 0) h) (ok : h .
       → (a : Acceptance) → a ≡ formulaAnswer found → (r : Reading) → r ≡ record { answer = a; rule = blank } → r ≡ readingOf (ruleOf s)
   formula-refused {number} {place} e a is-a r is-r =
       let p = after-patterns in
-      let refusal : formulaOf s (length (p .ps .list)) (p .ps .next) 64 [] ≡ refused number place = not-read _ (sym (p .reads .answer) ∙ e) in
+      let refusal : formulaOf s (length (p .ps .list)) (p .ps .next) 64 [] ≡ refused number place =
+      byCase-refused formula-cases restOf _ number place (sym e ∙ p .reads .answer) in
       is-r ∙ rw (then-formula s (p .ps) (p .read), refusal, is-a, e)
 
   module _ (rest : Rest) (e : found ≡ FormulaRead′.the-variants.Read rest) where
@@ -131,7 +133,7 @@ module _ (s : List ℕ) (h : Head) (is : HeadOf (patternsAt 32 s 0) h) (ok : h .
     after-formula = go after-patterns
       where
         with-formula : (p : AfterPatterns s h ks gs found) (f : Parsed) → formulaOf s (length (p .ps .list)) (p .ps .next) 64 [] ≡ accepted f
-            → rest ≡ record { next = f .next; left = f .left } → AfterFormula s h ks gs rest
+            → rest ≡ restOf f → AfterFormula s h ks gs rest
         with-formula p f read is-rest =
             let w = rw read at (p .reads .written) in
             let fits = formula-sound s (length (p .ps .list)) (p .ps .next) 64 [] f read .nodes in record {
@@ -147,5 +149,5 @@ module _ (s : List ℕ) (h : Head) (is : HeadOf (patternsAt 32 s 0) h) (ok : h .
 
         go : AfterPatterns s h ks gs found → AfterFormula s h ks gs rest
         go p =
-            let a = was-read (formulaOf s (length (p .ps .list)) (p .ps .next) 64 []) (sym (p .reads .answer) ∙ e) in
+            let a = byCase-accepted formula-cases restOf (formulaOf s (length (p .ps .list)) (p .ps .next) 64 []) rest (sym e ∙ p .reads .answer) in
             with-formula p (a .0) (a .1) (a .2)

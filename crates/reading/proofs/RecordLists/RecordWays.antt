@@ -8,7 +8,7 @@ use lib.Dec.{eqb}
 use borrow.Author.Tests.{eqb-false, ne-eqb}
 use Rattle.reading.specs.File.{Outcome, accepted, refused, andThen, RecordFormat, Records, withRecord, recordsAt}
 use Rattle.reading.specs.Representations.{recordAt, prepend}
-use Rattle.reading.proofs.Basics.Outcomes.{passes}
+use Rattle.reading.proofs.Basics.Outcomes.{refuse-accepted}
 
 module _ {A : Type 0} (r : RecordFormat A) (at : ℕ) where
   pub records-end : (left : ℕ) → r .more at ≡ false → recordsAt r left at ≡ accepted (record { list = []; next = at })
@@ -34,7 +34,7 @@ module _ {A : Type 0} (r : RecordFormat A) (at : ℕ) where
   -- a record that is accepted was one of those left
   pub record-accepted : (left : ℕ) {x : A} → recordAt r left at ≡ accepted x → (0 < left) × (r .one at ≡ accepted x)
   record-accepted left e =
-      let some = passes (eqb left 0) (r .tooMany at) at _ e in
+      let some = refuse-accepted (eqb left 0) (r .tooMany at) at _ e in
       (omega (arith, eqb-false left 0 (some .0)), some .1)
 
 -- ---- records put before an outcome

@@ -10,7 +10,7 @@ use lib.ListN.{length, drop, length-append}
 use Rattle.reading.specs.Rule.{All, encodeEach}
 use Rattle.reading.specs.File.{Outcome, accepted, refused, andThen, RecordFormat, Records, withRecord, recordsAt}
 use Rattle.reading.specs.Representations.{prepend}
-use Rattle.reading.proofs.Basics.Outcomes.{accepted-is, never-accepted, accepted-by}
+use Rattle.reading.proofs.Basics.Outcomes.{accepted-is, never-accepted, andThen-accepted}
 use Rattle.reading.proofs.Basics.Places.{rest-after}
 use Rattle.reading.proofs.RecordLists.RecordWays.{records-end, records-more, prepend-none, prepend-first}
 
@@ -82,8 +82,8 @@ module _ {A : Type 0} (s : List ℕ) (r : RecordFormat A) (bytes : A → List �
         none-or-some at zero xs (refused (r .tooMany at) at) (λ more e′. absurd (never-accepted e′)) (r .more at) refl e
     records-stand long (suc left) at xs e =
         none-or-some at (suc left) xs _ (λ more e′.
-        let (x, one, e″) = accepted-by (r .one at) _ e′ in
-        let (ys, others, is) = accepted-by (recordsAt r left (at + r .width x)) (withRecord x) e″ in
+        let (x, one, e″) = andThen-accepted (r .one at) _ e′ in
+        let (ys, others, is) = andThen-accepted (recordsAt r left (at + r .width x)) (withRecord x) e″ in
         let (fit, first) = k at x more one in
         let rest = records-stand long left (at + r .width x) ys others in
         subst (RecordsStand at (suc left)) (accepted-is is) (record {

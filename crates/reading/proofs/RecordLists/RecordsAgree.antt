@@ -6,7 +6,7 @@ use mathlib.Core.List.{List, []}
 use Prim.Native.Nat.{ℕ, zero, suc, _+_, _*_, _≤_, _<_}
 use native.Mathlib.Omega.{arith}
 use Rattle.reading.specs.File.{Outcome, accepted, andThen, RecordFormat, Records, withRecord, recordsAt}
-use Rattle.reading.proofs.Basics.Outcomes.{accepted-is, never-accepted, accepted-by, both-agree}
+use Rattle.reading.proofs.Basics.Outcomes.{accepted-is, never-accepted, andThen-accepted, both-agree}
 
 -- records of at most `w` bytes, each of which says the same in two files if it ends before `end`
 pub record FormatsAgree {A : Type 0} (r r′ : RecordFormat A) (w end : ℕ) : Type 0 where
@@ -41,6 +41,6 @@ module _ {A : Type 0} (r : RecordFormat A) (w : ℕ) (narrow : (x : A) → r .wi
   records-next zero at xs e = none-or-some (at + 0 * w) (r .more at) _ at xs e (λ z. absurd (never-accepted z)) (omega arith)
   records-next (suc left) at xs e =
       none-or-some (at + suc left * w) (r .more at) _ at xs e (λ z.
-      let (x, one, e′) = accepted-by (r .one at) _ z in
-      let (ys, others, is) = accepted-by (recordsAt r left (at + r .width x)) (withRecord x) e′ in
+      let (x, one, e′) = andThen-accepted (r .one at) _ z in
+      let (ys, others, is) = andThen-accepted (recordsAt r left (at + r .width x)) (withRecord x) e′ in
       omega (arith, narrow x, records-next left (at + r .width x) ys others, ap (λ (y : Records A). y .next) (accepted-is is))) (omega arith)

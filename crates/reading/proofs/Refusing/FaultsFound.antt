@@ -16,7 +16,7 @@ use Rattle.reading.specs.File.{refused, andThen, patternAt, isPattern, n
 use Rattle.reading.specs.Faults.{Unfinished, KindAt, IsPattern, HasBody, NoKind, Fault, file-ended, pattern-cut, node-cut, no-kind, after-rule, late-pattern}
 use Rattle.reading.specs.Faults.{pattern-33, node-65, bad-pattern, names-nothing, unguarded}
 use Rattle.reading.proofs.Basics.ByteLaws.{byte-at}
-use Rattle.reading.proofs.Basics.Outcomes.{neither, found, never-refused, refused-by}
+use Rattle.reading.proofs.Basics.Outcomes.{neither, refuse-refused, never-refused, andThen-refused}
 use Rattle.reading.proofs.Basics.Places.{Byte}
 use Rattle.reading.proofs.Accepting.NodeBytes.{ofKind, node-accepts}
 use Rattle.reading.proofs.Accepting.PatternBytes.{pattern-stands, pattern-kind}
@@ -45,27 +45,27 @@ module _ {s : List ℕ} {at n m : ℕ} {g : Guards} {due : List Guards} (h : Rea
   necessity-fault : Byte s at necessityKind → m < 64 → necessityAt s n at ≡ refused number place → Fault s number place
   necessity-fault b few e =
       let kind : KindAt s at HasBody = (b .inside, inl (b .is)) in
-      found (Fault s) (leb (length s) (at + 1)) 1 (length s) _ e
+      refuse-refused (Fault s) (leb (length s) (at + 1)) 1 (length s) _ e
       (λ t. node-cut (still-due h) kind few (omega (arith, leb-true (length s) (at + 1) t)))
       (λ f e′.
       let whole : at + 1 < length s = leb-false _ _ f in
-      found (Fault s) (leb n (getD s (at + 1) 0)) 6 at _ e′
+      refuse-refused (Fault s) (leb n (getD s (at + 1) 0)) 6 at _ e′
       (λ t. names-nothing (still-due h) kind few (omega arith) (λ begins. omega (arith, leb-true n (getD s (at + 1) 0) t, node-bound h (necessity-here s at b whole) begins)))
       (λ f′ e″. absurd (never-refused e″)))
 
   variable-fault : Byte s at variableKind → m < 64 → variableAt s g at ≡ refused number place → Fault s number place
   variable-fault b few e =
       let depth = getD s (at + 1) 0 in
-      found (Fault s) (leb (length s) (at + 1)) 1 (length s) _ e
+      refuse-refused (Fault s) (leb (length s) (at + 1)) 1 (length s) _ e
       (λ t. node-cut (still-due h) (b .inside, inr (b .is)) few (omega (arith, leb-true (length s) (at + 1) t)))
       (λ f e′.
       let whole : at + 1 < length s = leb-false _ _ f in
       let here = variable-here s at b whole in
-      found (Fault s) (leb (length g) depth) 6 at _ e′
+      refuse-refused (Fault s) (leb (length g) depth) 6 at _ e′
       (λ t. names-nothing (still-due h) (b .inside, inr (b .is)) few (omega arith) (λ begins. omega (arith, leb-true (length g) depth t, node-bound h here begins)))
       (λ f′ e″.
       let bound : depth < length g = leb-false _ _ f′ in
-      found (Fault s) (not (getD g depth false)) 7 at _ e″
+      refuse-refused (Fault s) (not (getD g depth false)) 7 at _ e″
       (λ t.
       unguarded (still-due h) (b .inside, b .is) few (omega arith)
       (λ begins. let guard : getD g depth false ≡ true = node-needed h here begins .1 in
@@ -88,19 +88,19 @@ module _ {s : List ℕ} {at n m : ℕ} {g : Guards} {due : List Guards} (h : Rea
       → Fault s number place
   node-fault left count none e =
       let kind = getD s at 0 in
-      found (Fault s) (leb (length s) at) 1 (length s) _ e
+      refuse-refused (Fault s) (leb (length s) at) 1 (length s) _ e
       (λ t. file-ended (subst (λ (k : ℕ). Unfinished s k n m) (omega (arith, leb-true (length s) at t, h .inside)) (still-due h)))
       (λ f e′.
       let inside : at < length s = leb-false _ _ f in
-      found (Fault s) (eqb kind 0 || ltb variableKind kind) 2 at _ e′
+      refuse-refused (Fault s) (eqb kind 0 || ltb variableKind kind) 2 at _ e′
       (λ t. no-kind (still-due h) (inside, unknown-kind kind t))
       (λ f′ e″.
       let (some, known) = neither (eqb kind 0) (ltb variableKind kind) f′ in
-      found (Fault s) (eqb kind patternKind) 3 at _ e″
+      refuse-refused (Fault s) (eqb kind patternKind) 3 at _ e″
       (λ t. late-pattern (still-due h) (inside, eqb-true kind patternKind t) (pattern-late s at m none inside t))
       (λ f″ e‴.
       let range : kind ≤ variableKind = ltb-false variableKind kind known in
-      found (Fault s) (eqb left 0) 4 at _ e‴
+      refuse-refused (Fault s) (eqb left 0) 4 at _ e‴
       (λ t. node-65 (subst (Unfinished s at n) (omega (arith, eqb-true left 0 t)) (still-due h))
       (inside, (omega (arith, eqb-false kind 0 some, eqb-false kind patternKind f″), range)))
       (λ f‴ last.
@@ -112,7 +112,7 @@ module _ {s : List ℕ} {at n m : ℕ} {g : Guards} {due : List Guards} (h : Rea
 ends-fault : (left : ℕ) {s : List ℕ} {at n m : ℕ} {number place : ℕ} → ReadTo s at n m [] → dueAt s left n at [] ≡ refused number place
     → Fault s number place
 ends-fault left {s} {at} {n} h e =
-    found (Fault s) (ltb at (length s)) 3 at _ (sym (due-over s left n at) ∙ e)
+    refuse-refused (Fault s) (ltb at (length s)) 3 at _ (sym (due-over s left n at) ∙ e)
     (λ t. after-rule (front-read h) (rule-read-to h refl) (ltb-true _ _ t))
     (λ f e′. absurd (never-refused e′))
 
@@ -122,11 +122,11 @@ unfolding dueAt
 due-fault zero [] h count none e = ends-fault zero h e
 due-fault (suc left) [] h count none e = ends-fault (suc left) h e
 due-fault zero (g ∷ due) {s} {at} {n} h count none e =
-    refused-by (nodeAt s n at zero g) _ e
+    andThen-refused (nodeAt s n at zero g) _ e
     (node-fault h zero count none)
     (λ r e′ e″. absurd (omega (arith, node-accepts s n at zero g r .0 e′ .0)))
 due-fault (suc left) (g ∷ due) {s} {at} {n} h count none e =
-    refused-by (nodeAt s n at (suc left) g) _ e
+    andThen-refused (nodeAt s n at (suc left) g) _ e
     (node-fault h (suc left) count none)
     (λ r e′ e″.
     let (stands, allows) = node-here s at (node-accepts s n at (suc left) g r .0 e′ .1) in
@@ -148,20 +148,20 @@ module _ {s : List ℕ} {at n : ℕ} (h : ReadTo s at n 0 ([] ∷ [])) (b : Byte
       let mask = getD s (at + 1) 0 in
       let first = getD s (at + 2) 0 in
       let last = getD s (at + 3) 0 in
-      found (Fault s) (leb (length s) (at + 3)) 1 (length s) _ e
+      refuse-refused (Fault s) (leb (length s) (at + 3)) 1 (length s) _ e
       (λ t. pattern-cut (still-due h) kind few (omega (arith, leb-true (length s) (at + 3) t)))
       (λ f₁ e₂.
       let whole : at + 3 < length s = leb-false _ _ f₁ in
-      found (Fault s) (eqb mask 0) 5 at _ e₂
+      refuse-refused (Fault s) (eqb mask 0) 5 at _ e₂
       (λ t. bad few whole (λ w. omega (arith, w .some-kind, eqb-true mask 0 t)))
       (λ f₂ e₃.
-      found (Fault s) (ltb 31 first) 5 at _ e₃
+      refuse-refused (Fault s) (ltb 31 first) 5 at _ e₃
       (λ t. bad few whole (λ w. omega (arith, w .in-order, w .slots, ltb-true 31 first t)))
       (λ f₃ e₄.
-      found (Fault s) (ltb 31 last) 5 at _ e₄
+      refuse-refused (Fault s) (ltb 31 last) 5 at _ e₄
       (λ t. bad few whole (λ w. omega (arith, w .slots, ltb-true 31 last t)))
       (λ f₄ e₅.
-      found (Fault s) (ltb last first) 5 at _ e₅
+      refuse-refused (Fault s) (ltb last first) 5 at _ e₅
       (λ t. bad few whole (λ w. omega (arith, w .in-order, ltb-true last first t)))
       (λ f₅ e₆. absurd (never-refused e₆))))))
 
@@ -187,7 +187,7 @@ head-fault (suc left) {s} bytes {at} {n} {number} {place} h count e =
         → Fault s number place
     on true is e′ later =
         let b = pattern-kind s at is in
-        refused-by (patternAt s at) _ e′
+        andThen-refused (patternAt s at) _ e′
         (pattern-fault h b (omega arith))
         (λ p e₁ e₂.
         let stands = pattern-stands s at p (byte-at s bytes (at + 1)) e₁ in

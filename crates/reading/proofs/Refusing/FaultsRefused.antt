@@ -18,13 +18,14 @@ use Rattle.reading.specs.Faults.{file-ended, pattern-cut, node-cut, no-k
 use Rattle.reading.specs.Faults.{unguarded}
 use Rattle.reading.specs.Numbered.{readingOf}
 use Rattle.reading.specs.Promises.{RefusesAtTheFault, HasOneFault}
-use Rattle.reading.specs.Representations.{recordAt, patternRead, nodeRead}
+use Rattle.reading.specs.Representations.{recordAt, patternRead, nodeOf, nodeRead}
 use Rattle.reading.specs.declared.Pattern.{Pattern}
 use Rattle.reading.specs.declared.Acceptance.the-variants.{Refused}
 use Rattle.reading.specs.declared.patterns.PatternRead.the-variants as PatternRead
 use Rattle.reading.specs.declared.formulas.NodeRead.the-variants as NodeRead
 use Rattle.reading.proofs.Basics.ByteLaws.{byte-at}
-use Rattle.reading.proofs.Basics.Outcomes.{found, never-refused}
+use Rattle.reading.proofs.Basics.Outcomes.{refuse-refused, never-refused, byCase-refused}
+use Rattle.reading.proofs.Basics.Cases.{pattern-cases, node-cases, acceptanceOf, acceptance-refused}
 use Rattle.reading.proofs.Accepting.Checks as checks
 use Rattle.reading.proofs.Basics.Places.{Byte}
 use Rattle.reading.proofs.Refusing.Contexts.{guards, Consumes, done, consumes-same}
@@ -37,15 +38,7 @@ use Rattle.reading.proofs.Refusing.FaultsFound.{fault-found}
 use Rattle.reading.proofs.Refusing.OneFault.{one-fault}
 use Rattle.reading.proofs.Refusing.GoingOn.{no-pattern, go-to-node, go-to-pattern, read-to-front, read-to-unfinished}
 
--- ---- from what a reader's function finds to its outcome
-
-node-told : (o : Outcome NodeRecord) {number place : ℕ} → NodeRead.Refused number place ≡ nodeRead o → o ≡ refused number place
-node-told (accepted r) e = let z : _≡_ {A = ℕ} 0 1 = cc in absurd (omega arith)
-node-told (refused m at) e = cc
-
-pattern-told : (o : Outcome Pattern) {number place : ℕ} → PatternRead.Refused number place ≡ patternRead o → o ≡ refused number place
-pattern-told (accepted p) e = let z : _≡_ {A = ℕ} 0 1 = cc in absurd (omega arith)
-pattern-told (refused m at) e = cc
+-- ---- where the next record is refused
 
 module _ (s : List ℕ) {number place : ℕ} where
   due-refused : (left n at : ℕ) (g : Guards) (due : List Guards) → nodeAt s n at left g ≡ refused number place
@@ -60,17 +53,12 @@ module _ (s : List ℕ) {number place : ℕ} where
   head-refused zero n at is e = rw is cc
   head-refused (suc left) n at is e = rw (is, sym (record-left (patternFormat s) at left) ∙ e)
 
-pub answer-refused : (o : Outcome Rule) (number place : ℕ) → (o ≡ refused number place) ↔ (readingOf o .answer ≡ Refused number place)
-answer-refused (accepted r) number place =
-    (λ e. let z : _≡_ {A = ℕ} 0 1 = cc in absurd (omega arith), λ e. let z : _≡_ {A = ℕ} 0 1 = cc in absurd (omega arith))
-answer-refused (refused m at) number place = (λ e. cc, λ e. cc)
-
 -- ---- at a node
 
 module _ {s : List ℕ} {at n m : ℕ} {g : Guards} {due : List Guards} (h : ReadTo s at n m (g ∷ due)) where
   node-refused : {number place : ℕ} → (m ≡ 0 → isPattern s at ≡ false) → NodeRead.Refused number place ≡ nodeRead (nodeAt s n at (64 - m) g)
       → headAt s 32 0 0 ≡ refused number place
-  node-refused none e = go-to-node h none ∙ due-refused s (64 - m) n at g due (node-told (nodeAt s n at (64 - m) g) e)
+  node-refused none e = go-to-node h none ∙ due-refused s (64 - m) n at g due (byCase-refused node-cases nodeOf (nodeAt s n at (64 - m) g) _ _ e)
 
   ended-refused : at ≡ length s → headAt s 32 0 0 ≡ refused 1 (length s)
   ended-refused e =
@@ -170,7 +158,7 @@ module _ {s : List ℕ} {at n : ℕ} {due : List Guards} (h : ReadTo s at n 0 du
   pattern-refused e = go-to-pattern h ∙ head-refused s (32 - n) n at (rw (lt-ltb at (length s) (kind .0), kind .1)) e
 
   told : {number place : ℕ} → PatternRead.Refused number place ≡ patternRead (recordAt (patternFormat s) (32 - n) at) → headAt s 32 0 0 ≡ refused number place
-  told e = pattern-refused (pattern-told (recordAt (patternFormat s) (32 - n) at) e)
+  told e = pattern-refused (byCase-refused pattern-cases (λ p. p) (recordAt (patternFormat s) (32 - n) at) _ _ e)
 
   pattern-33-refused : n ≡ 32 → headAt s 32 0 0 ≡ refused 4 at
   pattern-33-refused full = told (checks.no-pattern-left s at (32 - n) (omega arith))
@@ -181,12 +169,12 @@ module _ {s : List ℕ} {at n : ℕ} {due : List Guards} (h : ReadTo s at n 0 du
   -- whole and one of the 32, it can be refused with 5 only
   five : {number place : ℕ} → n < 32 → at + 4 ≤ length s → recordAt (patternFormat s) (32 - n) at ≡ refused number place → FiveAt at number place
   five few whole e =
-      found (FiveAt at) (eqb (32 - n) 0) 4 at _ e (λ t. absurd (omega (arith, eqb-true (32 - n) 0 t))) (λ f e₁.
-      found (FiveAt at) (leb (length s) (at + 3)) 1 (length s) _ e₁ (λ t. absurd (omega (arith, leb-true (length s) (at + 3) t))) (λ f₁ e₂.
-      found (FiveAt at) (eqb (getD s (at + 1) 0) 0) 5 at _ e₂ (λ t. (refl, refl)) (λ f₂ e₃.
-      found (FiveAt at) (ltb 31 (getD s (at + 2) 0)) 5 at _ e₃ (λ t. (refl, refl)) (λ f₃ e₄.
-      found (FiveAt at) (ltb 31 (getD s (at + 3) 0)) 5 at _ e₄ (λ t. (refl, refl)) (λ f₄ e₅.
-      found (FiveAt at) (ltb (getD s (at + 3) 0) (getD s (at + 2) 0)) 5 at _ e₅ (λ t. (refl, refl)) (λ f₅ e₆. absurd (never-refused e₆)))))))
+      refuse-refused (FiveAt at) (eqb (32 - n) 0) 4 at _ e (λ t. absurd (omega (arith, eqb-true (32 - n) 0 t))) (λ f e₁.
+      refuse-refused (FiveAt at) (leb (length s) (at + 3)) 1 (length s) _ e₁ (λ t. absurd (omega (arith, leb-true (length s) (at + 3) t))) (λ f₁ e₂.
+      refuse-refused (FiveAt at) (eqb (getD s (at + 1) 0) 0) 5 at _ e₂ (λ t. (refl, refl)) (λ f₂ e₃.
+      refuse-refused (FiveAt at) (ltb 31 (getD s (at + 2) 0)) 5 at _ e₃ (λ t. (refl, refl)) (λ f₃ e₄.
+      refuse-refused (FiveAt at) (ltb 31 (getD s (at + 3) 0)) 5 at _ e₄ (λ t. (refl, refl)) (λ f₄ e₅.
+      refuse-refused (FiveAt at) (ltb (getD s (at + 3) 0) (getD s (at + 2) 0)) 5 at _ e₅ (λ t. (refl, refl)) (λ f₅ e₆. absurd (never-refused e₆)))))))
 
   bad-refused : Bytes s → n < 32 → at + 4 ≤ length s → (BeginsRule (take (at + 4) s) → ⊥) → headAt s 32 0 0 ≡ refused 5 at
   bad-refused bytes few whole none = on (recordAt (patternFormat s) (32 - n) at) refl (λ number place e. pattern-refused e)
@@ -215,6 +203,13 @@ fault-refused s bytes (bad-pattern u kind few whole none) = let (g, due, h) = re
 fault-refused s bytes (names-nothing u kind few whole none) = let (g, due, h) = read-to-unfinished u in nothing-refused h kind few whole none
 fault-refused s bytes (unguarded u kind few whole none begins) =
     let (g, due, h) = read-to-unfinished u in unguarded-refused h kind few whole none begins
+
+answer-is : (o : Outcome Rule) → readingOf o .answer ≡ acceptanceOf o
+answer-is (accepted r) = refl
+answer-is (refused number place) = refl
+
+pub answer-refused : (o : Outcome Rule) (number place : ℕ) → (o ≡ refused number place) ↔ (readingOf o .answer ≡ Refused number place)
+answer-refused o number place = rw (answer-is o) (acceptance-refused o number place)
 
 pub refuses-at-the-fault : RefusesAtTheFault
 refuses-at-the-fault s bytes number place =

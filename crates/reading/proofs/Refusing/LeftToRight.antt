@@ -10,10 +10,10 @@ use lib.ListN.{length}
 use lib.Dec.{ltb}
 use Rattle.reading.specs.Rule.{Guards, guarded, Rule}
 use Rattle.reading.specs.Rule.{Symbol, Truth, Falsity, Both, Max, Necessity, Variable}
-use Rattle.reading.specs.File.{Outcome, accepted, refused, refuse, andThen, Records, withRecord, recordsAt, patternAt, isPattern, patternsAt}
+use Rattle.reading.specs.File.{Outcome, accepted, refused, refuse, andThen, byCase, Records, withRecord, recordsAt, patternAt, isPattern, patternsAt}
 use Rattle.reading.specs.File.{nodeAt, Parsed, partsBy, formulaOf, endOfFile, ruleOf}
 use Rattle.reading.specs.declared.Pattern.{Pattern}
-use Rattle.reading.proofs.Basics.Outcomes.{then-agree}
+use Rattle.reading.proofs.Basics.Outcomes.{accepted-is, never-refused, then-agree, Distinct, byCase-refused}
 use Rattle.reading.proofs.Accepting.NodeBytes.{node-accepts}
 use Rattle.reading.proofs.Accepting.Steps.{formula-step, formula-sound}
 use Rattle.reading.proofs.Refusing.Contexts.{guards, parts}
@@ -21,13 +21,17 @@ use Rattle.reading.proofs.Refusing.Contexts.{guards, parts}
 -- ---- outcomes without their values
 
 abbrev pub refusal : {A : Type 0} → Outcome A → Outcome Unit
-refusal (accepted a) = accepted tt
-refusal (refused number place) = refused number place
+refusal = byCase (λ a. accepted tt) refused
+
+outcome-cases : Distinct {B = Unit {0}} accepted refused
+outcome-cases = record {
+  value-same = λ a b e. accepted-is e;
+  refusal-same = λ number place number′ place′ e. (cc, cc);
+  apart = λ a number place e. never-refused e;
+}
 
 refused-alike : {A : Type 0} (o : Outcome A) (number place : ℕ) → (o ≡ refused number place) ↔ (refusal o ≡ refused number place)
-refused-alike (accepted a) number place =
-    (λ e. let z : _≡_ {A = ℕ} 0 1 = cc in absurd (omega arith), λ e. let z : _≡_ {A = ℕ} 0 1 = cc in absurd (omega arith))
-refused-alike (refused m at) number place = (λ e. cc, λ e. cc)
+refused-alike o number place = (λ e. ap refusal e, λ e. byCase-refused outcome-cases (λ a. tt) o number place (sym e))
 
 module _ {A B : Type 0} where
   refusal-then : (o : Outcome A) (f : A → Outcome B) → refusal (andThen o f) ≡ andThen o (λ a. refusal (f a))

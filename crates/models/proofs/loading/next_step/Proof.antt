@@ -7,10 +7,12 @@ use borrow.Author.Needs.{needs}
 use Rattle.reading.specs.File.{Outcome, accepted}
 use Rattle.reading.specs.Representations.{recordAt}
 use Rattle.reading.proofs.Basics.ByteLaws.{slice-bytes}
+use Rattle.reading.proofs.Basics.Outcomes.{byCase-value}
 use Rattle.reading.proofs.RecordLists.RecordWays.{record-accepted}
 use Rattle.models.specs.Phone.{recordLength, stepFormat}
 use Rattle.models.specs.declared.Step.{Step}
-use Rattle.models.proofs.Files.FileWays.{step-found, all-read, step-refused, step-read}
+use Rattle.models.proofs.Files.Cases.{step-cases}
+use Rattle.models.proofs.Files.FileWays.{all-read, step-refused, step-read}
 use Rattle.models.proofs.Files.StepBytes.{step-inside}
 use Rattle.models.proofs.loading.next_step.Statement.{statement}
 use Rattle.models.proofs.loading.next_step.Tie as tie
@@ -30,7 +32,7 @@ module _ (c : tie.After-record-length) where
   inside = c .before .before .before .before .before .if1 .left
 
   is-read : found ≡ accepted step
-  is-read = step-found found (sym (c .before .before .found .given .1) ∙ c .before .before .before .before .read-step .ensures)
+  is-read = byCase-value step-cases found _ (sym (c .before .before .found .given .1) ∙ c .before .before .before .before .read-step .ensures)
 
   ends : start .args .at + recordLength step ≤ length (start .args .bytes .now)
   ends =

@@ -9,7 +9,8 @@ use Rattle.reading.specs.File.{accepted, isPattern, patternFormat}
 use Rattle.reading.specs.Representations.{recordAt, patternAnswer}
 use Rattle.reading.specs.declared.NumberedRule.{NumberedRule}
 use Rattle.reading.proofs.Functions.Heads.{PatternsBegun, patterns-begun-none, patterns-begun-one, patterns-begun-all, patterns-begun-refused}
-use Rattle.reading.proofs.Functions.Heads.{found-pattern, no-pattern-found}
+use Rattle.reading.proofs.Basics.Outcomes.{byCase-refused, byCase-value}
+use Rattle.reading.proofs.Basics.Cases.{pattern-cases}
 use Rattle.reading.proofs.RecordLists.RecordWays.{record-accepted}
 use Rattle.reading.proofs.Accepting.PatternBytes.{PatternStands, pattern-stands, pattern-kind}
 use Rattle.reading.proofs.patterns.read_patterns.Statement.{statement}
@@ -39,7 +40,7 @@ module _ (c : tie.After-known-told Inv-loop μ-loop) where
   left = 32 - c .before .before .before .before .before .before .loop .n
 
   is-read : recordAt (patternFormat s) left place ≡ accepted (c .before .found .given .0 .0)
-  is-read = found-pattern (recordAt (patternFormat s) left place) (sym (c .before .found .given .1) ∙ c .before .before .before .read-pattern .ensures)
+  is-read = byCase-value pattern-cases (recordAt (patternFormat s) left place) _ (sym (c .before .found .given .1) ∙ c .before .before .before .read-pattern .ensures)
 
   some-left : 0 < left
   some-left = record-accepted (patternFormat s) place left is-read .0
@@ -82,7 +83,7 @@ returns c =
     let r = c .before .before .before in
     let told = c .before .enum-told .given .1 in
     patterns-begun-refused _ _ _ _ _ (r .before .before .before .loop .inv) _ _ _ (begins (r .before))
-    (no-pattern-found _ (sym told ∙ r .read-pattern .ensures)) (c .answer .ensures ∙ ap patternAnswer told)
+    (byCase-refused pattern-cases (λ p. p) _ _ _ (sym told ∙ r .read-pattern .ensures)) (c .answer .ensures ∙ ap patternAnswer told)
 
 mul-list : tie.Need-mul-list Inv-loop μ-loop
 mul-list c = omega (arith, some-left c)
