@@ -7,18 +7,19 @@ use native.Mathlib.Omega.{arith}
 use lib.ListN.{length, getD, drop, drop-of-length-le}
 use lib.Dec.{eqb, ltb}
 use borrow.Author.Tests.{ltb-false, eqb-true, eqb-false, le-ltb, ne-eqb, not-false}
-use Rattle.reading.specs.Rule.{All, Bytes}
+use Rattle.reading.specs.Rule.{Bytes}
 use Rattle.reading.specs.File.{Outcome, accepted, refused}
 use Rattle.reading.specs.declared.Acceptance.the-variants.{Accepted}
-use Rattle.reading.proofs.Basics.ByteLaws.{bytes-append}
+use Rattle.reading.proofs.Basics.EncodeLaws.{encodeEach-bytes}
 use Rattle.reading.proofs.Basics.Outcomes.{accepted-is, andThen-accepted, then-accepts, refuse-accepted}
+use Rattle.reading.proofs.Basics.Places.{from-place}
 use Rattle.reading.proofs.Numbering.NumberedLaws.{padded-at}
 use Rattle.models.specs.Phone.{Phone, WellFormedStep, WellFormedPhone, PhoneWithinLimits, recordBytes, encodeStep, encodeSteps, encodePhone}
 use Rattle.models.specs.Phone.{noStep, statesKind, statesOf, stepsAt, phoneOf}
 use Rattle.models.specs.Judging.{stored, modelReadingOf}
 use Rattle.models.specs.Promises.{AcceptsPhones, OnePhone, StoresModel, AnswersAccepted}
 use Rattle.models.specs.declared.Step.{Step}
-use Rattle.models.proofs.Files.StepBytes.{from-here, steps-accept, steps-read}
+use Rattle.models.proofs.Files.StepBytes.{steps-accept, steps-read}
 
 -- ---- the whole file
 
@@ -36,7 +37,7 @@ states-stand f states e =
     let inside : 1 < length f = omega (arith, eqb-false (length f) 0 (some .0), eqb-false (length f) 1 (whole .0)) in (
       omega (arith, eqb-false (getD f 1 0) 0 (least .0)),
       omega (arith, ltb-false 64 (getD f 1 0) (most .0)),
-      from-here f 0 1 (omega arith) refl ∙ rw (sixteen, from-here f 1 2 inside refl, is),
+      from-place f 0 1 (omega arith) refl ∙ rw (sixteen, from-place f 1 2 inside refl, is),
     )
 
 pub states-read : (states : ℕ) (bytes : List ℕ) → 1 ≤ states → states ≤ 64 → statesOf (statesKind ∷ states ∷ bytes) ≡ accepted states
@@ -93,15 +94,10 @@ step-is-bytes states few x w = on (eqb (x .label) 256) refl
         let code : x .label < 256 = omega (arith, w .label, eqb-false (x .label) 256 is) in
         (omega arith, (omega (arith, w .from), (code, (omega (arith, w .to), tt))))
 
-steps-are-bytes : (states : ℕ) → states ≤ 256 → (xs : List Step) → All (WellFormedStep states) xs → Bytes (encodeSteps xs)
-steps-are-bytes states few [] w = tt
-steps-are-bytes states few (x ∷ xs) w =
-    bytes-append (encodeStep x) (encodeSteps xs) (step-is-bytes states few x (w .0)) (steps-are-bytes states few xs (w .1))
-
 pub encode-bytes : (y : Phone) → WellFormedPhone y → Bytes (encodePhone y)
 encode-bytes y w =
     let few : y .states ≤ 64 = w .few-states in
-    (omega arith, (omega arith, steps-are-bytes (y .states) (omega arith) (y .steps) (w .steps)))
+    (omega arith, (omega arith, encodeEach-bytes encodeStep (WellFormedStep (y .states)) (step-is-bytes (y .states) (omega arith)) (y .steps) (w .steps)))
 
 -- ---- what is handed up of it
 

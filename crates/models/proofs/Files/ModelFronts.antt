@@ -2,59 +2,47 @@
 -- begins with it and a record has that record as a step.
 use mathlib.Core.Path.{_≡_, refl, sym, ap, _∙_}
 use mathlib.Core.Bool.{Bool, true, false}
-use mathlib.Core.List.{List, [], _∷_, _++_, append-nil, append-assoc}
+use mathlib.Core.List.{List, [], _∷_, _++_, append-nil}
 use Prim.Native.Nat.{ℕ, suc, _+_, _≤_, _<_}
 use native.Mathlib.Omega.{arith}
 use lib.Dec.{eqb}
 use lib.ListN.{length, take, drop, length-append, take-append-drop}
 use lib.Seq.{length-take-le, take-add, take-at}
-use Rattle.reading.specs.Rule.{All, Bytes}
+use borrow.Author.Tests.{eqb-true}
+use Rattle.reading.specs.Rule.{Bytes}
 use Rattle.reading.specs.File.{accepted, refused}
-use Rattle.reading.proofs.Basics.AllLaws.{all-append}
+use Rattle.reading.proofs.Basics.AllLaws.{all-append, all-front, all-last}
+use Rattle.reading.proofs.Basics.EncodeLaws.{encodeEach-append, encodeEach-front}
 use Rattle.reading.proofs.RecordLists.RecordsAccepted.{records-after}
 use Rattle.models.specs.Phone.{WellFormedStep, recordBytes, encodeStep, encodeSteps, encodePhone}
 use Rattle.models.specs.Phone.{codeStepKind, silentStepKind, statesOf, stepAt, recordLength, stepFormat, stepsAt, phoneOf}
 use Rattle.models.specs.Faults.{ModelBefore, BeginsModel}
 use Rattle.models.specs.declared.Step.{Step}
+use Rattle.models.proofs.Files.StepLaws.{record-bounds}
 use Rattle.models.proofs.Files.StepBytes.{length-step, step-stands, reads-steps}
 use Rattle.models.proofs.Files.Encoding.{states-read}
 
--- ---- encodings of steps
+-- ---- the bytes of a step tell it
 
-encode-append : (xs ys : List Step) → encodeSteps (xs ++ ys) ≡ encodeSteps xs ++ encodeSteps ys
-encode-append [] ys = refl
-encode-append (x ∷ xs) ys = rw (encode-append xs ys, append-assoc (encodeStep x) (encodeSteps xs) (encodeSteps ys))
+step-some : (x : Step) → 1 ≤ length (encodeStep x)
+step-some x = omega (arith, length-step x, record-bounds x .0)
 
--- two records with which the same bytes begin
-same-record : (b b′ : Bool) (x y : Step) {p q : List ℕ} → recordBytes b x ++ p ≡ recordBytes b′ y ++ q
-    → (x .from ≡ y .from) × (x .to ≡ y .to) × (p ≡ q)
-same-record true true x y e = (cc, cc, cc)
-same-record true false x y e = let z : _≡_ {A = ℕ} silentStepKind codeStepKind = cc in absurd (omega arith)
-same-record false true x y e = let z : _≡_ {A = ℕ} codeStepKind silentStepKind = cc in absurd (omega arith)
-same-record false false x y e = (cc, cc, cc)
+step-same : (x y : Step) → x .from ≡ y .from → x .label ≡ y .label → x .to ≡ y .to → x ≡ y
+step-same x y from label to =
+    let same : _≡_ {A = Step} (record { from = x .from; label = x .label; to = x .to }) (record { from = y .from; label = y .label; to = y .to }) = cc in
+    same
 
-no-record : (b : Bool) (x : Step) (p : List ℕ) → recordBytes b x ++ p ≡ [] → ⊥
-no-record true x p e = let z : _≡_ {A = ℕ} 0 1 = cc in omega arith
-no-record false x p e = let z : _≡_ {A = ℕ} 0 1 = cc in omega arith
-
-module _ (states : ℕ) where
-  -- what follows steps in the bytes of steps are the bytes of steps
-  steps-left : (xs ys : List Step) (p : List ℕ) → encodeSteps xs ++ p ≡ encodeSteps ys → All (WellFormedStep states) ys
-      → (zs : List Step) × All (WellFormedStep states) zs × (p ≡ encodeSteps zs)
-  steps-left [] ys p e all = (ys, all, e)
-  steps-left (x ∷ xs) [] p e all =
-      absurd (no-record (eqb (x .label) 256) x (encodeSteps xs ++ p) (sym (append-assoc (encodeStep x) (encodeSteps xs) p) ∙ e))
-  steps-left (x ∷ xs) (y ∷ ys) p e all =
-      let whole = sym (append-assoc (encodeStep x) (encodeSteps xs) p) ∙ e in
-      steps-left xs ys p (same-record (eqb (x .label) 256) (eqb (y .label) 256) x y whole .2) (all .1)
-
-  -- a record with which the bytes of steps begin
-  first-among : (x : Step) (p : List ℕ) (zs : List Step) → All (WellFormedStep states) zs → encodeStep x ++ p ≡ encodeSteps zs
-      → (x .from < states) × (x .to < states)
-  first-among x p [] all e = absurd (no-record (eqb (x .label) 256) x p e)
-  first-among x p (z ∷ zs) all e =
-      let same = same-record (eqb (x .label) 256) (eqb (z .label) 256) x z e in
-      (rw (same .0) (all .0 .from), rw (same .1) (all .0 .to))
+step-told : (x y : Step) (p q : List ℕ) → encodeStep x ++ p ≡ encodeStep y ++ q → (x ≡ y) × (p ≡ q)
+step-told x y p q = on (eqb (x .label) 256) (eqb (y .label) 256) refl refl
+  where
+    on : (b b′ : Bool) → eqb (x .label) 256 ≡ b → eqb (y .label) 256 ≡ b′ → recordBytes b x ++ p ≡ recordBytes b′ y ++ q → (x ≡ y) × (p ≡ q)
+    on true true is is′ e =
+        let silent : x .label ≡ 256 = eqb-true _ _ is in
+        let silent′ : y .label ≡ 256 = eqb-true _ _ is′ in
+        (step-same x y (cc) (cc) (cc), cc)
+    on true false is is′ e = let z : _≡_ {A = ℕ} silentStepKind codeStepKind = cc in absurd (omega arith)
+    on false true is is′ e = let z : _≡_ {A = ℕ} codeStepKind silentStepKind = cc in absurd (omega arith)
+    on false false is is′ e = (step-same x y (cc) (cc) (cc), cc)
 
 -- ---- a model at the front of a file
 
@@ -102,7 +90,7 @@ module _ {f : List ℕ} {at n : ℕ} (m : ModelBefore f at n) where
             few-steps = omega arith;
           };
           steps-are = counted;
-          bytes-are = with-record x (stands .bytes) ∙ rw (encode-append (m .phone .steps) (x ∷ []), append-nil (encodeStep x));
+          bytes-are = with-record x (stands .bytes) ∙ rw (encodeEach-append encodeStep (m .phone .steps) (x ∷ []), append-nil (encodeStep x));
         },
         refl,
       )
@@ -119,10 +107,14 @@ module _ {f : List ℕ} {at n : ℕ} (m : ModelBefore f at n) where
   pub begins-among : (x : Step) → drop at f ≡ encodeStep x ++ drop (at + recordLength x) f → BeginsModel (take (at + recordLength x) f)
       → (x .from < m .phone .states) × (x .to < m .phone .states)
   begins-among x from g =
+      let steps = m .phone .steps in
       let joined : (encodePhone (m .phone) ++ encodeStep x) ++ g .rest ≡ encodePhone (g .phone) =
       ap (λ p. p ++ g .rest) (sym (with-record x from)) ∙ g .bytes-are in
       let same : g .phone .states ≡ m .phone .states = cc in
-      let more : (encodeSteps (m .phone .steps) ++ encodeStep x) ++ g .rest ≡ encodeSteps (g .phone .steps) = cc in
-      let (zs, all, is) = steps-left (m .phone .states) (m .phone .steps) (g .phone .steps) (encodeStep x ++ g .rest)
-      (sym (append-assoc (encodeSteps (m .phone .steps)) (encodeStep x) (g .rest)) ∙ more) (rw same at (g .well-formed .steps)) in
-      first-among (m .phone .states) x (g .rest) zs all is
+      let more : (encodeSteps steps ++ encodeStep x) ++ g .rest ≡ encodeSteps (g .phone .steps) = cc in
+      let longer : encodeSteps (steps ++ x ∷ []) ≡ encodeSteps steps ++ encodeStep x =
+      encodeEach-append encodeStep steps (x ∷ []) ∙ ap (λ p. encodeSteps steps ++ p) (append-nil (encodeStep x)) in
+      let (zs, are, left) = encodeEach-front encodeStep step-some step-told (steps ++ x ∷ []) (g .phone .steps) (g .rest)
+      (ap (λ p. p ++ g .rest) longer ∙ more) in
+      let fit = all-last _ steps x (all-front _ (steps ++ x ∷ []) zs (rw (same, are) at (g .well-formed .steps))) in
+      (fit .from, fit .to)

@@ -12,8 +12,7 @@ use Rattle.reading.specs.File.{accepted, refused}
 use Rattle.reading.proofs.Settling.Agreement.{Agree, inside, settled}
 use Rattle.reading.proofs.Basics.Outcomes.{then-agree}
 use Rattle.reading.proofs.RecordLists.RecordsAgree.{FormatsAgree, records-agree}
-use Rattle.models.specs.Phone.{Phone, WellFormedStep, WellFormedPhone, encodeSteps, encodePhone}
-use Rattle.models.specs.Phone.{codeStepKind, statesOf, stepAt, stepFormat, phoneOf}
+use Rattle.models.specs.Phone.{Phone, WellFormedStep, WellFormedPhone, encodeSteps, encodePhone, codeStepKind, statesOf, stepAt, stepFormat, phoneOf}
 use Rattle.models.specs.Promises.{SettledByFirstBytes, NotByFewer}
 use Rattle.models.specs.declared.Step.{Step}
 use Rattle.models.proofs.Files.StepLaws.{record-bounds}

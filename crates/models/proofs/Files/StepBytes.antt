@@ -13,7 +13,7 @@ use Rattle.reading.specs.Faults.{KindAt}
 use Rattle.reading.specs.File.{accepted, refused, Records, recordsAt}
 use Rattle.reading.proofs.Basics.ByteLaws.{byte-at}
 use Rattle.reading.proofs.Basics.Outcomes.{refuse-accepted}
-use Rattle.reading.proofs.Basics.Places.{Byte, from-byte, byte-of, first-byte, rest-after}
+use Rattle.reading.proofs.Basics.Places.{Byte, from-byte, from-place, byte-of, first-byte, rest-after}
 use Rattle.reading.proofs.RecordLists.RecordsAccepted.{ReadsRecords, FindsRecords, RecordsStand, records-after, records-read, records-accept}
 use Rattle.models.specs.Phone.{WellFormedStep, codeStepKind, silentStepKind, recordBytes, encodeStep, encodeSteps}
 use Rattle.models.specs.Phone.{endingAt, codeStepAt, silentStepAt, isStep, stepAt, recordLength, stepFormat, stepsAt}
@@ -22,10 +22,6 @@ use Rattle.models.specs.declared.Step.{Step}
 use Rattle.models.proofs.Files.StepLaws.{is-step, among-is, record-bounds}
 
 -- ---- the record of a step that may come next
-
--- the byte at `at`, and what follows it
-pub from-here : (f : List ℕ) (at next : ℕ) → at < length f → at + 1 ≡ next → drop at f ≡ getD f at 0 ∷ drop next f
-from-here f at next inside e = from-byte next (record { inside = inside; is = refl }) e
 
 pub length-step : (x : Step) → length (encodeStep x) ≡ recordLength x
 length-step x = on (eqb (x .label) 256)
@@ -56,9 +52,9 @@ module _ (f : List ℕ) (states at : ℕ) where
         ends = rw coded (omega arith);
         after = rw (b .is) (omega arith);
         bytes = λ inside. rw coded (from-byte (at + 1) b refl ∙ rw (
-          from-here f (at + 1) (at + 2) (omega arith) (omega arith),
-          from-here f (at + 2) (at + 3) (omega arith) (omega arith),
-          from-here f (at + 3) (at + 4) inside (omega arith),
+          from-place f (at + 1) (at + 2) (omega arith) (omega arith),
+          from-place f (at + 2) (at + 3) (omega arith) (omega arith),
+          from-place f (at + 3) (at + 4) inside (omega arith),
         ));
       }
 
@@ -71,8 +67,8 @@ module _ (f : List ℕ) (states at : ℕ) where
     ends = omega arith;
     after = rw (b .is) (omega arith);
     bytes = λ inside. from-byte (at + 1) b refl ∙ rw (
-      from-here f (at + 1) (at + 2) (omega arith) (omega arith),
-      from-here f (at + 2) (at + 3) inside (omega arith),
+      from-place f (at + 1) (at + 2) (omega arith) (omega arith),
+      from-place f (at + 2) (at + 3) inside (omega arith),
     );
   }
 

@@ -1,13 +1,13 @@
 -- A file is accepted as the rule r exactly where r is well formed and the file is its encoding.
 use mathlib.Core.Path.{_≡_, refl, sym, ap, _∙_, subst}
-use mathlib.Core.Bool.{false, and-false}
+use mathlib.Core.Bool.{false}
 use mathlib.Core.List.{List, [], _++_, append-nil}
 use Prim.Native.Nat.{ℕ, _+_, _-_, _≤_}
 use native.Mathlib.Omega.{arith}
 use lib.ListN.{length, drop, length-append, drop-of-length-le}
 use lib.Dec.{ltb}
 use borrow.Author.Tests.{ltb-false, le-ltb}
-use Rattle.reading.specs.Rule.{Formula, truth, falsity, both, necessity, max, variable, size}
+use Rattle.reading.specs.Rule.{Formula, truth, falsity, both, necessity, max, variable, size, Truth, Falsity, Both, Max, Necessity, Variable}
 use Rattle.reading.specs.Rule.{Rule, RuleWithinLimits, encodePatterns, encodeFormula, encode, Bytes}
 use Rattle.reading.specs.File.{Outcome, accepted, refused, isPattern, patternsAt, Parsed, formulaOf, endOfFile, ruleOf}
 use Rattle.reading.specs.Numbered.{numbered, readingOf}
@@ -16,7 +16,7 @@ use Rattle.reading.specs.declared.Acceptance.the-variants.{Accepted}
 use Rattle.reading.specs.declared.Reading.{Reading}
 use Rattle.reading.proofs.Basics.Outcomes.{accepted-is, andThen-accepted, then-accepts, refuse-accepted}
 use Rattle.reading.proofs.Basics.Places.{first-byte, rest-after}
-use Rattle.reading.proofs.Accepting.PatternBytes.{PatternsStand, patterns-accept}
+use Rattle.reading.proofs.Accepting.PatternBytes.{node-no-pattern, PatternsStand, patterns-accept}
 use Rattle.reading.proofs.Accepting.Sound.{FormulaStands}
 use Rattle.reading.proofs.Accepting.FormulaBytes.{formula-accepts}
 use Rattle.reading.proofs.Accepting.Encoding.{encoding-is-bytes}
@@ -44,13 +44,13 @@ rule-stands s bytes r e =
     )
 
 -- a formula does not begin as a pattern
-no-pattern : (f : Formula) (s : List ℕ) (at : ℕ) → drop at s ≡ encodeFormula f ++ [] → isPattern s at ≡ false
-no-pattern truth s at from = rw (first-byte s at from .is, and-false)
-no-pattern falsity s at from = rw (first-byte s at from .is, and-false)
-no-pattern (both f g) s at from = rw (first-byte s at from .is, and-false)
-no-pattern (necessity p f) s at from = rw (first-byte s at from .is, and-false)
-no-pattern (max f) s at from = rw (first-byte s at from .is, and-false)
-no-pattern (variable d) s at from = rw (first-byte s at from .is, and-false)
+formula-no-pattern : (f : Formula) (s : List ℕ) (at : ℕ) → drop at s ≡ encodeFormula f ++ [] → isPattern s at ≡ false
+formula-no-pattern truth s at from = node-no-pattern s at Truth (first-byte s at from)
+formula-no-pattern falsity s at from = node-no-pattern s at Falsity (first-byte s at from)
+formula-no-pattern (both f g) s at from = node-no-pattern s at Both (first-byte s at from)
+formula-no-pattern (necessity p f) s at from = node-no-pattern s at (Necessity p) (first-byte s at from)
+formula-no-pattern (max f) s at from = node-no-pattern s at Max (first-byte s at from)
+formula-no-pattern (variable d) s at from = node-no-pattern s at (Variable d) (first-byte s at from)
 
 rule-read : (s : List ℕ) → Bytes s → (r : Rule) → RuleWithinLimits r → s ≡ encode r → ruleOf s ≡ accepted r
 unfolding ruleOf
@@ -65,7 +65,7 @@ rule-read s bytes r w e =
       few = w .few-patterns;
       bytes-are = e ∙ ap (λ (l : List ℕ). bp ++ l) (sym (rest-after s 0 bp e));
       ends = refl;
-      over = no-pattern (r .formula) s next from;
+      over = formula-no-pattern (r .formula) s next from;
     } in
     let n = length (r .patterns) in
     let f : Parsed = record { formula = r .formula; next = next + length bf; left = 64 - size (r .formula) } in

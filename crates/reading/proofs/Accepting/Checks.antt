@@ -6,9 +6,7 @@ use mathlib.Core.List.{List}
 use Prim.Native.Nat.{ℕ, _+_, _≤_, _<_}
 use lib.ListN.{length, getD}
 use borrow.Author.Tests.{le-leb, lt-leb, le-ltb, lt-ltb, eq-eqb, ne-eqb}
-use Rattle.reading.specs.Rule.{Guards}
-use Rattle.reading.specs.Rule.{Necessity, Variable}
-use Rattle.reading.specs.Rule.{patternKind, necessityKind, variableKind}
+use Rattle.reading.specs.Rule.{Guards, Necessity, Variable, patternKind, necessityKind, variableKind}
 use Rattle.reading.specs.File.{accepted, patternAt, patternFormat, necessityAt, variableAt, nodeAt}
 use Rattle.reading.specs.Representations.{recordAt, patternRead, nodeRead, guardsOf}
 use Rattle.reading.specs.declared.Pattern.{Pattern}

@@ -1,15 +1,15 @@
 -- A pattern is accepted exactly where it is well formed and its bytes stand at its place; so are patterns, by the law of lists of records.
-use mathlib.Core.Path.{_≡_, refl, _∙_, subst}
-use mathlib.Core.Bool.{true, and-eq-true-iff}
+use mathlib.Core.Path.{_≡_, refl, sym, _∙_, subst}
+use mathlib.Core.Bool.{true, false, and-eq-true-iff, and-false}
 use mathlib.Core.Logic.{_↔_}
 use mathlib.Core.List.{List, _++_}
 use Prim.Native.Nat.{ℕ, _+_, _<_}
 use native.Mathlib.Omega.{arith}
 use lib.ListN.{length, getD, drop}
 use lib.Dec.{ltb, leb, eqb}
-use borrow.Author.Tests.{ltb-true, ltb-false, leb-false, eqb-true, eqb-false, lt-ltb}
+use borrow.Author.Tests.{ltb-true, ltb-false, leb-false, eqb-true, eqb-false, lt-ltb, ne-eqb}
 use Rattle.reading.specs.Pattern.{WellFormedPattern}
-use Rattle.reading.specs.Rule.{Bytes, patternKind, patternBytes}
+use Rattle.reading.specs.Rule.{Bytes, Symbol, Truth, Falsity, Both, Max, Necessity, Variable, patternKind, patternBytes, kindByte}
 use Rattle.reading.specs.File.{accepted, Records, patternAt, isPattern, patternFormat, patternsAt}
 use Rattle.reading.specs.declared.Pattern.{Pattern}
 use Rattle.reading.proofs.Basics.ByteLaws.{byte-at}
@@ -66,11 +66,25 @@ module _ (s : List ℕ) (at : ℕ) (p : Pattern) where
 
 -- ---- the patterns
 
+kind-apart : (x : Symbol) → kindByte x ≡ patternKind → ⊥
+kind-apart Truth e = omega arith
+kind-apart Falsity e = omega arith
+kind-apart Both e = omega arith
+kind-apart (Necessity p) e = omega arith
+kind-apart Max e = omega arith
+kind-apart (Variable d) e = omega arith
+
 module _ (s : List ℕ) where
   pub pattern-kind : (at : ℕ) → isPattern s at ≡ true → Byte s at patternKind
   pattern-kind at e =
       let both = and-eq-true-iff (ltb at (length s)) (eqb (getD s at 0) patternKind) .0 e in
       record { inside = ltb-true _ _ (both .0); is = eqb-true _ _ (both .1) }
+
+  pub other-kind : (at : ℕ) → (getD s at 0 ≡ patternKind → ⊥) → isPattern s at ≡ false
+  other-kind at other = rw (ne-eqb (getD s at 0) patternKind other, and-false)
+
+  pub node-no-pattern : (at : ℕ) (x : Symbol) → Byte s at (kindByte x) → isPattern s at ≡ false
+  node-no-pattern at x b = other-kind at (λ e. kind-apart x (sym (b .is) ∙ e))
 
   pub reads-patterns : ReadsRecords s (patternFormat s) patternBytes WellFormedPattern
   reads-patterns = record {

@@ -16,6 +16,10 @@ from-byte {s} {at} next b e =
     let after : suc at ≡ next = omega arith in
     drop-cons s at 0 (b .inside) ∙ rw (b .is, after)
 
+-- the byte at `at`, whatever it is, and what follows it
+pub from-place : (s : List ℕ) (at next : ℕ) → at < length s → at + 1 ≡ next → drop at s ≡ getD s at 0 ∷ drop next s
+from-place s at next inside e = from-byte next (record { inside = inside; is = refl }) e
+
 -- where the file from `at` on is l, its byte and its rest i places on
 module _ (s : List ℕ) (at i place : ℕ) {l : List ℕ} (from : drop at s ≡ l) (e : at + i ≡ place) where
   pub byte-of : i < length l → Byte s place (getD l i 0)

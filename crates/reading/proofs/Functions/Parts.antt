@@ -7,11 +7,9 @@ use native.Mathlib.Omega.{arith}
 use lib.ListN.{length, getD, set}
 use lib.Dec.{eqb}
 use lib.Seq.{sets, set-set}
-use Rattle.reading.specs.Rule.{Formula, both, necessity, max, size, Guards, guarded}
-use Rattle.reading.specs.Rule.{Symbol, Truth, Falsity, Both, Necessity, Max, Variable, kindByte}
+use Rattle.reading.specs.Rule.{Formula, both, necessity, max, size, Guards, guarded, Symbol, Truth, Falsity, Both, Necessity, Max, Variable, kindByte}
 use Rattle.reading.specs.Rule.{truthKind, falsityKind, bothKind, necessityKind, maxKind, variableKind}
-use Rattle.reading.specs.File.{Outcome, accepted, refused, andThen}
-use Rattle.reading.specs.File.{NodeRecord, nodeAt, Parsed, under, partsBy, formulaOf}
+use Rattle.reading.specs.File.{Outcome, accepted, refused, andThen, NodeRecord, nodeAt, Parsed, under, partsBy, formulaOf}
 use Rattle.reading.specs.Numbered.{kinds, args}
 use Rattle.reading.specs.Representations.{bodyByte, nodeOf, nodeRead, restOf, passedUp, Reads}
 use Rattle.reading.specs.declared.formulas.Record.{Record}

@@ -1,8 +1,8 @@
 -- Two files whose first bytes are the same say the same of a list of records, if these bytes have room for as many as are left and for the kind of
 -- one more. So far the list is read, and no further.
-use mathlib.Core.Path.{_≡_, refl, ap}
+use mathlib.Core.Path.{_≡_, ap}
 use mathlib.Core.Bool.{Bool, true, false, cond}
-use mathlib.Core.List.{List, []}
+use mathlib.Core.List.{[]}
 use Prim.Native.Nat.{ℕ, zero, suc, _+_, _*_, _≤_, _<_}
 use native.Mathlib.Omega.{arith}
 use Rattle.reading.specs.File.{Outcome, accepted, andThen, RecordFormat, Records, withRecord, recordsAt}

@@ -6,7 +6,7 @@ use Prim.Native.Nat.{ℕ, suc, _+_, _-_, _<_}
 use native.Mathlib.Omega.{arith}
 use lib.ListN.{length, set, replicate, length-append}
 use lib.Seq.{set-at}
-use Rattle.reading.specs.File.{Outcome, accepted, refused, RecordFormat, Records, recordsAt}
+use Rattle.reading.specs.File.{accepted, refused, RecordFormat, recordsAt}
 use Rattle.reading.specs.Numbered.{padded}
 use Rattle.reading.specs.Representations.{recordAt, prepend, RecordsBegun}
 use Rattle.reading.proofs.Numbering.NumberedLaws.{padded-long}

@@ -6,14 +6,13 @@ use mathlib.Core.List.{List, [], _∷_, _++_, map, append-nil}
 use Prim.Native.Nat.{ℕ}
 use lib.ListN.{length}
 use Rattle.reading.specs.Pattern.{WellFormedPattern}
-use Rattle.reading.specs.Rule.{Formula, Guards, WellFormed, Rule, All}
-use Rattle.reading.specs.Rule.{Symbol}
+use Rattle.reading.specs.Rule.{Formula, Guards, WellFormed, Rule, All, Symbol}
 use Rattle.reading.specs.Faults.{Record, node, recordsBytes, Bound, Begins, BeginsRule, BeginsBound, IsRule}
 use Rattle.reading.specs.declared.Pattern.{Pattern}
 use Rattle.reading.proofs.Basics.AllLaws.{all-front}
 use Rattle.reading.proofs.Refusing.Contexts.{Contexts, guards, depths, Fits, Consumes, done, consumes-same, consumes-split, formula-consumes, truths, completes}
 use Rattle.reading.proofs.Refusing.Contexts.{symbols, well-formed-fits, fits-well-formed, bound-fits, fits-bound}
-use Rattle.reading.proofs.Refusing.Records.{records, bytes-of-both, front-of-records, same-records, rule-bytes, more-nodes, one-shape, FrontOf, front-shape}
+use Rattle.reading.proofs.Refusing.Records.{records, records-bytes-append, records-front, records-bytes-same, rule-bytes, more-nodes, one-shape, FrontOf, front-shape}
 
 -- the patterns and the symbols of the records, and what is due after them
 pub record Shape (K : Contexts) (first : K .Context) (xs : List Record) : Type 0 where
@@ -44,7 +43,7 @@ module _ (K : Contexts) (first : K .Context) (Fit : ℕ → Formula → Type 0) 
   shaped : ((n : ℕ) (f : Formula) → Fit n f → Fits K n first f) → (xs : List Record) → Begins Fit (recordsBytes xs) → Shape K first xs
   shaped to-fits xs b =
       let r = b .rule in
-      let (zs, are, left) = front-of-records xs (records (r .patterns) (symbols (r .formula))) (b .rest) (b .front ∙ sym (rule-bytes r)) in
+      let (zs, are, left) = records-front xs (records (r .patterns) (symbols (r .formula))) (b .rest) (b .front ∙ sym (rule-bytes r)) in
       shape-of xs r (b .patterns) (to-fits (length (r .patterns)) (r .formula) (b .formula))
       (front-shape (r .patterns) (symbols (r .formula)) xs zs are)
 
@@ -59,7 +58,7 @@ module _ (K : Contexts) (first : K .Context) (Fit : ℕ → Formula → Type 0) 
         formula = of-fits (length (h .patterns)) f fits;
         rest = recordsBytes rest;
         front =
-            sym (bytes-of-both xs rest)
+            sym (records-bytes-append xs rest)
             ∙ (ap (λ (l : List Record). recordsBytes (l ++ rest)) (h .are)
             ∙ (ap recordsBytes (sym (more-nodes (h .patterns) (h .nodes) (truths (h .due))) ∙ ap (records (h .patterns)) (sym are))
             ∙ rule-bytes r));
@@ -98,7 +97,7 @@ module _ {xs : List Record} (h : Shape guards [] xs) where
   rule-over (r, w, is) =
       let f = r .formula in
       let (same, nodes) = one-shape (h .patterns) (r .patterns) (h .nodes) (symbols f)
-      (sym (h .are) ∙ same-records xs (records (r .patterns) (symbols f)) (is ∙ sym (rule-bytes r))) in
+      (sym (h .are) ∙ records-bytes-same xs (records (r .patterns) (symbols f)) (is ∙ sym (rule-bytes r))) in
       let fits = well-formed-fits (length (r .patterns)) f [] (w .formula) in
       let whole : Consumes guards (length (h .patterns)) ([] ∷ []) (h .nodes) [] =
       rw (same, nodes, ← append-nil (symbols f)) (formula-consumes f fits done) in

@@ -10,15 +10,15 @@ use lib.ListN.{length, getD}
 use lib.Dec.{ltb, leb, eqb}
 use borrow.Author.Tests.{ltb-true, ltb-false, leb-true, leb-false, eqb-true, eqb-false, lt-ltb}
 use Rattle.reading.specs.Pattern.{WellFormedPattern}
-use Rattle.reading.specs.Rule.{Guards, Bytes}
-use Rattle.reading.specs.Rule.{patternKind, necessityKind, variableKind}
+use Rattle.reading.specs.Rule.{Guards, Bytes, patternKind, necessityKind, variableKind}
 use Rattle.reading.specs.File.{refused, andThen, patternAt, isPattern, necessityAt, variableAt, nodeAt}
 use Rattle.reading.specs.Faults.{Unfinished, KindAt, IsPattern, HasBody, NoKind, Fault, file-ended, pattern-cut, node-cut, no-kind, after-rule, late-pattern}
 use Rattle.reading.specs.Faults.{pattern-33, node-65, bad-pattern, names-nothing, unguarded}
 use Rattle.reading.proofs.Basics.ByteLaws.{byte-at}
 use Rattle.reading.proofs.Basics.Outcomes.{neither, refuse-refused, never-refused, andThen-refused}
 use Rattle.reading.proofs.Basics.Places.{Byte}
-use Rattle.reading.proofs.Accepting.NodeBytes.{ofKind, node-accepts}
+use Rattle.reading.proofs.Accepting.NodeBytes.{bare-truth, bare-falsity, bare-both, bare-max, NodeKind, bare-kind, necessity-kind, variable-kind, node-kind, ofKind}
+use Rattle.reading.proofs.Accepting.NodeBytes.{node-accepts}
 use Rattle.reading.proofs.Accepting.PatternBytes.{pattern-stands, pattern-kind}
 use Rattle.reading.proofs.Refusing.Contexts.{guards, parts, done}
 use Rattle.reading.proofs.Refusing.LeftToRight.{dueAt, due-over, headAt}
@@ -73,16 +73,13 @@ module _ {s : List ℕ} {at n m : ℕ} {g : Guards} {due : List Guards} (h : Rea
       (bound-begins h here bound))
       (λ f″ e‴. absurd (never-refused e‴))))
 
-  by-kind : (left k : ℕ) → Byte s at k → (k ≡ 0 → ⊥) → k ≤ variableKind → (k ≡ patternKind → ⊥) → m < 64 → ofKind s n at left g k ≡ refused number place → Fault s number place
-  by-kind left zero b some known not-pattern few e = absurd (some refl)
-  by-kind left (suc zero) b some known not-pattern few e = absurd (not-pattern refl)
-  by-kind left (suc (suc zero)) b some known not-pattern few e = absurd (never-refused e)
-  by-kind left (suc (suc (suc zero))) b some known not-pattern few e = absurd (never-refused e)
-  by-kind left (suc (suc (suc (suc zero)))) b some known not-pattern few e = absurd (never-refused e)
-  by-kind left (suc (suc (suc (suc (suc zero))))) b some known not-pattern few e = necessity-fault b few e
-  by-kind left (suc (suc (suc (suc (suc (suc zero)))))) b some known not-pattern few e = absurd (never-refused e)
-  by-kind left (suc (suc (suc (suc (suc (suc (suc zero))))))) b some known not-pattern few e = variable-fault b few e
-  by-kind left (suc (suc (suc (suc (suc (suc (suc (suc k)))))))) b some known not-pattern few e = absurd (omega arith)
+  kind-fault : {k : ℕ} (left : ℕ) → NodeKind k → Byte s at k → m < 64 → ofKind s n at left g k ≡ refused number place → Fault s number place
+  kind-fault left (bare-kind bare-truth) b few e = absurd (never-refused e)
+  kind-fault left (bare-kind bare-falsity) b few e = absurd (never-refused e)
+  kind-fault left (bare-kind bare-both) b few e = absurd (never-refused e)
+  kind-fault left (bare-kind bare-max) b few e = absurd (never-refused e)
+  kind-fault left necessity-kind b few e = necessity-fault b few e
+  kind-fault left variable-kind b few e = variable-fault b few e
 
   node-fault : (left : ℕ) → left + m ≡ 64 → (m ≡ 0 → isPattern s at ≡ false) → nodeAt s n at left g ≡ refused number place
       → Fault s number place
@@ -104,7 +101,7 @@ module _ {s : List ℕ} {at n m : ℕ} {g : Guards} {due : List Guards} (h : Rea
       (λ t. node-65 (subst (Unfinished s at n) (omega (arith, eqb-true left 0 t)) (still-due h))
       (inside, (omega (arith, eqb-false kind 0 some, eqb-false kind patternKind f″), range)))
       (λ f‴ last.
-      by-kind left kind (record { inside = inside; is = refl }) (eqb-false kind 0 some) range (eqb-false kind patternKind f″)
+      kind-fault left (node-kind kind (eqb-false kind 0 some) range (eqb-false kind patternKind f″)) (record { inside = inside; is = refl })
       (omega (arith, eqb-false left 0 f‴)) last))))
 
 -- ---- what is due

@@ -9,10 +9,8 @@ use native.Mathlib.Omega.{arith}
 use lib.ListN.{length, getD, take}
 use lib.Dec.{ltb, leb, eqb}
 use borrow.Author.Tests.{leb-true, leb-false, lt-ltb, le-ltb, eqb-true}
-use Rattle.reading.specs.Rule.{Guards, Rule, Bytes}
-use Rattle.reading.specs.Rule.{Symbol}
-use Rattle.reading.specs.Rule.{patternKind, necessityKind, variableKind}
-use Rattle.reading.specs.File.{Outcome, accepted, refused, patternAt, isPattern, patternFormat, NodeRecord, necessityAt, variableAt, nodeAt, ruleOf}
+use Rattle.reading.specs.Rule.{Guards, Rule, Bytes, Symbol, patternKind, necessityKind, variableKind}
+use Rattle.reading.specs.File.{Outcome, accepted, refused, isPattern, patternFormat, necessityAt, variableAt, nodeAt, ruleOf}
 use Rattle.reading.specs.Faults.{IsPattern, NoKind, IsNode, HasBody, IsVariable, KindAt, BeginsRule, BeginsBound, IsRule, Fault}
 use Rattle.reading.specs.Faults.{file-ended, pattern-cut, node-cut, no-kind, after-rule, late-pattern, pattern-33, node-65, bad-pattern, names-nothing}
 use Rattle.reading.specs.Faults.{unguarded}
@@ -30,13 +28,13 @@ use Rattle.reading.proofs.Accepting.Checks as checks
 use Rattle.reading.proofs.Basics.Places.{Byte}
 use Rattle.reading.proofs.Refusing.Contexts.{guards, Consumes, done, consumes-same}
 use Rattle.reading.proofs.RecordLists.RecordWays.{record-left, record-accepted}
-use Rattle.reading.proofs.Accepting.PatternBytes.{pattern-stands}
+use Rattle.reading.proofs.Accepting.PatternBytes.{pattern-stands, other-kind}
 use Rattle.reading.proofs.Refusing.LeftToRight.{dueAt, due-over, headAt, refused-left-to-right}
 use Rattle.reading.proofs.Refusing.ReadTo.{ReadTo, front-read, over-read, next-node, next-pattern, node-bound, bound-begins}
 use Rattle.reading.proofs.Refusing.RecordsHere.{necessity-here, variable-here, pattern-stood}
 use Rattle.reading.proofs.Refusing.FaultsFound.{fault-found}
 use Rattle.reading.proofs.Refusing.OneFault.{one-fault}
-use Rattle.reading.proofs.Refusing.GoingOn.{no-pattern, go-to-node, go-to-pattern, read-to-front, read-to-unfinished}
+use Rattle.reading.proofs.Refusing.GoingOn.{go-to-node, go-to-pattern, read-to-front, read-to-unfinished}
 
 -- ---- where the next record is refused
 
@@ -66,9 +64,9 @@ module _ {s : List ℕ} {at n m : ℕ} {g : Guards} {due : List Guards} (h : Rea
 
   kind-refused : KindAt s at NoKind → headAt s 32 0 0 ≡ refused 2 at
   kind-refused (inside, inl is) =
-      node-refused (λ z. no-pattern s at (λ one. omega arith)) (checks.kind-0 s n at (64 - m) g inside is)
+      node-refused (λ z. other-kind s at (λ one. omega arith)) (checks.kind-0 s n at (64 - m) g inside is)
   kind-refused (inside, inr over) =
-      node-refused (λ z. no-pattern s at (λ one. omega arith)) (checks.kind-over s n at (64 - m) g inside (λ z. omega arith) over)
+      node-refused (λ z. other-kind s at (λ one. omega arith)) (checks.kind-over s n at (64 - m) g inside (λ z. omega arith) over)
 
   late-refused : KindAt s at IsPattern → 0 < m → headAt s 32 0 0 ≡ refused 3 at
   late-refused (inside, is) begun =
@@ -84,13 +82,13 @@ module _ {s : List ℕ} {at n m : ℕ} {g : Guards} {due : List Guards} (h : Rea
     necessity-refused : KindAt s at (λ k. k ≡ necessityKind) → NodeRead.Refused number place ≡ nodeRead (necessityAt s n at)
         → headAt s 32 0 0 ≡ refused number place
     necessity-refused (inside, is) e =
-        node-refused (λ z. no-pattern s at (λ one. omega arith))
+        node-refused (λ z. other-kind s at (λ one. omega arith))
         (checks.node-necessity s n at (64 - m) g inside (λ z. omega arith) (omega arith) (λ z. omega arith) (λ z. omega arith) is _ e)
 
     variable-refused : KindAt s at (λ k. k ≡ variableKind) → NodeRead.Refused number place ≡ nodeRead (variableAt s g at)
         → headAt s 32 0 0 ≡ refused number place
     variable-refused (inside, is) e =
-        node-refused (λ z. no-pattern s at (λ one. omega arith))
+        node-refused (λ z. other-kind s at (λ one. omega arith))
         (checks.node-variable s n at (64 - m) g inside (λ z. omega arith) (omega arith) (λ z. omega arith) (λ z. omega arith) is _ e)
 
   cut-refused : KindAt s at HasBody → m < 64 → length s < at + 2 → headAt s 32 0 0 ≡ refused 1 (length s)

@@ -1,17 +1,14 @@
 -- Reading goes from the start of a file to any place before which whole records begin a rule, within the limits; so the outcome is that of the record
 -- at that place.
 use mathlib.Core.Path.{_≡_, refl, sym, ap, subst, _∙_}
-use mathlib.Core.Bool.{false, and-false}
+use mathlib.Core.Bool.{false}
 use mathlib.Core.List.{List, [], _∷_, _++_, map, append-assoc}
 use Prim.Native.Nat.{ℕ, zero, suc, _+_, _-_}
 use native.Mathlib.Omega.{arith}
-use lib.ListN.{length, getD, take, drop, length-append, take-append-drop}
+use lib.ListN.{length, take, drop, length-append, take-append-drop}
 use lib.Seq.{length-take-le, drop-append-seam}
-use borrow.Author.Tests.{ne-eqb}
 use Rattle.reading.specs.Pattern.{WellFormedPattern}
-use Rattle.reading.specs.Rule.{Guards, All, patternBytes, encodePatterns}
-use Rattle.reading.specs.Rule.{Symbol, Truth, Falsity, Both, Max, Necessity, Variable}
-use Rattle.reading.specs.Rule.{patternKind}
+use Rattle.reading.specs.Rule.{Guards, All, patternBytes, encodePatterns, Symbol, Truth, Falsity, Both, Max, Necessity, Variable}
 use Rattle.reading.specs.File.{Outcome, andThen, Records, isPattern, patternFormat, patternsAt}
 use Rattle.reading.specs.Faults.{pattern, node, recordBytes, recordsBytes, patternsIn, nodesIn, Front, BeginsRule, Unfinished}
 use Rattle.reading.specs.declared.Pattern.{Pattern}
@@ -19,9 +16,9 @@ use Rattle.reading.proofs.Basics.Outcomes.{then-agree}
 use Rattle.reading.proofs.Basics.Places.{byte-of, first-byte, rest-of, rest-after}
 use Rattle.reading.proofs.RecordLists.RecordsAccepted.{records-after}
 use Rattle.reading.proofs.Accepting.NodeBytes.{NodeStands, bare, of-necessity, of-variable, bare-truth, bare-falsity, bare-both, bare-max, node-accepts}
-use Rattle.reading.proofs.Accepting.PatternBytes.{reads-patterns}
+use Rattle.reading.proofs.Accepting.PatternBytes.{node-no-pattern, reads-patterns}
 use Rattle.reading.proofs.Refusing.Contexts.{guards, Allows, Consumes, done, more}
-use Rattle.reading.proofs.Refusing.Records.{records, bytes-of-both, pattern-bytes, patterns-in, nodes-in}
+use Rattle.reading.proofs.Refusing.Records.{records, records-bytes-append, pattern-bytes, patterns-in, nodes-in}
 use Rattle.reading.proofs.Refusing.Beginnings.{rule-shape}
 use Rattle.reading.proofs.Refusing.LeftToRight.{then-then, dueAt, headAt, then-formula, patterns-head}
 use Rattle.reading.proofs.Refusing.ReadTo.{ReadTo, rule-read-to}
@@ -71,21 +68,10 @@ module _ (s : List ℕ) where
 
   -- ---- where the formula begins
 
-  pub no-pattern : (at : ℕ) → (getD s at 0 ≡ patternKind → ⊥) → isPattern s at ≡ false
-  no-pattern at other = rw (ne-eqb (getD s at 0) patternKind other, and-false)
-
   pub head-over : (left n at : ℕ) → isPattern s at ≡ false → headAt s left n at ≡ dueAt s 64 n at ([] ∷ [])
   unfolding headAt
   head-over zero n at over = rw over
   head-over (suc left) n at over = rw over
-
-  node-first : (at : ℕ) (x : Symbol) (rest : List ℕ) → drop at s ≡ recordBytes (node x) ++ rest → isPattern s at ≡ false
-  node-first at Truth rest from = rw (first-byte s at from .is, and-false)
-  node-first at Falsity rest from = rw (first-byte s at from .is, and-false)
-  node-first at Both rest from = rw (first-byte s at from .is, and-false)
-  node-first at Max rest from = rw (first-byte s at from .is, and-false)
-  node-first at (Necessity p) rest from = rw (first-byte s at from .is, and-false)
-  node-first at (Variable d) rest from = rw (first-byte s at from .is, and-false)
 
 -- ---- to a place
 
@@ -97,7 +83,7 @@ module _ {s : List ℕ} {at n m : ℕ} {due : List Guards} (h : ReadTo s at n m 
   front-nodes = recordsBytes (map node (h .nodes))
 
   front-bytes : take at s ≡ front-patterns ++ front-nodes
-  front-bytes = h .are ∙ (bytes-of-both (map pattern (h .patterns)) (map node (h .nodes)) ∙ ap (λ (l : List ℕ). l ++ front-nodes) (pattern-bytes (h .patterns)))
+  front-bytes = h .are ∙ (records-bytes-append (map pattern (h .patterns)) (map node (h .nodes)) ∙ ap (λ (l : List ℕ). l ++ front-nodes) (pattern-bytes (h .patterns)))
 
   place-is : at ≡ length front-patterns + length front-nodes
   place-is = sym (length-take-le at s (h .inside)) ∙ (ap length front-bytes ∙ length-append front-patterns front-nodes)
@@ -123,8 +109,8 @@ module _ {s : List ℕ} {at n m : ℕ} {due : List Guards} (h : ReadTo s at n m 
       on (x ∷ xs) is =
           let rest = recordsBytes (map node xs) in
           let bytes : front-nodes ≡ recordBytes (node x) ++ rest = ap (λ (l : List Symbol). recordsBytes (map node l)) is in
-          node-first s (length front-patterns) x (rest ++ drop at s)
-          (formula-from ∙ (ap (λ (l : List ℕ). l ++ drop at s) bytes ∙ append-assoc (recordBytes (node x)) rest (drop at s)))
+          node-no-pattern s (length front-patterns) x (first-byte s (length front-patterns)
+          (formula-from ∙ (ap (λ (l : List ℕ). l ++ drop at s) bytes ∙ append-assoc (recordBytes (node x)) rest (drop at s))))
 
   pub go-to-node : (m ≡ 0 → isPattern s at ≡ false) → headAt s 32 0 0 ≡ dueAt s (64 - m) n at due
   go-to-node none =

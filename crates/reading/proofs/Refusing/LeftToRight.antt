@@ -8,8 +8,7 @@ use Prim.Native.Nat.{ℕ, zero, suc, _+_, _-_, _<_}
 use native.Mathlib.Omega.{arith}
 use lib.ListN.{length}
 use lib.Dec.{ltb}
-use Rattle.reading.specs.Rule.{Guards, guarded, Rule}
-use Rattle.reading.specs.Rule.{Symbol, Truth, Falsity, Both, Max, Necessity, Variable}
+use Rattle.reading.specs.Rule.{Guards, guarded, Rule, Symbol, Truth, Falsity, Both, Max, Necessity, Variable}
 use Rattle.reading.specs.File.{Outcome, accepted, refused, refuse, andThen, byCase, Records, withRecord, recordsAt, patternAt, isPattern, patternsAt}
 use Rattle.reading.specs.File.{nodeAt, Parsed, partsBy, formulaOf, endOfFile, ruleOf}
 use Rattle.reading.specs.declared.Pattern.{Pattern}

@@ -1,5 +1,5 @@
 -- An answer is one value: where each refusal is due to the clauses with its number and place, no two clauses differ in these.
-use mathlib.Core.Path.{_≡_, refl, sym, _∙_}
+use mathlib.Core.Path.{_≡_, refl, sym}
 use mathlib.Core.Logic.{_↔_}
 use Prim.Native.Nat.{ℕ}
 use native.Mathlib.Omega.{arith}

@@ -7,13 +7,12 @@ use native.Mathlib.Omega.{arith}
 use lib.ListN.{length, take, drop, length-append}
 use lib.Seq.{take-add, take-append-seam}
 use Rattle.reading.specs.Pattern.{WellFormedPattern}
-use Rattle.reading.specs.Rule.{Guards, All}
-use Rattle.reading.specs.Rule.{Symbol}
+use Rattle.reading.specs.Rule.{Guards, All, Symbol}
 use Rattle.reading.specs.Faults.{Record, pattern, node, recordBytes, recordsBytes, BeginsRule, BeginsBound, IsRule, Front, Unfinished}
 use Rattle.reading.specs.declared.Pattern.{Pattern}
 use Rattle.reading.proofs.Basics.AllLaws.{all-append, all-last}
 use Rattle.reading.proofs.Refusing.Contexts.{Contexts, guards, depths, Allows, parts, Consumes, done, more, consumes-same, consumes-split, consumes-join, consumes-unguarded}
-use Rattle.reading.proofs.Refusing.Records.{records, bytes-of-both, patterns-in, nodes-in, more-nodes, one-more-pattern, one-shape}
+use Rattle.reading.proofs.Refusing.Records.{records, records-bytes-append, patterns-in, nodes-in, more-nodes, one-more-pattern, one-shape}
 use Rattle.reading.proofs.Refusing.Beginnings.{Shape, rule-shape, shape-begins, bound-shape, shape-bound, whole-rule, rule-over}
 
 pub record ReadTo (s : List ℕ) (at n m : ℕ) (due : List Guards) : Type 0 where
@@ -80,7 +79,7 @@ module _ {s : List ℕ} {at next : ℕ} {x : Record} (b : Stands s at next x) wh
       ap (take (length (recordBytes x))) (b .bytes) ∙ take-append-seam (recordBytes x) (drop next s) in
       ap (λ (k : ℕ). take k s) (b .ends)
       ∙ (take-add at (length (recordBytes x)) s
-      ∙ (rw (here, are, ← append-nil (recordBytes x)) (sym (bytes-of-both xs (x ∷ [])))))
+      ∙ (rw (here, are, ← append-nil (recordBytes x)) (sym (records-bytes-append xs (x ∷ [])))))
 
 module _ {s : List ℕ} {at n m : ℕ} {due : List Guards} (h : ReadTo s at n m due) {next : ℕ} where
   pub node-on : {x : Symbol} → Stands s at next (node x) → take next s ≡ recordsBytes (records (h .patterns) (h .nodes ++ x ∷ []))

@@ -3,16 +3,17 @@
 use mathlib.Core.Path.{_≡_, refl, sym, ap, _∙_}
 use mathlib.Core.Logic.{_⊎_, inl, inr}
 use mathlib.Core.Bool.{cond}
-use mathlib.Core.List.{List, [], _∷_, _++_, map, map-append, append-assoc, append-nil}
+use mathlib.Core.List.{List, [], _∷_, _++_, map, map-append, append-assoc}
 use Prim.Native.Nat.{ℕ, suc, _≤_}
 use native.Mathlib.Omega.{arith}
 use lib.Dec.{eqb}
-use lib.ListN.{length, getD, drop, length-append}
+use lib.ListN.{length, getD, drop}
 use Rattle.reading.specs.Rule.{Formula, truth, falsity, both, necessity, max, variable, Rule, encodePatterns, encodeFormula, encode}
 use Rattle.reading.specs.Rule.{Symbol, Truth, Falsity, Both, Max, Necessity, Variable}
 use Rattle.reading.specs.Rule.{patternKind, truthKind, falsityKind, bothKind, necessityKind, maxKind}
 use Rattle.reading.specs.Faults.{Record, pattern, node, recordBytes, recordsBytes, patternsIn, nodesIn}
 use Rattle.reading.specs.declared.Pattern.{Pattern}
+use Rattle.reading.proofs.Basics.EncodeLaws.{encodeEach-append, encodeEach-front, encodeEach-same}
 use Rattle.reading.proofs.Refusing.Contexts.{symbols}
 
 -- ---- the first record
@@ -50,38 +51,20 @@ record-some (node (Variable d)) = omega arith
 
 -- ---- lists of records
 
-pub bytes-of-both : (xs ys : List Record) → recordsBytes (xs ++ ys) ≡ recordsBytes xs ++ recordsBytes ys
-bytes-of-both [] ys = refl
-bytes-of-both (x ∷ xs) ys =
-    ap (λ (l : List ℕ). recordBytes x ++ l) (bytes-of-both xs ys) ∙ sym (append-assoc (recordBytes x) (recordsBytes xs) (recordsBytes ys))
+pub records-bytes-append : (xs ys : List Record) → recordsBytes (xs ++ ys) ≡ recordsBytes xs ++ recordsBytes ys
+records-bytes-append = encodeEach-append recordBytes
 
-pub front-of-records : (xs ys : List Record) (rest : List ℕ) → recordsBytes xs ++ rest ≡ recordsBytes ys
+record-told : (x y : Record) (p q : List ℕ) → recordBytes x ++ p ≡ recordBytes y ++ q → (x ≡ y) × (p ≡ q)
+record-told x y p q e =
+    let same : _≡_ {A = Record × List ℕ} (x, p) (y, q) = sym (first-record x p) ∙ (ap firstRecord e ∙ first-record y q) in
+    (ap (λ (z : Record × List ℕ). z .0) same, ap (λ (z : Record × List ℕ). z .1) same)
+
+pub records-front : (xs ys : List Record) (rest : List ℕ) → recordsBytes xs ++ rest ≡ recordsBytes ys
     → (zs : List Record) × (ys ≡ xs ++ zs) × (rest ≡ recordsBytes zs)
-front-of-records [] ys rest e = (ys, refl, e)
-front-of-records (x ∷ xs) [] rest e =
-    absurd (omega (
-      arith,
-      ap length e,
-      length-append (recordBytes x ++ recordsBytes xs) rest,
-      length-append (recordBytes x) (recordsBytes xs),
-      record-some x,
-    ))
-front-of-records (x ∷ xs) (y ∷ ys) rest e =
-    let same : _≡_ {A = Record × List ℕ} (x, recordsBytes xs ++ rest) (y, recordsBytes ys) =
-    sym (first-record x (recordsBytes xs ++ rest))
-    ∙ (ap firstRecord (sym (append-assoc (recordBytes x) (recordsBytes xs) rest) ∙ e)
-    ∙ first-record y (recordsBytes ys)) in
-    let (zs, are, left) = front-of-records xs ys rest (ap (λ (z : Record × List ℕ). z .1) same) in
-    let head : x ≡ y = ap (λ (z : Record × List ℕ). z .0) same in
-    (zs, cc, left)
+records-front = encodeEach-front recordBytes record-some record-told
 
-pub same-records : (xs ys : List Record) → recordsBytes xs ≡ recordsBytes ys → xs ≡ ys
-same-records xs ys e =
-    let (zs, are, left) = front-of-records xs ys [] (append-nil (recordsBytes xs) ∙ e) in on zs are left
-  where
-    on : (zs : List Record) → ys ≡ xs ++ zs → [] ≡ recordsBytes zs → xs ≡ ys
-    on [] are left = sym (are ∙ append-nil xs)
-    on (z ∷ zs) are left = absurd (omega (arith, ap length left, length-append (recordBytes z) (recordsBytes zs), record-some z))
+pub records-bytes-same : (xs ys : List Record) → recordsBytes xs ≡ recordsBytes ys → xs ≡ ys
+records-bytes-same = encodeEach-same recordBytes record-some record-told
 
 -- ---- the records of a rule
 
@@ -98,14 +81,14 @@ formula-bytes falsity = refl
 formula-bytes (both f g) =
     ap (λ (l : List ℕ). bothKind ∷ l)
     (ap recordsBytes (map-append node (symbols f) (symbols g))
-    ∙ (bytes-of-both (map node (symbols f)) (map node (symbols g)) ∙ rw (formula-bytes f, formula-bytes g)))
+    ∙ (records-bytes-append (map node (symbols f)) (map node (symbols g)) ∙ rw (formula-bytes f, formula-bytes g)))
 formula-bytes (necessity p f) = ap (λ (l : List ℕ). necessityKind ∷ p ∷ l) (formula-bytes f)
 formula-bytes (max f) = ap (λ (l : List ℕ). maxKind ∷ l) (formula-bytes f)
 formula-bytes (variable d) = refl
 
 pub rule-bytes : (r : Rule) → recordsBytes (records (r .patterns) (symbols (r .formula))) ≡ encode r
 rule-bytes r =
-    bytes-of-both (map pattern (r .patterns)) (map node (symbols (r .formula))) ∙ rw (pattern-bytes (r .patterns), formula-bytes (r .formula))
+    records-bytes-append (map pattern (r .patterns)) (map node (symbols (r .formula))) ∙ rw (pattern-bytes (r .patterns), formula-bytes (r .formula))
 
 pub patterns-in : (ps : List Pattern) (xs : List Symbol) → patternsIn (records ps xs) ≡ length ps
 patterns-in [] [] = refl

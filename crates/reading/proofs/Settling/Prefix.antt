@@ -5,8 +5,7 @@ use Prim.Native.Nat.{ℕ, zero, suc, _+_, _-_, _*_, _≤_, _<_}
 use native.Mathlib.Omega.{arith}
 use lib.ListN.{length}
 use borrow.Author.Tests.{lt-ltb}
-use Rattle.reading.specs.Rule.{Guards, Bytes}
-use Rattle.reading.specs.Rule.{patternKind, nodeBytes, Necessity, Truth}
+use Rattle.reading.specs.Rule.{Guards, Bytes, patternKind, nodeBytes, Necessity, Truth}
 use Rattle.reading.specs.File.{accepted, andThen, recordsAt, patternAt, isPattern, patternFormat, patternsAt}
 use Rattle.reading.specs.File.{NodeRecord, necessityAt, variableAt, nodeAt, Parsed, formulaAt, formulaOf, endOfFile, ruleOf}
 use Rattle.reading.specs.Promises.{SettledByFirstBytes, NotByFewer}

@@ -21,8 +21,7 @@ use types.Kit.{Given, ‵, raw, _⊛_, ⋆, some, given, later, _$_, _∵_, !, q
 use types.Kit.{move, keep, drop, use1, use2, use3, split, join, pick, learn, rewrite, fsplit, fjoin, frame}
 use types.Tokens.{lft-new, lft-end}
 use types.Part.{agg}
-use types.Run.{look, init, stop, from, lit, of-opd, addr, and-then, no-more, land, returns}
-use types.Run.{enter, alloc1, alloc0, params1, pass1, pass0, free0}
+use types.Run.{look, init, stop, from, lit, of-opd, addr, and-then, no-more, land, returns, enter, alloc1, alloc0, params1, pass1, pass0, free0}
 use sound.WpLaws.{FmC, fmOf}
 use denote.RattleType.{owns}
 use denote.Laws.{Is}

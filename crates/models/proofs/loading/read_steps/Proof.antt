@@ -18,8 +18,7 @@ use contract.Monad.{Fun}
 use contract.Running.{givenOf, tables, tablesOf}
 use types.Kit.{Given, Item, ‵, raw, _⊛_, ⋆, some, given, later, atRet, _$_, _∵_, !, qed, by, suffices, await, done}
 use types.Kit.{move, keep, drop, use1, use2, split, join, pick, learn, fsplit, fjoin, frame}
-use types.Run.{look, stop, from, lit, of-opd, and-then, no-more, land, returns}
-use types.Run.{enter, exec, alloc1, alloc0, params1, pass0, free0}
+use types.Run.{look, stop, from, lit, of-opd, and-then, no-more, land, returns, enter, exec, alloc1, alloc0, params1, pass0, free0}
 use sound.WpLaws.{fmOf}
 use denote.RattleType.{owns}
 use denote.Laws.{Is}
@@ -33,8 +32,7 @@ use denote.Triple.Statement.{Triple}
 use denote.Triple.Call.{calls-at}
 use denote.Triple.Entry.{Vals, onEntry}
 use denote.Triple.Table.{cited}
-use denote.Triple.Walked.{says, needs, Stays, stay-none-slice, stay-none, stay-slice, walkOf, ends-at}
-use denote.Triple.Walked.{goes-none-slice, goes-none, goes-slice}
+use denote.Triple.Walked.{says, needs, Stays, stay-none-slice, stay-none, stay-slice, walkOf, ends-at, goes-none-slice, goes-none, goes-slice}
 use denote.Exit.{yes}
 use Rattle.models.specs.Phone.{stepsAt}
 use Rattle.models.specs.Loading.{StepsBegun, LoadedAs}

@@ -18,8 +18,7 @@ use ghost.Atoms.{Atoms}
 use contract.Monad.{Fun}
 use types.Kit.{Given, Item, ‵, raw, _⊛_, ⋆, some, given, later, anyQ, _$_, _∵_, !, qed, by, move, use1, use2, use3, split, pick, learn, await}
 use types.Tokens.{lft-new, lft-end}
-use types.Run.{forget, stop, from, lit, of-opd, bin, and-then, no-more}
-use types.Run.{land, land-last, exec, again, Below}
+use types.Run.{forget, stop, from, lit, of-opd, bin, and-then, no-more, land, land-last, exec, again, Below}
 use borrow.Author.Tests.{not-true}
 use sound.WpLaws.{FmC, fmOf}
 use denote.Floats.{is-true}
@@ -43,8 +42,7 @@ use Rattle.reading.proofs.RecordLists.RecordsRead.{begun-length}
 use Rattle.models.proofs.loading.next_step.Symbol.{name as #next-step}
 use Rattle.models.proofs.steps.put_step.Symbol.{name as #put-step}
 use Rattle.models.proofs.loading.read_steps.Code.Mir as body
-use Rattle.models.proofs.loading.read_steps.Proof.Calls.{NextStep, Answered, to-next, asks-next, next-told}
-use Rattle.models.proofs.loading.read_steps.Proof.Calls.{PutStep, to-put, asks-put, put-told}
+use Rattle.models.proofs.loading.read_steps.Proof.Calls.{NextStep, Answered, to-next, asks-next, next-told, PutStep, to-put, asks-put, put-told}
 
 -- what is read before a turn: what comes next, and the records so far
 module _ (f : List ℕ) (states count : ℕ) where
