@@ -1,4 +1,5 @@
--- A model file is accepted as a phone model exactly where the model is well formed and the file is its encoding.
+-- A model file is accepted as a phone model exactly where the model is well formed and the file is its encoding: the count of states at the front, and
+-- then the steps to the end.
 use mathlib.Core.Path.{_≡_, refl, sym, ap, _∙_, subst}
 use mathlib.Core.Bool.{Bool, true, false, not}
 use mathlib.Core.List.{List, [], _∷_, append-nil}
@@ -11,7 +12,7 @@ use Rattle.reading.specs.Rule.{Bytes}
 use Rattle.reading.specs.File.{Outcome, accepted, refused}
 use Rattle.reading.specs.declared.Acceptance.the-variants.{Accepted}
 use Rattle.reading.proofs.Basics.EncodeLaws.{encodeEach-bytes}
-use Rattle.reading.proofs.Basics.Outcomes.{accepted-is, andThen-accepted, then-accepts, refuse-accepted}
+use Rattle.reading.proofs.Basics.Outcomes.{accepted-is, andThen-accepted, andThen-accepts, refuse-accepted}
 use Rattle.reading.proofs.Basics.Places.{from-place}
 use Rattle.reading.proofs.Numbering.NumberedLaws.{padded-at}
 use Rattle.models.specs.Phone.{Phone, WellFormedStep, WellFormedPhone, PhoneWithinLimits, recordBytes, encodeStep, encodeSteps, encodePhone}
@@ -69,8 +70,8 @@ phone-stands f bytes y e =
 pub phone-reads : (y : Phone) → PhoneWithinLimits y → phoneOf (encodePhone y) ≡ accepted y
 unfolding phoneOf
 phone-reads y w =
-    then-accepts _ (states-read (y .states) (encodeSteps (y .steps)) (w .well-formed .some-states) (w .well-formed .few-states)) (
-    then-accepts _ (steps-read (encodePhone y) (y .states) (y .steps) 2 512 (w .well-formed .steps) (w .few-steps) refl) refl)
+    andThen-accepts _ (states-read (y .states) (encodeSteps (y .steps)) (w .well-formed .some-states) (w .well-formed .few-states)) (
+    andThen-accepts _ (steps-read (encodePhone y) (y .states) (y .steps) 2 512 (w .well-formed .steps) (w .few-steps) refl) refl)
 
 -- ---- the promises
 

@@ -1,4 +1,5 @@
--- A model file is refused with a number at a place exactly where a clause of `Fault` has it so.
+-- A model file is refused with a number at a place exactly where a clause of `Fault` has it so: each check of the reader is the condition of a clause,
+-- and reading comes to the place of every clause.
 use mathlib.Core.Path.{_≡_, refl, sym, ap, _∙_, subst}
 use mathlib.Core.Logic.{_↔_, inl, inr}
 use mathlib.Core.Bool.{Bool, true, false, cond, not}
@@ -23,12 +24,12 @@ use Rattle.reading.proofs.Basics.Outcomes.{byCase-refused}
 use Rattle.reading.proofs.Basics.Cases.{acceptanceOf, acceptance-refused}
 use Rattle.reading.proofs.RecordLists.RecordWays.{record-accepted, records-refused}
 use Rattle.reading.proofs.Refusing.OneFault.{one-fault}
-use Rattle.models.proofs.Files.StepLaws.{is-step, is-no-step, a-step}
+use Rattle.models.proofs.Files.StepLaws.{tested-step, tested-no-step, step-tested}
 use Rattle.models.proofs.Files.RecordChecks as Checks
 use Rattle.models.proofs.Files.StepBytes.{StepDue, step-due}
 use Rattle.models.proofs.Files.Cases.{states-cases, step-cases}
 use Rattle.models.proofs.Files.Encoding.{states-stand}
-use Rattle.models.proofs.Files.ModelFronts.{refused-there, step-longer, model-begins, begins-among}
+use Rattle.models.proofs.Files.ModelFronts.{refused-after-model, model-with-step, model-begins, begins-among}
 
 -- ---- every refusal is a fault
 
@@ -39,20 +40,20 @@ module _ (f : List ℕ) where
   Faulty (refused number place) = Fault f number place
 
   module _ {A : Type 0} where
-    checked : (b : Bool) (number place : ℕ) (o : Outcome A) → (b ≡ true → Fault f number place) → (b ≡ false → Faulty o)
+    refuse-faulty : (b : Bool) (number place : ℕ) (o : Outcome A) → (b ≡ true → Fault f number place) → (b ≡ false → Faulty o)
         → Faulty (refuse b number place o)
-    checked true number place o here later = here refl
-    checked false number place o here later = later refl
+    refuse-faulty true number place o here later = here refl
+    refuse-faulty false number place o here later = later refl
 
-    then-faulty : {B : Type 0} (o : Outcome A) (g : A → Outcome B) → Faulty o → ((a : A) → o ≡ accepted a → Faulty (g a))
+    andThen-faulty : {B : Type 0} (o : Outcome A) (g : A → Outcome B) → Faulty o → ((a : A) → o ≡ accepted a → Faulty (g a))
         → Faulty (andThen o g)
-    then-faulty (accepted a) g here later = later a refl
-    then-faulty (refused number place) g here later = here
+    andThen-faulty (accepted a) g here later = later a refl
+    andThen-faulty (refused number place) g here later = here
 
     -- the file ends at `at`, or there is more
-    more-faulty : (at : ℕ) (more : Outcome A) (none : A) → (at < length f → Faulty more)
+    records-faulty : (at : ℕ) (more : Outcome A) (none : A) → (at < length f → Faulty more)
         → Faulty (cond (ltb at (length f)) more (accepted none))
-    more-faulty at more none later = on (ltb at (length f)) refl
+    records-faulty at more none later = on (ltb at (length f)) refl
       where
         on : (b : Bool) → ltb at (length f) ≡ b → Faulty (cond b more (accepted none))
         on true is = later (ltb-true _ _ is)
@@ -61,14 +62,14 @@ module _ (f : List ℕ) where
   states-faulty : Faulty (statesOf f)
   unfolding statesOf
   states-faulty =
-      checked (eqb (length f) 0) 11 (length f) _ (λ e. empty-file (eqb-true _ _ e)) λ some.
+      refuse-faulty (eqb (length f) 0) 11 (length f) _ (λ e. empty-file (eqb-true _ _ e)) λ some.
       let inside : 0 < length f = omega (arith, eqb-false (length f) 0 some) in
-      checked (not (eqb (getD f 0 0) statesKind)) 12 0 _ (λ e. not-count (inside, eqb-false _ _ (not-true _ e))) λ kind.
+      refuse-faulty (not (eqb (getD f 0 0) statesKind)) 12 0 _ (λ e. not-count (inside, eqb-false _ _ (not-true _ e))) λ kind.
       let count : KindAt f 0 IsCount = (inside, eqb-true _ _ (not-false _ kind)) in
-      checked (eqb (length f) 1) 11 (length f) _ (λ e. count-cut count (omega (arith, eqb-true (length f) 1 e))) λ long.
+      refuse-faulty (eqb (length f) 1) 11 (length f) _ (λ e. count-cut count (omega (arith, eqb-true (length f) 1 e))) λ long.
       let whole : 2 ≤ length f = omega (arith, eqb-false (length f) 1 long) in
-      checked (eqb (getD f 1 0) 0) 12 0 _ (λ e. bad-count count whole (inl (eqb-true _ _ e))) λ least.
-      checked (ltb 64 (getD f 1 0)) 12 0 _ (λ e. bad-count count whole (inr (ltb-true _ _ e))) λ most.
+      refuse-faulty (eqb (getD f 1 0) 0) 12 0 _ (λ e. bad-count count whole (inl (eqb-true _ _ e))) λ least.
+      refuse-faulty (ltb 64 (getD f 1 0)) 12 0 _ (λ e. bad-count count whole (inr (ltb-true _ _ e))) λ most.
       tt
 
   module _ (bytes : Bytes f) where
@@ -78,51 +79,45 @@ module _ (f : List ℕ) where
     record-faulty {at} m few kind due =
         let states = m .phone .states in
         let x = due .step in
-        checked (leb (length f) (due .last)) 11 (length f) _ (λ e.
+        refuse-faulty (leb (length f) (due .last)) 11 (length f) _ (λ e.
         step-cut m kind few (omega (arith, due .after, leb-true (length f) (due .last) e))) λ whole.
         let inside = leb-false (length f) (due .last) whole in
         let ends : afterStep f at ≡ at + recordLength x = due .after ∙ sym (due .ends) in
         let among : BeginsModel (take (afterStep f at) f) → (x .from < states) × (x .to < states) =
         λ g. begins-among m x (due .bytes inside) (rw ends at g) in
         let bad = bad-step m kind few (omega (arith, due .after)) in
-        checked (leb states (x .from)) 13 at _ (λ e. bad (λ g. omega (arith, leb-true states (x .from) e, among g .0))) λ from.
-        checked (leb states (x .to)) 13 at _ (λ e. bad (λ g. omega (arith, leb-true states (x .to) e, among g .1))) λ to.
+        refuse-faulty (leb states (x .from)) 13 at _ (λ e. bad (λ g. omega (arith, leb-true states (x .from) e, among g .0))) λ from.
+        refuse-faulty (leb states (x .to)) 13 at _ (λ e. bad (λ g. omega (arith, leb-true states (x .to) e, among g .1))) λ to.
         tt
-
-    -- what is no step, and a step
-    kind-faulty : {A : Type 0} {at n : ℕ} (m : ModelBefore f at n) → at < length f → (o : Outcome A) → (KindAt f at IsStep → Faulty o)
-        → Faulty (refuse (not (isStep (getD f at 0))) 12 at o)
-    kind-faulty {at = at} m inside o later =
-        checked (not (isStep (getD f at 0))) 12 at o (λ e. not-step m (inside, is-no-step (getD f at 0) (not-true _ e)))
-        (λ step. later (inside, is-step (getD f at 0) (not-false _ step)))
 
     step-faulty : {at n : ℕ} (m : ModelBefore f at n) → n < 512 → at < length f → Faulty (stepAt f (m .phone .states) at)
     step-faulty {at} m few inside =
-        kind-faulty m inside _ λ kind.
+        refuse-faulty (not (isStep (getD f at 0))) 12 at _ (λ e. not-step m (inside, tested-no-step (getD f at 0) (not-true _ e))) λ step.
+        let kind : KindAt f at IsStep = (inside, tested-step (getD f at 0) (not-false _ step)) in
         let due = step-due f (m .phone .states) at bytes kind in
         rw (due .checks) (record-faulty m few kind due)
 
-    one-too-many : {at : ℕ} (m : ModelBefore f at 512) → at < length f → Fault f (cond (isStep (getD f at 0)) 14 12) at
-    one-too-many {at} m inside = on (isStep (getD f at 0)) refl
+    too-many-fault : {at : ℕ} (m : ModelBefore f at 512) → at < length f → Fault f (cond (isStep (getD f at 0)) 14 12) at
+    too-many-fault {at} m inside = on (isStep (getD f at 0)) refl
       where
         on : (b : Bool) → isStep (getD f at 0) ≡ b → Fault f (cond b 14 12) at
-        on true is = step-513 m (inside, is-step (getD f at 0) is)
-        on false is = not-step m (inside, is-no-step (getD f at 0) is)
+        on true is = step-513 m (inside, tested-step (getD f at 0) is)
+        on false is = not-step m (inside, tested-no-step (getD f at 0) is)
 
     steps-faulty : (left : ℕ) {at n : ℕ} (m : ModelBefore f at n) → left + n ≡ 512 → Faulty (stepsAt left f (m .phone .states) at)
     unfolding recordsAt
-    steps-faulty zero {at} m all = more-faulty at _ _ (one-too-many (subst (ModelBefore f at) (omega arith) m))
+    steps-faulty zero {at} m all = records-faulty at _ _ (too-many-fault (subst (ModelBefore f at) (omega arith) m))
     steps-faulty (suc left) {at} {n} m all =
-        more-faulty at _ _ λ inside.
-        then-faulty (stepAt f (m .phone .states) at) _ (step-faulty m (omega arith) inside) λ x e.
-        let (longer, same) = step-longer m bytes inside (omega arith) x e in
-        then-faulty (stepsAt left f (m .phone .states) (at + recordLength x)) _ (rw same at (steps-faulty left longer (omega arith))) λ xs e.
+        records-faulty at _ _ λ inside.
+        andThen-faulty (stepAt f (m .phone .states) at) _ (step-faulty m (omega arith) inside) λ x e.
+        let (longer, same) = model-with-step m bytes inside (omega arith) x e in
+        andThen-faulty (stepsAt left f (m .phone .states) (at + recordLength x)) _ (rw same at (steps-faulty left longer (omega arith))) λ xs e.
         tt
 
     phone-faulty : Faulty (phoneOf f)
     unfolding phoneOf
     phone-faulty =
-        then-faulty (statesOf f) _ states-faulty λ states e.
+        andThen-faulty (statesOf f) _ states-faulty λ states e.
         let (some, few, first) = states-stand f states e in
         let m : ModelBefore f 2 0 = record {
           phone = record { states = states; steps = [] };
@@ -130,7 +125,7 @@ module _ (f : List ℕ) where
           steps-are = refl;
           bytes-are = ap (take 2) first;
         } in
-        then-faulty (stepsAt 512 f states 2) _ (steps-faulty 512 m refl) λ xs e.
+        andThen-faulty (stepsAt 512 f states 2) _ (steps-faulty 512 m refl) λ xs e.
         tt
 
 -- ---- every fault is refused
@@ -153,7 +148,7 @@ module _ (f : List ℕ) {number place : ℕ} where
       → recordAt (stepFormat f (m .phone .states)) (512 - n) at ≡ refused number place → phoneOf f ≡ refused number place
   next-refused {at} {n} m inside e =
       let few : n ≤ 512 = omega (arith, m .steps-are, m .within-limits .few-steps) in
-      refused-there m (omega arith) (512 - n) (omega arith) (records-refused (stepFormat f (m .phone .states)) at (512 - n) (lt-ltb _ _ inside) e)
+      refused-after-model m (omega arith) (512 - n) (omega arith) (records-refused (stepFormat f (m .phone .states)) at (512 - n) (lt-ltb _ _ inside) e)
 
 module _ (f : List ℕ) (bytes : Bytes f) where
   -- the checks of a step that may come next
@@ -162,7 +157,7 @@ module _ (f : List ℕ) (bytes : Bytes f) where
     due = step-due f (m .phone .states) at bytes kind
 
     due-checks : recordAt (stepFormat f (m .phone .states)) (512 - n) at ≡ endingAt f (m .phone .states) at (due .last) (due .step)
-    due-checks = rw (ne-eqb (512 - n) 0 (λ z. omega arith), a-step (getD f at 0) (kind .1)) (due .checks)
+    due-checks = rw (ne-eqb (512 - n) 0 (λ z. omega arith), step-tested (getD f at 0) (kind .1)) (due .checks)
 
     cut-refused : length f < afterStep f at → phoneOf f ≡ refused 11 (length f)
     cut-refused cut = next-refused f m (kind .0) (due-checks ∙ rw (le-leb (length f) (due .last) (omega (arith, due .after))))
@@ -174,7 +169,7 @@ module _ (f : List ℕ) (bytes : Bytes f) where
         due-checks ∙ rw (lt-leb (length f) (due .last) (omega (arith, due .after))) in
         let ends : at + recordLength (due .step) ≡ afterStep f at = due .ends ∙ sym (due .after) in
         next-refused f m (kind .0) (checks ∙ among-refused states at (due .step) λ e.
-        let (longer, same) = step-longer m bytes (kind .0) few (due .step) (record-accepted (stepFormat f states) at (512 - n) (checks ∙ e) .1) in
+        let (longer, same) = model-with-step m bytes (kind .0) few (due .step) (record-accepted (stepFormat f states) at (512 - n) (checks ∙ e) .1) in
         none (rw ends at (model-begins longer)))
 
   pub fault-refuses : {number place : ℕ} → Fault f number place → phoneOf f ≡ refused number place
@@ -194,7 +189,7 @@ module _ (f : List ℕ) (bytes : Bytes f) where
   fault-refuses (bad-step m kind few whole none) = bad-refused m few kind whole none
   fault-refuses (step-513 {at} m (inside, kind)) =
       next-refused f m inside (byCase-refused step-cases (λ x. x) (recordAt (stepFormat f (m .phone .states)) 0 at) _ _
-      (Checks.no-step-left f (m .phone .states) at 0 (a-step (getD f at 0) kind) refl))
+      (Checks.no-step-left f (m .phone .states) at 0 (step-tested (getD f at 0) kind) refl))
 
 -- ---- the promise
 

@@ -1,4 +1,4 @@
--- Reading the steps of a model file: what is read so far, and what each way out of `next_step` and of `read_model` returns.
+-- What each way out of `next_step` and of `read_model` returns: the steps that are read so far stand before the rest.
 use mathlib.Core.Path.{_≡_, refl, sym, _∙_}
 use mathlib.Core.Bool.{true, false}
 use mathlib.Core.List.{List}
@@ -29,24 +29,24 @@ use Rattle.models.proofs.Files.Cases.{states-cases, step-cases}
 -- ---- the ways out of `next_step`
 
 module _ {f : List ℕ} {states : ℕ} {steps : List Step} {n at : ℕ} (b : StepsBegun f states steps n at) where
-  no-more : (answer : Acceptance) → LoadedAs (stepsAt 512 f states 2) steps answer n
+  next-none : (answer : Acceptance) → LoadedAs (stepsAt 512 f states 2) steps answer n
       → (next : Next) → next ≡ record { more = false; answer = answer; step = noStep; n = n; at = 0 } → NextRead f states steps n next
-  no-more answer loaded next is =
+  next-none answer loaded next is =
       rw is record { number-is = refl; begun = λ e. absurd (let z : _≡_ {A = ℕ} 0 1 = cc in omega arith); at-end = λ _. loaded }
 
-  pub all-read : length f ≤ at → (next : Next) → next ≡ record { more = false; answer = Accepted; step = noStep; n = n; at = 0 }
+  pub next-at-end : length f ≤ at → (next : Next) → next ≡ record { more = false; answer = Accepted; step = noStep; n = n; at = 0 }
       → NextRead f states steps n next
-  all-read over = no-more Accepted (rw (begun-all b (le-ltb _ _ over)) (refl, b .stored, sym (b .counted)))
+  next-at-end over = next-none Accepted (rw (begun-all b (le-ltb _ _ over)) (refl, b .stored, sym (b .counted)))
 
-  pub step-refused : at < length f → (found : StepRead) → found ≡ stepRead (recordAt (stepFormat f states) (512 - n) at)
+  pub next-refused : at < length f → (found : StepRead) → found ≡ stepRead (recordAt (stepFormat f states) (512 - n) at)
       → {number place : ℕ} → found ≡ StepRead′.Refused number place → (a : Acceptance) → a ≡ stepAnswer found
       → (next : Next) → next ≡ record { more = false; answer = a; step = noStep; n = n; at = 0 } → NextRead f states steps n next
-  step-refused inside found is e a is-a =
-      no-more a (rw (begun-refused b (lt-ltb _ _ inside) (byCase-refused step-cases (λ x. x) _ _ _ (sym e ∙ is))) (is-a ∙ rw e))
+  next-refused inside found is e a is-a =
+      next-none a (rw (begun-refused b (lt-ltb _ _ inside) (byCase-refused step-cases (λ x. x) _ _ _ (sym e ∙ is))) (is-a ∙ rw e))
 
-  pub step-read : (x : Step) → at < length f → recordAt (stepFormat f states) (512 - n) at ≡ accepted x
+  pub next-read : (x : Step) → at < length f → recordAt (stepFormat f states) (512 - n) at ≡ accepted x
       → NextRead f states steps n (record { more = true; answer = Accepted; step = x; n = n; at = at + recordLength x })
-  step-read x inside e = record {
+  next-read x inside e = record {
     number-is = refl;
     begun = λ _. begun-one b (lt-ltb _ _ inside) e;
     at-end = λ e. absurd (let z : _≡_ {A = ℕ} 0 1 = cc in omega arith);
@@ -65,26 +65,26 @@ module _ (states : ℕ) (steps : List Step) (n : ℕ) where
   abbrev handed : Outcome (Records Step) → ModelReading
   handed o = modelReadingOf (andThen o (λ xs. accepted (record { states = states; steps = xs .list })))
 
-  handed-all : (o : Outcome (Records Step)) → LoadedAs o steps Accepted n
+  handed-accepted : (o : Outcome (Records Step)) → LoadedAs o steps Accepted n
       → record { answer = Accepted; model = record { states = states; steps = steps; nsteps = n } } ≡ handed o
-  handed-all (accepted xs) (_, stored, counted) = rw (stored, counted)
-  handed-all (refused number place) e = let z : _≡_ {A = ℕ} 0 1 = cc in absurd (omega arith)
+  handed-accepted (accepted xs) (_, stored, counted) = rw (stored, counted)
+  handed-accepted (refused number place) e = let z : _≡_ {A = ℕ} 0 1 = cc in absurd (omega arith)
 
-  handed-none : (o : Outcome (Records Step)) {number place : ℕ} → LoadedAs o steps (Refused number place) n
+  handed-refused : (o : Outcome (Records Step)) {number place : ℕ} → LoadedAs o steps (Refused number place) n
       → record { answer = Refused number place; model = blank } ≡ handed o
-  handed-none (accepted xs) (e, _, _) = let z : _≡_ {A = ℕ} 0 1 = cc in absurd (omega arith)
-  handed-none (refused number place) e = rw e
+  handed-refused (accepted xs) (e, _, _) = let z : _≡_ {A = ℕ} 0 1 = cc in absurd (omega arith)
+  handed-refused (refused number place) e = rw e
 
 module _ (f : List ℕ) {states : ℕ} (states-are : statesOf f ≡ accepted states) (l : Loaded)
     (loaded : LoadedAs (stepsAt 512 f states 2) (l .steps) (l .answer) (l .nsteps)) where
-  then-steps : phoneOf f ≡ andThen (stepsAt 512 f states 2) (λ xs. accepted (record { states = states; steps = xs .list }))
+  phone-after-states : phoneOf f ≡ andThen (stepsAt 512 f states 2) (λ xs. accepted (record { states = states; steps = xs .list }))
   unfolding phoneOf
-  then-steps = rw states-are
+  phone-after-states = rw states-are
 
   pub loaded-accepted : l .answer ≡ Accepted
       → record { answer = l .answer; model = record { states = states; steps = l .steps; nsteps = l .nsteps } } ≡ modelReadingOf (phoneOf f)
-  loaded-accepted e = rw (e, then-steps) (handed-all states (l .steps) (l .nsteps) (stepsAt 512 f states 2) (rw e at loaded))
+  loaded-accepted e = rw (e, phone-after-states) (handed-accepted states (l .steps) (l .nsteps) (stepsAt 512 f states 2) (rw e at loaded))
 
   pub loaded-refused : {number place : ℕ} → l .answer ≡ Refused number place
       → (r : ModelReading) → r ≡ record { answer = l .answer; model = blank } → r ≡ modelReadingOf (phoneOf f)
-  loaded-refused e r is = is ∙ rw (e, then-steps) (handed-none states (l .steps) (l .nsteps) (stepsAt 512 f states 2) (rw e at loaded))
+  loaded-refused e r is = is ∙ rw (e, phone-after-states) (handed-refused states (l .steps) (l .nsteps) (stepsAt 512 f states 2) (rw e at loaded))

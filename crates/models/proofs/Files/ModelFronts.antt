@@ -47,8 +47,8 @@ step-told x y p q = on (eqb (x .label) 256) (eqb (y .label) 256) refl refl
 -- ---- a model at the front of a file
 
 module _ {f : List ℕ} {at n : ℕ} (m : ModelBefore f at n) where
-  whole : f ≡ encodePhone (m .phone) ++ drop at f
-  whole = sym (take-append-drop at f) ∙ ap (λ p. p ++ drop at f) (m .bytes-are)
+  file-is : f ≡ encodePhone (m .phone) ++ drop at f
+  file-is = sym (take-append-drop at f) ∙ ap (λ p. p ++ drop at f) (m .bytes-are)
 
   -- and the record of a step after it
   with-record : (x : Step) → drop at f ≡ encodeStep x ++ drop (at + recordLength x) f
@@ -58,23 +58,23 @@ module _ {f : List ℕ} {at n : ℕ} (m : ModelBefore f at n) where
       take-add at (recordLength x) f ∙ rw (m .bytes-are, from, take-at (encodeStep x) rest (recordLength x) (length-step x))
 
   -- what is refused after the model is what the file is refused with
-  pub refused-there : at ≤ length f → (left : ℕ) → left + n ≡ 512 → {number place : ℕ}
+  pub refused-after-model : at ≤ length f → (left : ℕ) → left + n ≡ 512 → {number place : ℕ}
       → stepsAt left f (m .phone .states) at ≡ refused number place → phoneOf f ≡ refused number place
   unfolding phoneOf
-  refused-there inside left all {number} {place} e =
+  refused-after-model inside left all {number} {place} e =
       let well = m .within-limits .well-formed in
-      let first : statesOf f ≡ accepted (m .phone .states) = ap statesOf whole ∙ states-read _ _ (well .some-states) (well .few-states) in
+      let first : statesOf f ≡ accepted (m .phone .states) = ap statesOf file-is ∙ states-read _ _ (well .some-states) (well .few-states) in
       let steps : stepsAt 512 f (m .phone .states) 2 ≡ refused number place =
       records-after f (stepFormat f (m .phone .states)) encodeStep (WellFormedStep (m .phone .states)) (reads-steps f (m .phone .states))
-      (m .phone .steps) 2 at left 512 (drop at f) (well .steps) (ap (drop 2) whole)
+      (m .phone .steps) 2 at left 512 (drop at f) (well .steps) (ap (drop 2) file-is)
       (omega (arith, ap length (m .bytes-are), length-take-le at f inside)) (omega (arith, m .steps-are))
       ∙ rw e in
       rw (first, steps)
 
   -- with a step that is accepted there it is a longer one
-  pub step-longer : Bytes f → at < length f → n < 512 → (x : Step) → stepAt f (m .phone .states) at ≡ accepted x
+  pub model-with-step : Bytes f → at < length f → n < 512 → (x : Step) → stepAt f (m .phone .states) at ≡ accepted x
       → (longer : ModelBefore f (at + recordLength x) (suc n)) × (longer .phone .states ≡ m .phone .states)
-  step-longer bytes inside few x e =
+  model-with-step bytes inside few x e =
       let well = m .within-limits .well-formed in
       let stands = step-stands f (m .phone .states) at x bytes inside e in
       let steps = m .phone .steps ++ x ∷ [] in

@@ -1,4 +1,5 @@
--- Two files that agree in 2,051 bytes say the same, and 2,050 aren't enough.
+-- Two files that agree in 2,051 bytes say the same, for a count of states and 512 steps end before byte 2,050, and the byte there is a kind at most. And
+-- 2,050 bytes aren't enough.
 use mathlib.Core.Path.{_≡_, refl, _∙_}
 use mathlib.Core.List.{List, [], _∷_, _++_}
 use Prim.Native.Nat.{ℕ, zero, suc, _+_, _*_, _≤_}
@@ -10,7 +11,7 @@ use Rattle.reading.specs.Rule.{All}
 use Rattle.reading.proofs.Basics.ByteLaws.{bytes-append}
 use Rattle.reading.specs.File.{accepted, refused}
 use Rattle.reading.proofs.Settling.Agreement.{Agree, inside, settled}
-use Rattle.reading.proofs.Basics.Outcomes.{then-agree}
+use Rattle.reading.proofs.Basics.Outcomes.{andThen-agree}
 use Rattle.reading.proofs.RecordLists.RecordsAgree.{FormatsAgree, records-agree}
 use Rattle.models.specs.Phone.{Phone, WellFormedStep, WellFormedPhone, encodeSteps, encodePhone, codeStepKind, statesOf, stepAt, stepFormat, phoneOf}
 use Rattle.models.specs.Promises.{SettledByFirstBytes, NotByFewer}
@@ -18,6 +19,8 @@ use Rattle.models.specs.declared.Step.{Step}
 use Rattle.models.proofs.Files.StepLaws.{record-bounds}
 use Rattle.models.proofs.Files.StepBytes.{steps-full}
 use Rattle.models.proofs.Files.Encoding.{states-read, phone-reads, encode-bytes}
+
+-- ---- files that agree
 
 module _ (f g : List ℕ) (a : Agree 2051 f g) where
   states-agree : statesOf f ≡ statesOf g
@@ -58,7 +61,7 @@ module _ (f g : List ℕ) (a : Agree 2051 f g) where
 
   phone-agrees : phoneOf f ≡ phoneOf g
   unfolding phoneOf
-  phone-agrees = rw states-agree (then-agree (statesOf g) _ _ (λ states e. rw (records-agree _ _ 4 2051 (formats-agree states) 512 2 (omega arith))))
+  phone-agrees = rw states-agree (andThen-agree (statesOf g) _ _ (λ states e. rw (records-agree _ _ 4 2051 (formats-agree states) 512 2 (omega arith))))
 
 pub settled-by-first-bytes : SettledByFirstBytes
 settled-by-first-bytes = settled phoneOf 2051 phone-agrees

@@ -19,7 +19,7 @@ use Rattle.models.specs.Phone.{WellFormedStep, codeStepKind, silentStepK
 use Rattle.models.specs.Phone.{endingAt, codeStepAt, silentStepAt, isStep, stepAt, recordLength, stepFormat, stepsAt}
 use Rattle.models.specs.Faults.{IsStep, afterStep}
 use Rattle.models.specs.declared.Step.{Step}
-use Rattle.models.proofs.Files.StepLaws.{is-step, among-is, record-bounds}
+use Rattle.models.proofs.Files.StepLaws.{tested-step, among-accepted, record-bounds}
 
 -- ---- the record of a step that may come next
 
@@ -87,9 +87,9 @@ module _ (f : List ℕ) (states at : ℕ) (x : Step) where
   pub step-stands : Bytes f → at < length f → stepAt f states at ≡ accepted x → StepStands f states at x
   step-stands bytes inside e =
       let kind = refuse-accepted (not (isStep (getD f at 0))) 12 at _ e in
-      let due = step-due f states at bytes (inside, is-step (getD f at 0) (not-false _ (kind .0))) in
+      let due = step-due f states at bytes (inside, tested-step (getD f at 0) (not-false _ (kind .0))) in
       let whole = refuse-accepted (leb (length f) (due .last)) 11 (length f) _ (sym (due .checks) ∙ kind .1) in
-      let (from, to, is) = among-is states at (due .step) x (whole .1) in
+      let (from, to, is) = among-accepted states at (due .step) x (whole .1) in
       subst (StepStands f states at) is (record {
         well-formed = record { from = from; label = due .label; to = to };
         bytes = due .bytes (leb-false _ _ (whole .0));

@@ -13,23 +13,23 @@ use Rattle.models.specs.Faults.{IsStep, NoStep}
 use Rattle.models.specs.declared.Step.{Step}
 
 -- the kinds of steps, as they are tested
-pub is-step : (k : ℕ) → isStep k ≡ true → IsStep k
-is-step k = on (eqb k codeStepKind) refl
+pub tested-step : (k : ℕ) → isStep k ≡ true → IsStep k
+tested-step k = on (eqb k codeStepKind) refl
   where
     on : (b : Bool) → eqb k codeStepKind ≡ b → (b || eqb k silentStepKind) ≡ true → IsStep k
     on true is e = inl (eqb-true k codeStepKind is)
     on false is e = inr (eqb-true k silentStepKind e)
 
-pub is-no-step : (k : ℕ) → isStep k ≡ false → NoStep k
-is-no-step k e (inl code) = eqb-false k codeStepKind (neither (eqb k codeStepKind) (eqb k silentStepKind) e .0) code
-is-no-step k e (inr silent) = eqb-false k silentStepKind (neither (eqb k codeStepKind) (eqb k silentStepKind) e .1) silent
+pub tested-no-step : (k : ℕ) → isStep k ≡ false → NoStep k
+tested-no-step k e (inl code) = eqb-false k codeStepKind (neither (eqb k codeStepKind) (eqb k silentStepKind) e .0) code
+tested-no-step k e (inr silent) = eqb-false k silentStepKind (neither (eqb k codeStepKind) (eqb k silentStepKind) e .1) silent
 
-pub a-step : (k : ℕ) → IsStep k → isStep k ≡ true
-a-step k (inl code) = rw code
-a-step k (inr silent) = rw silent
+pub step-tested : (k : ℕ) → IsStep k → isStep k ≡ true
+step-tested k (inl code) = rw code
+step-tested k (inr silent) = rw silent
 
-pub among-is : (states at : ℕ) (x y : Step) → among states at x ≡ accepted y → (x .from < states) × (x .to < states) × (x ≡ y)
-among-is states at x y e =
+pub among-accepted : (states at : ℕ) (x y : Step) → among states at x ≡ accepted y → (x .from < states) × (x .to < states) × (x ≡ y)
+among-accepted states at x y e =
     let from = refuse-accepted (leb states (x .from)) 13 at _ e in
     let to = refuse-accepted (leb states (x .to)) 13 at _ (from .1) in
     (leb-false _ _ (from .0), leb-false _ _ (to .0), accepted-is (to .1))

@@ -14,6 +14,8 @@ use Rattle.models.proofs.Files.FileWays.{states-refused, loaded-accepte
 use Rattle.models.proofs.read_model.Statement.{statement}
 use Rattle.models.proofs.read_model.Tie as tie
 
+-- ---- what is known of the count
+
 -- the count of states that was read
 module _ (c : tie.After-known-told) where
   abbrev f : List ℕ
@@ -24,6 +26,8 @@ module _ (c : tie.After-known-told) where
 
   states-are : statesOf f ≡ accepted states
   states-are = byCase-value states-cases (statesOf f) _ (sym (c .before .first .given .1) ∙ c .before .before .before .read-states .ensures)
+
+-- ---- each obligation
 
 read-states-requires : tie.Need-read-states-requires
 read-states-requires c κs = search needs

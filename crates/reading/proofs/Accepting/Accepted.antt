@@ -1,4 +1,5 @@
--- A file is accepted as the rule r exactly where r is well formed and the file is its encoding.
+-- A file is accepted as the rule r exactly where r is well formed and the file is its encoding: its patterns stand at the front, its formula after them,
+-- and there the file ends.
 use mathlib.Core.Path.{_≡_, refl, sym, ap, _∙_, subst}
 use mathlib.Core.Bool.{false}
 use mathlib.Core.List.{List, [], _++_, append-nil}
@@ -14,12 +15,14 @@ use Rattle.reading.specs.Numbered.{numbered, readingOf}
 use Rattle.reading.specs.Promises.{AcceptsEncodings, OneRule, AnswersAccepted}
 use Rattle.reading.specs.declared.Acceptance.the-variants.{Accepted}
 use Rattle.reading.specs.declared.Reading.{Reading}
-use Rattle.reading.proofs.Basics.Outcomes.{accepted-is, andThen-accepted, then-accepts, refuse-accepted}
+use Rattle.reading.proofs.Basics.Outcomes.{accepted-is, andThen-accepted, andThen-accepts, refuse-accepted}
 use Rattle.reading.proofs.Basics.Places.{first-byte, rest-after}
 use Rattle.reading.proofs.Accepting.PatternBytes.{node-no-pattern, PatternsStand, patterns-accept}
 use Rattle.reading.proofs.Accepting.Sound.{FormulaStands}
 use Rattle.reading.proofs.Accepting.FormulaBytes.{formula-accepts}
 use Rattle.reading.proofs.Accepting.Encoding.{encoding-is-bytes}
+
+-- ---- what is accepted stands
 
 rule-stands : (s : List ℕ) → Bytes s → (r : Rule) → ruleOf s ≡ accepted r → RuleWithinLimits r × (s ≡ encode r)
 unfolding ruleOf
@@ -42,6 +45,8 @@ rule-stands s bytes r e =
       },
       patterns .bytes-are ∙ ap (λ (l : List ℕ). bp ++ l) (formula .bytes ∙ ap (λ (l : List ℕ). bf ++ l) none ∙ append-nil bf),
     )
+
+-- ---- what stands is accepted
 
 -- a formula does not begin as a pattern
 formula-no-pattern : (f : Formula) (s : List ℕ) (at : ℕ) → drop at s ≡ encodeFormula f ++ [] → isPattern s at ≡ false
@@ -76,8 +81,8 @@ rule-read s bytes r w e =
       nodes = omega (arith, w .few-nodes);
     } in
     let ends : length s ≤ next + length bf = omega (arith, ap length e, length-append bp bf) in
-    then-accepts _ (patterns-accept s bytes 0 32 _ .1 patterns) (
-    then-accepts _ (formula-accepts s n next 64 [] f .1 formula) (rw (le-ltb (next + length bf) (length s) ends)))
+    andThen-accepts _ (patterns-accept s bytes 0 32 _ .1 patterns) (
+    andThen-accepts _ (formula-accepts s n next 64 [] f .1 formula) (rw (le-ltb (next + length bf) (length s) ends)))
 
 -- ---- the promises
 

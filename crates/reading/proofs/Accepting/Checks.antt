@@ -115,8 +115,8 @@ module _ (s : List ℕ) (n at left : ℕ) (g : Guards) where
   file-ended h = simp (le-leb _ _ h)
 
   module _ (b : at < length s) where
-    pub kind-0 : getD s at 0 ≡ 0 → NodeRead.Refused 2 at ≡ nodeRead (nodeAt s n at left g)
-    kind-0 h = simp (lt-leb _ _ b, h)
+    pub kind-zero : getD s at 0 ≡ 0 → NodeRead.Refused 2 at ≡ nodeRead (nodeAt s n at left g)
+    kind-zero h = simp (lt-leb _ _ b, h)
 
     module _ (z : getD s at 0 ≡ 0 → ⊥) where
       pub kind-over : variableKind < getD s at 0 → NodeRead.Refused 2 at ≡ nodeRead (nodeAt s n at left g)

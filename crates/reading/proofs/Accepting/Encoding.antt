@@ -1,4 +1,5 @@
--- The encoding of a well-formed rule is a list of bytes, at most 255 of them.
+-- The encoding of a well-formed rule is a list of bytes, at most 255 of them: four for each pattern, at most two for each node, and some node has no
+-- body.
 use mathlib.Core.Path.{_≡_, refl}
 use mathlib.Core.Bool.{true, false}
 use mathlib.Core.List.{List, [], _∷_}

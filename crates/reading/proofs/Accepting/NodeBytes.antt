@@ -1,4 +1,5 @@
--- A node record is accepted exactly where a node is left and the record's bytes, within its limits, stand at its place.
+-- A node record is accepted exactly where a node is left and the record's bytes, within its limits, stand at its place: kind by kind, the checks that
+-- the record passes say so.
 use mathlib.Core.Path.{_≡_, refl, sym, ap, subst, _∙_}
 use mathlib.Core.Bool.{true, false, cond, not, _||_}
 use mathlib.Core.Logic.{_↔_}

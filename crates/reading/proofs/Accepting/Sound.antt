@@ -1,4 +1,5 @@
--- A formula that is read, to whatever depth, is well formed, has no more nodes than are left, and its bytes stand at its place.
+-- A formula that is read, to whatever depth, is well formed, has no more nodes than are left, and its bytes stand at its place: so it is for its parts,
+-- and then for the node before them.
 use mathlib.Core.Path.{_≡_, refl, _∙_, subst}
 use mathlib.Core.Bool.{false}
 use mathlib.Core.List.{List, _∷_, _++_, append-assoc}
@@ -10,6 +11,8 @@ use Rattle.reading.specs.File.{Outcome, accepted, NodeRecord, nodeAt, Pa
 use Rattle.reading.proofs.Basics.Outcomes.{accepted-is, never-accepted, andThen-accepted}
 use Rattle.reading.proofs.Basics.Places.{from-byte}
 use Rattle.reading.proofs.Accepting.NodeBytes.{bare-truth, bare-falsity, bare-both, bare-max, NodeStands, bare, of-necessity, of-variable, node-accepts}
+
+-- ---- what is to be shown of a reader
 
 -- The formula of f stands at `at` and fits, after n patterns, with `left` nodes left, inside maxes of which g says whether they are guarded.
 pub record FormulaStands (s : List ℕ) (n at left : ℕ) (g : Guards) (f : Parsed) : Type 0 where
@@ -25,6 +28,8 @@ Reader = (at left : ℕ) → Guards → Outcome Parsed
 -- what it accepts stands there
 abbrev pub Sound : List ℕ → ℕ → Reader → Type 0
 Sound s n read = (at left : ℕ) (g : Guards) (f : Parsed) → read at left g ≡ accepted f → FormulaStands s n at left g f
+
+-- ---- a node and its parts
 
 module _ (s : List ℕ) (n : ℕ) (read : Reader) (sound : Sound s n read) (at left : ℕ) (g : Guards) (f : Parsed) where
   abbrev Whole : Parsed → Type 0
@@ -74,13 +79,15 @@ module _ (s : List ℕ) (n : ℕ) (read : Reader) (sound : Sound s n read) (at l
         nodes = omega arith;
       })
 
-pub at-sound : (depth : ℕ) (s : List ℕ) (n : ℕ) → Sound s n (formulaAt depth s n)
+-- ---- every depth
+
+pub formulaAt-sound : (depth : ℕ) (s : List ℕ) (n : ℕ) → Sound s n (formulaAt depth s n)
 unfolding formulaAt
-at-sound zero s n at left g f e = absurd (never-accepted e)
-at-sound (suc depth) s n at left g f e =
+formulaAt-sound zero s n at left g f e = absurd (never-accepted e)
+formulaAt-sound (suc depth) s n at left g f e =
     let node = andThen-accepted (nodeAt s n at left g) _ e in
     let stands = node-accepts s n at left g (node .0) .0 (node .1) in
     let pos : 0 < left = stands .0 in
     let whole : suc (left - 1) ≡ left = omega arith in
     subst (λ (l : ℕ). FormulaStands s n at l g f) whole
-    (parts-stand s n (formulaAt depth s n) (at-sound depth s n) at (left - 1) g f (stands .1) (node .2))
+    (parts-stand s n (formulaAt depth s n) (formulaAt-sound depth s n) at (left - 1) g f (stands .1) (node .2))

@@ -54,17 +54,17 @@ module _ {A B : Type 0} where
   andThen-accepted (refused number place) f e = absurd (never-accepted e)
 
   -- the other way round
-  pub then-accepts : {o : Outcome A} (f : A → Outcome B) {a : A} {b : B} → o ≡ accepted a → f a ≡ accepted b → andThen o f ≡ accepted b
-  then-accepts f e e′ = rw (e, e′)
+  pub andThen-accepts : {o : Outcome A} (f : A → Outcome B) {a : A} {b : B} → o ≡ accepted a → f a ≡ accepted b → andThen o f ≡ accepted b
+  andThen-accepts f e e′ = rw (e, e′)
 
   -- second steps that agree on what the first accepts
-  pub then-agree : (o : Outcome A) (f g : A → Outcome B) → ((a : A) → o ≡ accepted a → f a ≡ g a) → andThen o f ≡ andThen o g
-  then-agree (accepted a) f g e = e a refl
-  then-agree (refused number place) f g e = refl
+  pub andThen-agree : (o : Outcome A) (f g : A → Outcome B) → ((a : A) → o ≡ accepted a → f a ≡ g a) → andThen o f ≡ andThen o g
+  andThen-agree (accepted a) f g e = e a refl
+  andThen-agree (refused number place) f g e = refl
 
   -- first steps that agree, and then second ones
-  pub both-agree : (o o′ : Outcome A) (f g : A → Outcome B) → o ≡ o′ → ((a : A) → o ≡ accepted a → f a ≡ g a) → andThen o f ≡ andThen o′ g
-  both-agree o o′ f g e h = rw (← e) (then-agree o f g h)
+  pub andThen-agree-both : (o o′ : Outcome A) (f g : A → Outcome B) → o ≡ o′ → ((a : A) → o ≡ accepted a → f a ≡ g a) → andThen o f ≡ andThen o′ g
+  andThen-agree-both o o′ f g e h = rw (← e) (andThen-agree o f g h)
 
 -- ---- what stands for an outcome
 

@@ -1,4 +1,5 @@
--- Bytes at a place of a file. That the bytes `l` are the file from `at` on is said by `drop at s ≡ l`.
+-- Bytes at a place of a file. That the bytes `l` are the file from `at` on is said by `drop at s ≡ l`; what stands further on is found by dropping
+-- more.
 use mathlib.Core.Path.{_≡_, refl, ap, _∙_}
 use mathlib.Core.List.{List, _∷_, _++_}
 use Prim.Native.Nat.{ℕ, suc, _+_, _<_}

@@ -1,4 +1,5 @@
--- What each way out of `read_formula` leaves is what its contract says.
+-- What each way out of `read_formula` leaves is what its contract says: the node that was read settles the way, and the calls before it say what they
+-- left of the parts.
 use mathlib.Core.Path.{_≡_, refl, sym, ap, _∙_}
 use mathlib.Core.Bool.{false, cond}
 use mathlib.Core.List.{List, _∷_}
@@ -25,10 +26,12 @@ use Rattle.reading.proofs.Accepting.NodeBytes.{bare-truth, bare-falsity
 use Rattle.reading.proofs.Numbering.NumberedLaws.{kinds-size, args-size}
 use Rattle.reading.proofs.Functions.Stores.{two-lists, two-lists-over}
 
+-- ---- a node and its parts in the arrays
+
 -- a part that was read leaves no more nodes than there were
-pub rest-left : (s : List ℕ) (n at left : ℕ) (g : Guards) {ms ks gs ks′ gs′ : List ℕ} (r : FormulaRead) (rest : Rest)
+pub part-leaves : (s : List ℕ) (n at left : ℕ) (g : Guards) {ms ks gs ks′ gs′ : List ℕ} (r : FormulaRead) (rest : Rest)
     → Reads (formulaOf s n at left g) left ms ks gs ks′ gs′ r → r ≡ FormulaRead′.Read rest → rest .left ≤ left
-rest-left s n at left g r rest h e =
+part-leaves s n at left g r rest h e =
     let a = byCase-accepted formula-cases restOf (formulaOf s n at left g) rest (sym e ∙ h .answer) in
     omega (arith, formula-sound s n at left g (a .0) (a .1) .nodes, ap (λ (x : Rest). x .left) (a .2))
 
@@ -131,8 +134,8 @@ module _ {s : List ℕ} {n at left : ℕ} {g : Guards} {node : Record} (f : Foun
   body-as x e = f .body-is ∙ ap bodyByte (symbol-told ∙ e)
 
 -- the depth of a variable names a max
-pub is-bound : {s : List ℕ} {n at left : ℕ} {g : Guards} {node : Record} → Found s n at left g node → node .kind ≡ variableKind → node .body < length g
-is-bound {s} {n} {at} {left} {g} {node} f e = on (f .stands) (sym (f .kind-is) ∙ e) (f .body-is)
+pub variable-in-scope : {s : List ℕ} {n at left : ℕ} {g : Guards} {node : Record} → Found s n at left g node → node .kind ≡ variableKind → node .body < length g
+variable-in-scope {s} {n} {at} {left} {g} {node} f e = on (f .stands) (sym (f .kind-is) ∙ e) (f .body-is)
   where
     on : {r : NodeRecord} → NodeStands s n at g r → kindByte (r .symbol) ≡ variableKind → node .body ≡ bodyByte (r .symbol) → node .body < length g
     on (bare bare-truth b) k i = absurd (omega arith)
@@ -148,37 +151,37 @@ module _ (s : List ℕ) (n at left : ℕ) (g : Guards) (ms ks gs : List ℕ) whe
   abbrev Whole : (ks′ gs′ : List ℕ) → FormulaRead → Type 0
   Whole ks′ gs′ r = Reads (formulaOf s n at left g) left ms ks gs ks′ gs′ r
 
-  whole : {o : Outcome Parsed} {ks′ gs′ : List ℕ} {r : FormulaRead} → formulaOf s n at left g ≡ o → Reads o left ms ks gs ks′ gs′ r → Whole ks′ gs′ r
-  whole e h = rw e h
+  reads-as : {o : Outcome Parsed} {ks′ gs′ : List ℕ} {r : FormulaRead} → formulaOf s n at left g ≡ o → Reads o left ms ks gs ks′ gs′ r → Whole ks′ gs′ r
+  reads-as e h = rw e h
 
   pub node-refused : (found : NodeRead) {number place : ℕ} {r : FormulaRead} {ks′ gs′ : List ℕ} → found ≡ nodeRead (nodeAt s n at left g)
       → found ≡ NodeRead′.Refused number place → r ≡ passedUp found → Whole ks′ gs′ r
   node-refused found {number} {place} told is e =
-      whole {o = refused number place} (formula-step s n at left g ∙ rw (byCase-refused node-cases nodeOf (nodeAt s n at left g) number place (sym is ∙ told)))
+      reads-as {o = refused number place} (formula-step s n at left g ∙ rw (byCase-refused node-cases nodeOf (nodeAt s n at left g) number place (sym is ∙ told)))
       (record { answer = e ∙ ap passedUp is; written = tt })
 
   module _ (node : Record) (found : Found s n at left g node) where
-    abbrev one-node : FormulaRead
-    one-node = FormulaRead′.Read (record { next = node .next; left = left - 1 })
+    abbrev after-node : FormulaRead
+    after-node = FormulaRead′.Read (record { next = node .next; left = left - 1 })
 
-    pub is-leaf : (node .kind ≡ bothKind → ⊥) → (node .kind ≡ necessityKind → ⊥) → (node .kind ≡ maxKind → ⊥) → (node .kind ≡ variableKind → ⊥)
-        → Whole (set ks (64 - left) (node .kind)) (set gs (64 - left) (node .body)) one-node
-    is-leaf h4 h5 h6 h7 = on (found .symbol) (found .kind-is) (found .body-is) (found .step)
+    pub reads-leaf : (node .kind ≡ bothKind → ⊥) → (node .kind ≡ necessityKind → ⊥) → (node .kind ≡ maxKind → ⊥) → (node .kind ≡ variableKind → ⊥)
+        → Whole (set ks (64 - left) (node .kind)) (set gs (64 - left) (node .body)) after-node
+    reads-leaf h4 h5 h6 h7 = on (found .symbol) (found .kind-is) (found .body-is) (found .step)
       where
         on : (x : Symbol) → node .kind ≡ kindByte x → node .body ≡ bodyByte x
             → formulaOf s n at left g ≡ partsBy (formulaOf s n) x (node .next) (left - 1) g
-            → Whole (set ks (64 - left) (node .kind)) (set gs (64 - left) (node .body)) one-node
-        on Truth k b e = whole e (record { answer = refl; written = (rw k, rw b) })
-        on Falsity k b e = whole e (record { answer = refl; written = (rw k, rw b) })
+            → Whole (set ks (64 - left) (node .kind)) (set gs (64 - left) (node .body)) after-node
+        on Truth k b e = reads-as e (record { answer = refl; written = (rw k, rw b) })
+        on Falsity k b e = reads-as e (record { answer = refl; written = (rw k, rw b) })
         on Both k b e = absurd (h4 k)
         on (Necessity p) k b e = absurd (h5 k)
         on Max k b e = absurd (h6 k)
         on (Variable d) k b e = absurd (h7 k)
 
-    pub is-variable : node .kind ≡ variableKind → (x : ℕ) → x ≡ getD ms (node .body) 0
-        → Whole (set ks (64 - left) (node .kind)) (set (set gs (64 - left) (node .body)) (64 - left) x) one-node
-    is-variable k x e =
-        whole (step-as found (Variable (node .body)) (rw k))
+    pub reads-variable : node .kind ≡ variableKind → (x : ℕ) → x ≡ getD ms (node .body) 0
+        → Whole (set ks (64 - left) (node .kind)) (set (set gs (64 - left) (node .body)) (64 - left) x) after-node
+    reads-variable k x e =
+        reads-as (step-as found (Variable (node .body)) (rw k))
         (record { answer = refl; written = (rw k, set-set gs (64 - left) (node .body) x ∙ rw e) })
 
     -- what a call of `read_formula` found of a part and left, inside the max nodes ms′
@@ -187,16 +190,16 @@ module _ (s : List ℕ) (n at left : ℕ) (g : Guards) (ms ks gs : List ℕ) whe
         Reads (formulaOf s n (node .next) (left - 1) g′) (left - 1) ms′ (set ks (64 - left) (node .kind)) (set gs (64 - left) (node .body)) ks′ gs′ r
 
     module _ (few : left ≤ 64) {ks′ gs′ : List ℕ} {r : FormulaRead} where
-      pub is-necessity : node .kind ≡ necessityKind → Part ms (guarded g) ks′ gs′ r → Whole ks′ gs′ r
-      is-necessity k h =
-          whole (step-as found (Necessity (node .body)) (rw k))
+      pub reads-necessity : node .kind ≡ necessityKind → Part ms (guarded g) ks′ gs′ r → Whole ks′ gs′ r
+      reads-necessity k h =
+          reads-as (step-as found (Necessity (node .body)) (rw k))
           (one-part left (found .one-left) few ms ms ks gs necessityKind (node .body) (necessity (node .body))
           (formulaOf s n (node .next) (left - 1) (guarded g)) (λ f. refl) (λ f. refl) (rw k at h))
 
-      pub is-max : node .kind ≡ maxKind → Part ((64 - left) ∷ ms) (false ∷ g) ks′ gs′ r → Whole ks′ gs′ r
-      is-max k h =
+      pub reads-max : node .kind ≡ maxKind → Part ((64 - left) ∷ ms) (false ∷ g) ks′ gs′ r → Whole ks′ gs′ r
+      reads-max k h =
           let no-body : node .body ≡ 0 = body-as found Max (rw k) in
-          whole (step-as found Max (rw k))
+          reads-as (step-as found Max (rw k))
           (one-part left (found .one-left) few ms ((64 - left) ∷ ms) ks gs maxKind 0 max
           (formulaOf s n (node .next) (left - 1) (false ∷ g)) (λ f. refl) (λ f. refl) (rw (k, no-body) at h))
 
@@ -208,19 +211,19 @@ module _ (s : List ℕ) (n at left : ℕ) (g : Guards) (ms ks gs : List ℕ) whe
       both-step : formulaOf s n at left g ≡ andThen one (λ f. andThen (formulaOf s n (f .next) (f .left) g) (under (both (f .formula))))
       both-step = step-as found Both (rw k)
 
-      pub first-refused : {number place : ℕ} → first ≡ FormulaRead′.Refused number place → Whole ks′ gs′ first
-      first-refused {number} {place} e =
-          whole {o = refused number place} (both-step ∙ rw (byCase-refused formula-cases restOf one number place (sym e ∙ h .answer))) (record { answer = e; written = tt })
+      pub both-refused : {number place : ℕ} → first ≡ FormulaRead′.Refused number place → Whole ks′ gs′ first
+      both-refused {number} {place} e =
+          reads-as {o = refused number place} (both-step ∙ rw (byCase-refused formula-cases restOf one number place (sym e ∙ h .answer))) (record { answer = e; written = tt })
 
       second-part : (f : Parsed) → one ≡ accepted f → {ks″ gs″ : List ℕ} {r : FormulaRead}
           → Reads (formulaOf s n (f .next) (f .left) g) (f .left) ms ks′ (set gs′ (64 - left) (64 - f .left)) ks″ gs″ r → Whole ks″ gs″ r
       second-part f e h′ =
           let w = rw e at (h .written) in
           let takes = formula-sound s n (node .next) (left - 1) g f e .nodes in
-          whole (both-step ∙ rw e)
+          reads-as (both-step ∙ rw e)
           (two-parts left (node .body) (found .one-left) few ms ks gs f takes (formulaOf s n (f .next) (f .left) g) (w .0 ∙ rw k) (w .1) h′)
 
-      pub is-both : (rest : Rest) → first ≡ FormulaRead′.Read rest → {ks″ gs″ : List ℕ} {r : FormulaRead}
+      pub reads-both : (rest : Rest) → first ≡ FormulaRead′.Read rest → {ks″ gs″ : List ℕ} {r : FormulaRead}
           → Reads (formulaOf s n (rest .next) (rest .left) g) (rest .left) ms ks′ (set gs′ (64 - left) (64 - rest .left)) ks″ gs″ r
           → Whole ks″ gs″ r
-      is-both rest e h′ = let a = byCase-accepted formula-cases restOf one rest (sym e ∙ h .answer) in second-part (a .0) (a .1) (rw (a .2) at h′)
+      reads-both rest e h′ = let a = byCase-accepted formula-cases restOf one rest (sym e ∙ h .answer) in second-part (a .0) (a .1) (rw (a .2) at h′)

@@ -15,6 +15,8 @@ use Rattle.reading.proofs.Measures.Bits.{isSet, trailing-is-least, trai
 use Rattle.reading.proofs.Measures.Counting.{least-holds, least-below, count-below-le, between, least-between, count-below-between}
 use Rattle.reading.proofs.Measures.Products.{ofBoth, least-of-both, count-below-of-both}
 
+-- ---- what a pattern covers
+
 pub covers-means : CoversMeans
 unfolding covers
 covers-means p code = (
@@ -32,6 +34,8 @@ covers-means p code = (
 covers-both : (p : Pattern) → covers p ≡ ofBoth (isSet (p .mask)) (between (p .first) (p .last))
 unfolding covers
 covers-both p = refl
+
+-- ---- its lowest code, and its count
 
 module _ (p : Pattern) (ok : WellFormedPattern p) where
   lowest-kind : trailingZeros 8 (p .mask) < 8

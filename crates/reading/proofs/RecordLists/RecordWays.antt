@@ -1,6 +1,6 @@
 -- The ways of a list of records: it ends, it goes on after one, or one is refused. Each follows from the definition, by how many are left.
-use mathlib.Core.Path.{_≡_, refl, sym, _∙_}
-use mathlib.Core.Bool.{true, false}
+use mathlib.Core.Path.{_≡_, refl, sym, subst, _∙_}
+use mathlib.Core.Bool.{Bool, true, false, cond}
 use mathlib.Core.List.{List, [], _∷_, _++_, append-assoc}
 use Prim.Native.Nat.{ℕ, zero, suc, _+_, _<_}
 use native.Mathlib.Omega.{arith}
@@ -8,7 +8,9 @@ use lib.Dec.{eqb}
 use borrow.Author.Tests.{eqb-false, ne-eqb}
 use Rattle.reading.specs.File.{Outcome, accepted, refused, andThen, RecordFormat, Records, withRecord, recordsAt}
 use Rattle.reading.specs.Representations.{recordAt, prepend}
-use Rattle.reading.proofs.Basics.Outcomes.{refuse-accepted}
+use Rattle.reading.proofs.Basics.Outcomes.{accepted-is, refuse-accepted}
+
+-- ---- the ways of a list
 
 module _ {A : Type 0} (r : RecordFormat A) (at : ℕ) where
   pub records-end : (left : ℕ) → r .more at ≡ false → recordsAt r left at ≡ accepted (record { list = []; next = at })
@@ -36,6 +38,17 @@ module _ {A : Type 0} (r : RecordFormat A) (at : ℕ) where
   record-accepted left e =
       let some = refuse-accepted (eqb left 0) (r .tooMany at) at _ e in
       (omega (arith, eqb-false left 0 (some .0)), some .1)
+
+-- what holds of the records that are accepted: none begins and there are none, or one does and `others` was accepted
+pub records-cases : {A : Type 0} (r : RecordFormat A) (at : ℕ) (P : Records A → Type 0) (others : Outcome (Records A)) (xs : Records A)
+    → cond (r .more at) others (accepted (record { list = []; next = at })) ≡ accepted xs
+    → (r .more at ≡ true → others ≡ accepted xs → P xs) → (r .more at ≡ false → P (record { list = []; next = at })) → P xs
+records-cases r at P others xs = on (r .more at) refl
+  where
+    on : (b : Bool) → r .more at ≡ b → cond b others (accepted (record { list = []; next = at })) ≡ accepted xs
+        → (r .more at ≡ true → others ≡ accepted xs → P xs) → (r .more at ≡ false → P (record { list = []; next = at })) → P xs
+    on true is e some none = some is e
+    on false is e some none = subst P (accepted-is e) (none is)
 
 -- ---- records put before an outcome
 

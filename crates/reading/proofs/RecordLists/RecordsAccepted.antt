@@ -1,7 +1,7 @@
 -- A list of records is accepted exactly as the encoding of well-formed records, no more than are left, after which none begins. One way by going
 -- over the records, the other by going over how many are left.
 use mathlib.Core.Path.{_≡_, refl, sym, ap, _∙_, subst}
-use mathlib.Core.Bool.{Bool, true, false, cond}
+use mathlib.Core.Bool.{true, false}
 use mathlib.Core.Logic.{_↔_}
 use mathlib.Core.List.{List, [], _∷_, _++_, append-assoc, append-nil}
 use Prim.Native.Nat.{ℕ, zero, suc, _+_, _-_, _≤_}
@@ -12,7 +12,7 @@ use Rattle.reading.specs.File.{Outcome, accepted, refused, andThen, Reco
 use Rattle.reading.specs.Representations.{prepend}
 use Rattle.reading.proofs.Basics.Outcomes.{accepted-is, never-accepted, andThen-accepted}
 use Rattle.reading.proofs.Basics.Places.{rest-after}
-use Rattle.reading.proofs.RecordLists.RecordWays.{records-end, records-more, prepend-none, prepend-first}
+use Rattle.reading.proofs.RecordLists.RecordWays.{records-end, records-more, records-cases, prepend-none, prepend-first}
 
 -- ---- what is asked of one record
 
@@ -68,20 +68,13 @@ module _ {A : Type 0} (s : List ℕ) (r : RecordFormat A) (bytes : A → List �
     none-stand : (at left : ℕ) → r .more at ≡ false → RecordsStand at left (record { list = []; next = at })
     none-stand at left over = record { well-formed = tt; few = omega arith; bytes-are = refl; ends = omega arith; over = over }
 
-    -- no record begins and there are none, or one does and `others` was accepted
-    none-or-some : (at left : ℕ) (xs : Records A) (others : Outcome (Records A))
-        → (r .more at ≡ true → others ≡ accepted xs → RecordsStand at left xs)
-        → (b : Bool) → r .more at ≡ b → cond b others (accepted (record { list = []; next = at })) ≡ accepted xs → RecordsStand at left xs
-    none-or-some at left xs others some true is e = some is e
-    none-or-some at left xs others some false is e = subst (RecordsStand at left) (accepted-is e) (none-stand at left is)
-
     pub records-stand : ((x : A) → length (bytes x) ≡ r .width x) → (left at : ℕ) (xs : Records A) → recordsAt r left at ≡ accepted xs
         → RecordsStand at left xs
     unfolding recordsAt
     records-stand long zero at xs e =
-        none-or-some at zero xs (refused (r .tooMany at) at) (λ more e′. absurd (never-accepted e′)) (r .more at) refl e
+        records-cases r at (RecordsStand at zero) (refused (r .tooMany at) at) xs e (λ more e′. absurd (never-accepted e′)) (none-stand at zero)
     records-stand long (suc left) at xs e =
-        none-or-some at (suc left) xs _ (λ more e′.
+        records-cases r at (RecordsStand at (suc left)) _ xs e (λ more e′.
         let (x, one, e″) = andThen-accepted (r .one at) _ e′ in
         let (ys, others, is) = andThen-accepted (recordsAt r left (at + r .width x)) (withRecord x) e″ in
         let (fit, first) = k at x more one in
@@ -95,7 +88,7 @@ module _ {A : Type 0} (s : List ℕ) (r : RecordFormat A) (bytes : A → List �
           ends = omega (arith, rest .ends, length-append (bytes x) (encodeEach bytes (ys .list)), long x);
           over = rest .over;
         }))
-        (r .more at) refl e
+        (none-stand at (suc left))
 
   pub records-accept : ReadsRecords → FindsRecords → (at left : ℕ) (xs : Records A) → (recordsAt r left at ≡ accepted xs) ↔ RecordsStand at left xs
   records-accept reads finds at left xs = (records-stand finds (reads .long) left at xs, records-read reads at left xs)

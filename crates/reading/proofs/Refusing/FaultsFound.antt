@@ -22,14 +22,14 @@ use Rattle.reading.proofs.Accepting.NodeBytes.{node-accepts}
 use Rattle.reading.proofs.Accepting.PatternBytes.{pattern-stands, pattern-kind}
 use Rattle.reading.proofs.Refusing.Contexts.{guards, parts, done}
 use Rattle.reading.proofs.Refusing.LeftToRight.{dueAt, due-over, headAt}
-use Rattle.reading.proofs.Refusing.ReadTo.{ReadTo, front-read, rule-read-to, still-due, next-node, next-pattern, pattern-needed}
-use Rattle.reading.proofs.Refusing.ReadTo.{node-needed, node-bound, bound-begins}
+use Rattle.reading.proofs.Refusing.ReadTo.{ReadTo, read-front, read-rule, read-unfinished, next-node, next-pattern, pattern-well-formed}
+use Rattle.reading.proofs.Refusing.ReadTo.{node-allowed, node-bound, bound-begins}
 use Rattle.reading.proofs.Refusing.RecordsHere.{necessity-here, variable-here, pattern-here, pattern-stood, node-here}
 
 -- ---- a node
 
-unknown-kind : (k : ℕ) → (eqb k 0 || ltb variableKind k) ≡ true → NoKind k
-unknown-kind k e = on (eqb k 0) refl e
+tested-no-kind : (k : ℕ) → (eqb k 0 || ltb variableKind k) ≡ true → NoKind k
+tested-no-kind k e = on (eqb k 0) refl e
   where
     on : (b : Bool) → eqb k 0 ≡ b → (b || ltb variableKind k) ≡ true → NoKind k
     on true q e′ = inl (eqb-true k 0 q)
@@ -46,29 +46,29 @@ module _ {s : List ℕ} {at n m : ℕ} {g : Guards} {due : List Guards} (h : Rea
   necessity-fault b few e =
       let kind : KindAt s at HasBody = (b .inside, inl (b .is)) in
       refuse-refused (Fault s) (leb (length s) (at + 1)) 1 (length s) _ e
-      (λ t. node-cut (still-due h) kind few (omega (arith, leb-true (length s) (at + 1) t)))
+      (λ t. node-cut (read-unfinished h) kind few (omega (arith, leb-true (length s) (at + 1) t)))
       (λ f e′.
       let whole : at + 1 < length s = leb-false _ _ f in
       refuse-refused (Fault s) (leb n (getD s (at + 1) 0)) 6 at _ e′
-      (λ t. names-nothing (still-due h) kind few (omega arith) (λ begins. omega (arith, leb-true n (getD s (at + 1) 0) t, node-bound h (necessity-here s at b whole) begins)))
+      (λ t. names-nothing (read-unfinished h) kind few (omega arith) (λ begins. omega (arith, leb-true n (getD s (at + 1) 0) t, node-bound h (necessity-here s at b whole) begins)))
       (λ f′ e″. absurd (never-refused e″)))
 
   variable-fault : Byte s at variableKind → m < 64 → variableAt s g at ≡ refused number place → Fault s number place
   variable-fault b few e =
       let depth = getD s (at + 1) 0 in
       refuse-refused (Fault s) (leb (length s) (at + 1)) 1 (length s) _ e
-      (λ t. node-cut (still-due h) (b .inside, inr (b .is)) few (omega (arith, leb-true (length s) (at + 1) t)))
+      (λ t. node-cut (read-unfinished h) (b .inside, inr (b .is)) few (omega (arith, leb-true (length s) (at + 1) t)))
       (λ f e′.
       let whole : at + 1 < length s = leb-false _ _ f in
       let here = variable-here s at b whole in
       refuse-refused (Fault s) (leb (length g) depth) 6 at _ e′
-      (λ t. names-nothing (still-due h) (b .inside, inr (b .is)) few (omega arith) (λ begins. omega (arith, leb-true (length g) depth t, node-bound h here begins)))
+      (λ t. names-nothing (read-unfinished h) (b .inside, inr (b .is)) few (omega arith) (λ begins. omega (arith, leb-true (length g) depth t, node-bound h here begins)))
       (λ f′ e″.
       let bound : depth < length g = leb-false _ _ f′ in
       refuse-refused (Fault s) (not (getD g depth false)) 7 at _ e″
       (λ t.
-      unguarded (still-due h) (b .inside, b .is) few (omega arith)
-      (λ begins. let guard : getD g depth false ≡ true = node-needed h here begins .1 in
+      unguarded (read-unfinished h) (b .inside, b .is) few (omega arith)
+      (λ begins. let guard : getD g depth false ≡ true = node-allowed h here begins .1 in
       let z : false ≡ true = rw guard at t in let z′ : _≡_ {A = ℕ} 0 1 = cc in omega arith)
       (bound-begins h here bound))
       (λ f″ e‴. absurd (never-refused e‴))))
@@ -86,19 +86,19 @@ module _ {s : List ℕ} {at n m : ℕ} {g : Guards} {due : List Guards} (h : Rea
   node-fault left count none e =
       let kind = getD s at 0 in
       refuse-refused (Fault s) (leb (length s) at) 1 (length s) _ e
-      (λ t. file-ended (subst (λ (k : ℕ). Unfinished s k n m) (omega (arith, leb-true (length s) at t, h .inside)) (still-due h)))
+      (λ t. file-ended (subst (λ (k : ℕ). Unfinished s k n m) (omega (arith, leb-true (length s) at t, h .inside)) (read-unfinished h)))
       (λ f e′.
       let inside : at < length s = leb-false _ _ f in
       refuse-refused (Fault s) (eqb kind 0 || ltb variableKind kind) 2 at _ e′
-      (λ t. no-kind (still-due h) (inside, unknown-kind kind t))
+      (λ t. no-kind (read-unfinished h) (inside, tested-no-kind kind t))
       (λ f′ e″.
       let (some, known) = neither (eqb kind 0) (ltb variableKind kind) f′ in
       refuse-refused (Fault s) (eqb kind patternKind) 3 at _ e″
-      (λ t. late-pattern (still-due h) (inside, eqb-true kind patternKind t) (pattern-late s at m none inside t))
+      (λ t. late-pattern (read-unfinished h) (inside, eqb-true kind patternKind t) (pattern-late s at m none inside t))
       (λ f″ e‴.
       let range : kind ≤ variableKind = ltb-false variableKind kind known in
       refuse-refused (Fault s) (eqb left 0) 4 at _ e‴
-      (λ t. node-65 (subst (Unfinished s at n) (omega (arith, eqb-true left 0 t)) (still-due h))
+      (λ t. node-65 (subst (Unfinished s at n) (omega (arith, eqb-true left 0 t)) (read-unfinished h))
       (inside, (omega (arith, eqb-false kind 0 some, eqb-false kind patternKind f″), range)))
       (λ f‴ last.
       kind-fault left (node-kind kind (eqb-false kind 0 some) range (eqb-false kind patternKind f″)) (record { inside = inside; is = refl })
@@ -110,7 +110,7 @@ ends-fault : (left : ℕ) {s : List ℕ} {at n m : ℕ} {number place : ℕ} →
     → Fault s number place
 ends-fault left {s} {at} {n} h e =
     refuse-refused (Fault s) (ltb at (length s)) 3 at _ (sym (due-over s left n at) ∙ e)
-    (λ t. after-rule (front-read h) (rule-read-to h refl) (ltb-true _ _ t))
+    (λ t. after-rule (read-front h) (read-rule h refl) (ltb-true _ _ t))
     (λ f e′. absurd (never-refused e′))
 
 due-fault : (left : ℕ) (due : List Guards) {s : List ℕ} {at n m : ℕ} {number place : ℕ} → ReadTo s at n m due → left + m ≡ 64
@@ -136,9 +136,9 @@ module _ {s : List ℕ} {at n : ℕ} (h : ReadTo s at n 0 ([] ∷ [])) (b : Byte
   kind = (b .inside, b .is)
 
   -- a pattern that isn't well formed
-  bad : (few : n < 32) → at + 3 < length s
+  unfit-fault : (few : n < 32) → at + 3 < length s
       → (WellFormedPattern (record { mask = getD s (at + 1) 0; first = getD s (at + 2) 0; last = getD s (at + 3) 0 }) → ⊥) → Fault s 5 at
-  bad few whole unfit = bad-pattern (still-due h) kind few (omega arith) (λ begins. unfit (pattern-needed h (pattern-here s at b whole) begins))
+  unfit-fault few whole unfit = bad-pattern (read-unfinished h) kind few (omega arith) (λ begins. unfit (pattern-well-formed h (pattern-here s at b whole) begins))
 
   pattern-fault : {number place : ℕ} → n < 32 → patternAt s at ≡ refused number place → Fault s number place
   pattern-fault few e =
@@ -146,20 +146,20 @@ module _ {s : List ℕ} {at n : ℕ} (h : ReadTo s at n 0 ([] ∷ [])) (b : Byte
       let first = getD s (at + 2) 0 in
       let last = getD s (at + 3) 0 in
       refuse-refused (Fault s) (leb (length s) (at + 3)) 1 (length s) _ e
-      (λ t. pattern-cut (still-due h) kind few (omega (arith, leb-true (length s) (at + 3) t)))
+      (λ t. pattern-cut (read-unfinished h) kind few (omega (arith, leb-true (length s) (at + 3) t)))
       (λ f₁ e₂.
       let whole : at + 3 < length s = leb-false _ _ f₁ in
       refuse-refused (Fault s) (eqb mask 0) 5 at _ e₂
-      (λ t. bad few whole (λ w. omega (arith, w .some-kind, eqb-true mask 0 t)))
+      (λ t. unfit-fault few whole (λ w. omega (arith, w .some-kind, eqb-true mask 0 t)))
       (λ f₂ e₃.
       refuse-refused (Fault s) (ltb 31 first) 5 at _ e₃
-      (λ t. bad few whole (λ w. omega (arith, w .in-order, w .slots, ltb-true 31 first t)))
+      (λ t. unfit-fault few whole (λ w. omega (arith, w .in-order, w .slots, ltb-true 31 first t)))
       (λ f₃ e₄.
       refuse-refused (Fault s) (ltb 31 last) 5 at _ e₄
-      (λ t. bad few whole (λ w. omega (arith, w .slots, ltb-true 31 last t)))
+      (λ t. unfit-fault few whole (λ w. omega (arith, w .slots, ltb-true 31 last t)))
       (λ f₄ e₅.
       refuse-refused (Fault s) (ltb last first) 5 at _ e₅
-      (λ t. bad few whole (λ w. omega (arith, w .in-order, ltb-true last first t)))
+      (λ t. unfit-fault few whole (λ w. omega (arith, w .in-order, ltb-true last first t)))
       (λ f₅ e₆. absurd (never-refused e₆))))))
 
 head-fault : (left : ℕ) {s : List ℕ} → Bytes s → {at n : ℕ} {number place : ℕ} → ReadTo s at n 0 ([] ∷ []) → left + n ≡ 32
@@ -173,7 +173,7 @@ head-fault zero {s} bytes {at} {n} {number} {place} h count e = on (isPattern s 
         let full : n ≡ 32 = omega arith in
         let four : 4 ≡ number = cc in
         let here : at ≡ place = cc in
-        rw (← four, ← here) (pattern-33 (subst (λ (k : ℕ). Unfinished s at k 0) full (still-due h)) (b .inside, b .is))
+        rw (← four, ← here) (pattern-33 (subst (λ (k : ℕ). Unfinished s at k 0) full (read-unfinished h)) (b .inside, b .is))
     on false is e′ = due-fault 64 ([] ∷ []) h (omega arith) (λ z. is) e′
 head-fault (suc left) {s} bytes {at} {n} {number} {place} h count e =
     on (isPattern s at) refl e (head-fault left bytes {at = at + 4} {n = suc n})

@@ -30,11 +30,11 @@ use Rattle.reading.proofs.Refusing.Contexts.{guards, Consumes, done, co
 use Rattle.reading.proofs.RecordLists.RecordWays.{record-left, record-accepted}
 use Rattle.reading.proofs.Accepting.PatternBytes.{pattern-stands, other-kind}
 use Rattle.reading.proofs.Refusing.LeftToRight.{dueAt, due-over, headAt, refused-left-to-right}
-use Rattle.reading.proofs.Refusing.ReadTo.{ReadTo, front-read, over-read, next-node, next-pattern, node-bound, bound-begins}
+use Rattle.reading.proofs.Refusing.ReadTo.{ReadTo, read-front, read-over, next-node, next-pattern, node-bound, bound-begins}
 use Rattle.reading.proofs.Refusing.RecordsHere.{necessity-here, variable-here, pattern-stood}
 use Rattle.reading.proofs.Refusing.FaultsFound.{fault-found}
 use Rattle.reading.proofs.Refusing.OneFault.{one-fault}
-use Rattle.reading.proofs.Refusing.GoingOn.{go-to-node, go-to-pattern, read-to-front, read-to-unfinished}
+use Rattle.reading.proofs.Refusing.GoingOn.{headAt-to-node, headAt-to-pattern, read-to-front, read-to-unfinished}
 
 -- ---- where the next record is refused
 
@@ -56,7 +56,7 @@ module _ (s : List ℕ) {number place : ℕ} where
 module _ {s : List ℕ} {at n m : ℕ} {g : Guards} {due : List Guards} (h : ReadTo s at n m (g ∷ due)) where
   node-refused : {number place : ℕ} → (m ≡ 0 → isPattern s at ≡ false) → NodeRead.Refused number place ≡ nodeRead (nodeAt s n at (64 - m) g)
       → headAt s 32 0 0 ≡ refused number place
-  node-refused none e = go-to-node h none ∙ due-refused s (64 - m) n at g due (byCase-refused node-cases nodeOf (nodeAt s n at (64 - m) g) _ _ e)
+  node-refused none e = headAt-to-node h none ∙ due-refused s (64 - m) n at g due (byCase-refused node-cases nodeOf (nodeAt s n at (64 - m) g) _ _ e)
 
   ended-refused : at ≡ length s → headAt s 32 0 0 ≡ refused 1 (length s)
   ended-refused e =
@@ -64,7 +64,7 @@ module _ {s : List ℕ} {at n m : ℕ} {g : Guards} {due : List Guards} (h : Rea
 
   kind-refused : KindAt s at NoKind → headAt s 32 0 0 ≡ refused 2 at
   kind-refused (inside, inl is) =
-      node-refused (λ z. other-kind s at (λ one. omega arith)) (checks.kind-0 s n at (64 - m) g inside is)
+      node-refused (λ z. other-kind s at (λ one. omega arith)) (checks.kind-zero s n at (64 - m) g inside is)
   kind-refused (inside, inr over) =
       node-refused (λ z. other-kind s at (λ one. omega arith)) (checks.kind-over s n at (64 - m) g inside (λ z. omega arith) over)
 
@@ -117,7 +117,7 @@ module _ {s : List ℕ} {at n m : ℕ} {g : Guards} {due : List Guards} (h : Rea
       let here = variable-here s at (record { inside = inside; is = is }) (omega arith) in
       let bound = node-bound h here begins in
       on (getD g (getD s (at + 1) 0) false) refl
-      (variable-refused few (inside, is)) (λ guard. none (front-read (next-node h refl few here (bound, guard)) .begins)) bound
+      (variable-refused few (inside, is)) (λ guard. none (read-front (next-node h refl few here (bound, guard)) .begins)) bound
     where
       on : (c : Bool) → getD g (getD s (at + 1) 0) false ≡ c
           → (NodeRead.Refused 7 at ≡ nodeRead (variableAt s g at) → headAt s 32 0 0 ≡ refused 7 at)
@@ -138,8 +138,8 @@ first-due {n = n} {due = due} h = on (h .nodes) (h .nnodes) (h .consumes)
 after-refused : {s : List ℕ} {at n m : ℕ} {due : List Guards} → ReadTo s at n m due → IsRule (take at s) → at < length s
     → headAt s 32 0 0 ≡ refused 3 at
 after-refused {s} {at} {n} {m} {due} h whole inside =
-    let over : due ≡ [] = over-read h whole in
-    go-to-node h (λ z. absurd (some m z h over))
+    let over : due ≡ [] = read-over h whole in
+    headAt-to-node h (λ z. absurd (some m z h over))
     ∙ (ap (dueAt s (64 - m) n at) over ∙ (due-over s (64 - m) n at ∙ rw (lt-ltb at (length s) inside)))
   where
     some : (m : ℕ) → m ≡ 0 → ReadTo s at n m due → due ≡ [] → ⊥
@@ -153,20 +153,20 @@ FiveAt at number place = (number ≡ 5) × (place ≡ at)
 
 module _ {s : List ℕ} {at n : ℕ} {due : List Guards} (h : ReadTo s at n 0 due) (kind : KindAt s at IsPattern) where
   pattern-refused : {number place : ℕ} → recordAt (patternFormat s) (32 - n) at ≡ refused number place → headAt s 32 0 0 ≡ refused number place
-  pattern-refused e = go-to-pattern h ∙ head-refused s (32 - n) n at (rw (lt-ltb at (length s) (kind .0), kind .1)) e
+  pattern-refused e = headAt-to-pattern h ∙ head-refused s (32 - n) n at (rw (lt-ltb at (length s) (kind .0), kind .1)) e
 
-  told : {number place : ℕ} → PatternRead.Refused number place ≡ patternRead (recordAt (patternFormat s) (32 - n) at) → headAt s 32 0 0 ≡ refused number place
-  told e = pattern-refused (byCase-refused pattern-cases (λ p. p) (recordAt (patternFormat s) (32 - n) at) _ _ e)
+  pattern-case-refused : {number place : ℕ} → PatternRead.Refused number place ≡ patternRead (recordAt (patternFormat s) (32 - n) at) → headAt s 32 0 0 ≡ refused number place
+  pattern-case-refused e = pattern-refused (byCase-refused pattern-cases (λ p. p) (recordAt (patternFormat s) (32 - n) at) _ _ e)
 
   pattern-33-refused : n ≡ 32 → headAt s 32 0 0 ≡ refused 4 at
-  pattern-33-refused full = told (checks.no-pattern-left s at (32 - n) (omega arith))
+  pattern-33-refused full = pattern-case-refused (checks.no-pattern-left s at (32 - n) (omega arith))
 
   pattern-cut-refused : n < 32 → length s < at + 4 → headAt s 32 0 0 ≡ refused 1 (length s)
-  pattern-cut-refused few cut = told (checks.pattern-cut s at (32 - n) (λ z. omega arith) (omega arith))
+  pattern-cut-refused few cut = pattern-case-refused (checks.pattern-cut s at (32 - n) (λ z. omega arith) (omega arith))
 
   -- whole and one of the 32, it can be refused with 5 only
-  five : {number place : ℕ} → n < 32 → at + 4 ≤ length s → recordAt (patternFormat s) (32 - n) at ≡ refused number place → FiveAt at number place
-  five few whole e =
+  unfit-refused-with-5 : {number place : ℕ} → n < 32 → at + 4 ≤ length s → recordAt (patternFormat s) (32 - n) at ≡ refused number place → FiveAt at number place
+  unfit-refused-with-5 few whole e =
       refuse-refused (FiveAt at) (eqb (32 - n) 0) 4 at _ e (λ t. absurd (omega (arith, eqb-true (32 - n) 0 t))) (λ f e₁.
       refuse-refused (FiveAt at) (leb (length s) (at + 3)) 1 (length s) _ e₁ (λ t. absurd (omega (arith, leb-true (length s) (at + 3) t))) (λ f₁ e₂.
       refuse-refused (FiveAt at) (eqb (getD s (at + 1) 0) 0) 5 at _ e₂ (λ t. (refl, refl)) (λ f₂ e₃.
@@ -183,8 +183,8 @@ module _ {s : List ℕ} {at n : ℕ} {due : List Guards} (h : ReadTo s at n 0 du
       on (accepted p) e say =
           let stands = pattern-stands s at p (byte-at s bytes (at + 1)) (record-accepted (patternFormat s) at (32 - n) e .1) in
           let b : Byte s at patternKind = record { inside = kind .0; is = kind .1 } in
-          absurd (none (front-read (next-pattern h few (pattern-stood s at b stands) (stands .well-formed)) .begins))
-      on (refused number place) e say = let (is, here) = five few whole e in say 5 at (e ∙ rw (is, here))
+          absurd (none (read-front (next-pattern h few (pattern-stood s at b stands) (stands .well-formed)) .begins))
+      on (refused number place) e say = let (is, here) = unfit-refused-with-5 few whole e in say 5 at (e ∙ rw (is, here))
 
 -- ---- every clause
 

@@ -12,7 +12,7 @@ use Rattle.reading.specs.Rule.{Guards, All, patternBytes, encodePatterns
 use Rattle.reading.specs.File.{Outcome, andThen, Records, isPattern, patternFormat, patternsAt}
 use Rattle.reading.specs.Faults.{pattern, node, recordBytes, recordsBytes, patternsIn, nodesIn, Front, BeginsRule, Unfinished}
 use Rattle.reading.specs.declared.Pattern.{Pattern}
-use Rattle.reading.proofs.Basics.Outcomes.{then-agree}
+use Rattle.reading.proofs.Basics.Outcomes.{andThen-agree}
 use Rattle.reading.proofs.Basics.Places.{byte-of, first-byte, rest-of, rest-after}
 use Rattle.reading.proofs.RecordLists.RecordsAccepted.{records-after}
 use Rattle.reading.proofs.Accepting.NodeBytes.{NodeStands, bare, of-necessity, of-variable, bare-truth, bare-falsity, bare-both, bare-max, node-accepts}
@@ -20,8 +20,8 @@ use Rattle.reading.proofs.Accepting.PatternBytes.{node-no-pattern, read
 use Rattle.reading.proofs.Refusing.Contexts.{guards, Allows, Consumes, done, more}
 use Rattle.reading.proofs.Refusing.Records.{records, records-bytes-append, pattern-bytes, patterns-in, nodes-in}
 use Rattle.reading.proofs.Refusing.Beginnings.{rule-shape}
-use Rattle.reading.proofs.Refusing.LeftToRight.{then-then, dueAt, headAt, then-formula, patterns-head}
-use Rattle.reading.proofs.Refusing.ReadTo.{ReadTo, rule-read-to}
+use Rattle.reading.proofs.Refusing.LeftToRight.{andThen-assoc, dueAt, headAt, then-formula, patterns-head}
+use Rattle.reading.proofs.Refusing.ReadTo.{ReadTo, read-rule}
 
 module _ (s : List ℕ) where
   -- ---- a record that may come next is read
@@ -36,42 +36,42 @@ module _ (s : List ℕ) where
   node-stands {at = at} (Variable d) rest allows from =
       of-variable (allows .0) (allows .1) (first-byte s at from) (byte-of s at 1 (at + 1) from refl (omega arith))
 
-  nodes-go : {n : ℕ} {due due′ : List Guards} {xs : List Symbol} → Consumes guards n due xs due′ → (left left′ at at′ : ℕ) (rest : List ℕ)
+  dueAt-after-nodes : {n : ℕ} {due due′ : List Guards} {xs : List Symbol} → Consumes guards n due xs due′ → (left left′ at at′ : ℕ) (rest : List ℕ)
       → left ≡ length xs + left′ → at′ ≡ at + length (recordsBytes (map node xs)) → drop at s ≡ recordsBytes (map node xs) ++ rest
       → dueAt s left n at due ≡ dueAt s left′ n at′ due′
   unfolding dueAt
-  nodes-go {n} {due} done left left′ at at′ rest count ends from =
+  dueAt-after-nodes {n} {due} done left left′ at at′ rest count ends from =
       let same : left ≡ left′ = omega arith in
       let same′ : at ≡ at′ = omega arith in
       rw (same, same′)
-  nodes-go {xs = x ∷ xs} (more allows consumes) zero left′ at at′ rest count ends from = absurd (omega arith)
-  nodes-go {n} (more {c = g} {due = due} {x = x} {xs = xs} allows consumes) (suc left) left′ at at′ rest count ends from =
+  dueAt-after-nodes {xs = x ∷ xs} (more allows consumes) zero left′ at at′ rest count ends from = absurd (omega arith)
+  dueAt-after-nodes {n} (more {c = g} {due = due} {x = x} {xs = xs} allows consumes) (suc left) left′ at at′ rest count ends from =
       let bs = recordBytes (node x) in
       let from′ : drop at s ≡ bs ++ (recordsBytes (map node xs) ++ rest) = from ∙ append-assoc bs (recordsBytes (map node xs)) rest in
       let stands = node-stands {at = at} {g = g} x (recordsBytes (map node xs) ++ rest) allows from′ in
       rw (node-accepts s n at (suc left) g _ .1 (omega arith, stands))
-      (nodes-go consumes left left′ (at + length bs) at′ rest (omega arith) (omega (arith, length-append bs (recordsBytes (map node xs))))
+      (dueAt-after-nodes consumes left left′ (at + length bs) at′ rest (omega arith) (omega (arith, length-append bs (recordsBytes (map node xs))))
       (rest-after s at bs from′))
 
-  patterns-go : (ps : List Pattern) (left left′ n n′ at at′ : ℕ) (rest : List ℕ) → All WellFormedPattern ps → left ≡ length ps + left′
+  headAt-after-patterns : (ps : List Pattern) (left left′ n n′ at at′ : ℕ) (rest : List ℕ) → All WellFormedPattern ps → left ≡ length ps + left′
       → n′ ≡ n + length ps → at′ ≡ at + length (encodePatterns ps) → drop at s ≡ encodePatterns ps ++ rest
       → headAt s left n at ≡ headAt s left′ n′ at′
-  patterns-go ps left left′ n n′ at at′ rest all count number ends from =
+  headAt-after-patterns ps left left′ n n′ at at′ rest all count number ends from =
       let others = patternsAt left′ s at′ in
       sym (patterns-head s left n at)
       ∙ (ap (λ (o : Outcome (Records Pattern)). andThen o (then-formula s n))
       (records-after s (patternFormat s) patternBytes WellFormedPattern (reads-patterns s) ps at at′ left′ left rest all from ends count)
-      ∙ (then-then others _ (then-formula s n)
-      ∙ (then-agree others _ (then-formula s n′) (λ qs e.
+      ∙ (andThen-assoc others _ (then-formula s n)
+      ∙ (andThen-agree others _ (then-formula s n′) (λ qs e.
       ap (λ (k : ℕ). dueAt s 64 k (qs .next) ([] ∷ [])) (omega (arith, length-append ps (qs .list))))
       ∙ patterns-head s left′ n′ at′)))
 
   -- ---- where the formula begins
 
-  pub head-over : (left n at : ℕ) → isPattern s at ≡ false → headAt s left n at ≡ dueAt s 64 n at ([] ∷ [])
+  pub headAt-over : (left n at : ℕ) → isPattern s at ≡ false → headAt s left n at ≡ dueAt s 64 n at ([] ∷ [])
   unfolding headAt
-  head-over zero n at over = rw over
-  head-over (suc left) n at over = rw over
+  headAt-over zero n at over = rw over
+  headAt-over (suc left) n at over = rw over
 
 -- ---- to a place
 
@@ -88,19 +88,19 @@ module _ {s : List ℕ} {at n m : ℕ} {due : List Guards} (h : ReadTo s at n m 
   place-is : at ≡ length front-patterns + length front-nodes
   place-is = sym (length-take-le at s (h .inside)) ∙ (ap length front-bytes ∙ length-append front-patterns front-nodes)
 
-  whole : s ≡ front-patterns ++ (front-nodes ++ drop at s)
-  whole = sym (take-append-drop at s) ∙ (ap (λ (l : List ℕ). l ++ drop at s) front-bytes ∙ append-assoc front-patterns front-nodes (drop at s))
+  file-is : s ≡ front-patterns ++ (front-nodes ++ drop at s)
+  file-is = sym (take-append-drop at s) ∙ (ap (λ (l : List ℕ). l ++ drop at s) front-bytes ∙ append-assoc front-patterns front-nodes (drop at s))
 
-  to-formula : headAt s 32 0 0 ≡ headAt s (32 - n) n (length front-patterns)
-  to-formula =
-      patterns-go s (h .patterns) 32 (32 - n) 0 n 0 (length front-patterns) (front-nodes ++ drop at s) (h .well-formed)
-      (omega (arith, h .npatterns, h .few-patterns)) (omega (arith, h .npatterns)) (omega arith) whole
+  headAt-to-formula : headAt s 32 0 0 ≡ headAt s (32 - n) n (length front-patterns)
+  headAt-to-formula =
+      headAt-after-patterns s (h .patterns) 32 (32 - n) 0 n 0 (length front-patterns) (front-nodes ++ drop at s) (h .well-formed)
+      (omega (arith, h .npatterns, h .few-patterns)) (omega (arith, h .npatterns)) (omega arith) file-is
 
   formula-from : drop (length front-patterns) s ≡ front-nodes ++ drop at s
-  formula-from = rest-of s 0 (length front-patterns) (length front-patterns) whole (omega arith) ∙ drop-append-seam front-patterns (front-nodes ++ drop at s)
+  formula-from = rest-of s 0 (length front-patterns) (length front-patterns) file-is (omega arith) ∙ drop-append-seam front-patterns (front-nodes ++ drop at s)
 
-  formula-first : (m ≡ 0 → isPattern s at ≡ false) → isPattern s (length front-patterns) ≡ false
-  formula-first none = on (h .nodes) refl
+  formula-no-pattern : (m ≡ 0 → isPattern s at ≡ false) → isPattern s (length front-patterns) ≡ false
+  formula-no-pattern none = on (h .nodes) refl
     where
       on : (xs : List Symbol) → h .nodes ≡ xs → isPattern s (length front-patterns) ≡ false
       on [] is =
@@ -112,18 +112,18 @@ module _ {s : List ℕ} {at n m : ℕ} {due : List Guards} (h : ReadTo s at n m 
           node-no-pattern s (length front-patterns) x (first-byte s (length front-patterns)
           (formula-from ∙ (ap (λ (l : List ℕ). l ++ drop at s) bytes ∙ append-assoc (recordBytes (node x)) rest (drop at s))))
 
-  pub go-to-node : (m ≡ 0 → isPattern s at ≡ false) → headAt s 32 0 0 ≡ dueAt s (64 - m) n at due
-  go-to-node none =
-      to-formula
-      ∙ (head-over s (32 - n) n (length front-patterns) (formula-first none)
-      ∙ nodes-go s (h .consumes) 64 (64 - m) (length front-patterns) at (drop at s) (omega (arith, h .nnodes, h .few-nodes)) place-is formula-from)
+  pub headAt-to-node : (m ≡ 0 → isPattern s at ≡ false) → headAt s 32 0 0 ≡ dueAt s (64 - m) n at due
+  headAt-to-node none =
+      headAt-to-formula
+      ∙ (headAt-over s (32 - n) n (length front-patterns) (formula-no-pattern none)
+      ∙ dueAt-after-nodes s (h .consumes) 64 (64 - m) (length front-patterns) at (drop at s) (omega (arith, h .nnodes, h .few-nodes)) place-is formula-from)
 
 -- before the formula
-pub go-to-pattern : {s : List ℕ} {at n : ℕ} {due : List Guards} → ReadTo s at n 0 due → headAt s 32 0 0 ≡ headAt s (32 - n) n at
-go-to-pattern {s} {at} {n} h =
+pub headAt-to-pattern : {s : List ℕ} {at n : ℕ} {due : List Guards} → ReadTo s at n 0 due → headAt s 32 0 0 ≡ headAt s (32 - n) n at
+headAt-to-pattern {s} {at} {n} h =
     let none : length (front-nodes h) ≡ 0 = on (h .nodes) (h .nnodes) in
     let same : length (front-patterns h) ≡ at = omega (arith, place-is h) in
-    rw same at (to-formula h)
+    rw same at (headAt-to-formula h)
   where
     on : (xs : List Symbol) → length xs ≡ 0 → length (recordsBytes (map node xs)) ≡ 0
     on [] e = refl
@@ -157,5 +157,5 @@ pub read-to-unfinished : {s : List ℕ} {at n m : ℕ} → Unfinished s at n m �
 read-to-unfinished {s} {at} {n} {m} u = let (due, h) = read-to-front (u .front) in on due h
   where
     on : (due : List Guards) → ReadTo s at n m due → (g : Guards) × (due : List Guards) × ReadTo s at n m (g ∷ due)
-    on [] h = absurd (u .unfinished (rule-read-to h refl))
+    on [] h = absurd (u .unfinished (read-rule h refl))
     on (g ∷ due) h = (g, due, h)

@@ -40,14 +40,14 @@ first-record (node Max) rest = refl
 first-record (node (Necessity p)) rest = refl
 first-record (node (Variable d)) rest = refl
 
-pub record-some : (x : Record) → 1 ≤ length (recordBytes x)
-record-some (pattern p) = omega arith
-record-some (node Truth) = omega arith
-record-some (node Falsity) = omega arith
-record-some (node Both) = omega arith
-record-some (node Max) = omega arith
-record-some (node (Necessity p)) = omega arith
-record-some (node (Variable d)) = omega arith
+pub recordBytes-some : (x : Record) → 1 ≤ length (recordBytes x)
+recordBytes-some (pattern p) = omega arith
+recordBytes-some (node Truth) = omega arith
+recordBytes-some (node Falsity) = omega arith
+recordBytes-some (node Both) = omega arith
+recordBytes-some (node Max) = omega arith
+recordBytes-some (node (Necessity p)) = omega arith
+recordBytes-some (node (Variable d)) = omega arith
 
 -- ---- lists of records
 
@@ -61,10 +61,10 @@ record-told x y p q e =
 
 pub records-front : (xs ys : List Record) (rest : List ℕ) → recordsBytes xs ++ rest ≡ recordsBytes ys
     → (zs : List Record) × (ys ≡ xs ++ zs) × (rest ≡ recordsBytes zs)
-records-front = encodeEach-front recordBytes record-some record-told
+records-front = encodeEach-front recordBytes recordBytes-some record-told
 
 pub records-bytes-same : (xs ys : List Record) → recordsBytes xs ≡ recordsBytes ys → xs ≡ ys
-records-bytes-same = encodeEach-same recordBytes record-some record-told
+records-bytes-same = encodeEach-same recordBytes recordBytes-some record-told
 
 -- ---- the records of a rule
 
@@ -100,25 +100,25 @@ nodes-in [] [] = refl
 nodes-in [] (x ∷ xs) = ap suc (nodes-in [] xs)
 nodes-in (p ∷ ps) xs = nodes-in ps xs
 
-pub more-nodes : (ps : List Pattern) (xs ys : List Symbol) → records ps (xs ++ ys) ≡ records ps xs ++ map node ys
-more-nodes ps xs ys =
+pub records-append-nodes : (ps : List Pattern) (xs ys : List Symbol) → records ps (xs ++ ys) ≡ records ps xs ++ map node ys
+records-append-nodes ps xs ys =
     ap (λ (l : List Record). map pattern ps ++ l) (map-append node xs ys) ∙ sym (append-assoc (map pattern ps) (map node xs) (map node ys))
 
-pub one-more-pattern : (ps : List Pattern) (p : Pattern) → records (ps ++ p ∷ []) [] ≡ records ps [] ++ pattern p ∷ []
-one-more-pattern [] p = refl
-one-more-pattern (q ∷ ps) p = ap (λ (l : List Record). pattern q ∷ l) (one-more-pattern ps p)
+pub records-append-pattern : (ps : List Pattern) (p : Pattern) → records (ps ++ p ∷ []) [] ≡ records ps [] ++ pattern p ∷ []
+records-append-pattern [] p = refl
+records-append-pattern (q ∷ ps) p = ap (λ (l : List Record). pattern q ∷ l) (records-append-pattern ps p)
 
 -- patterns and symbols follow from the records
-pub one-shape : (ps qs : List Pattern) (xs ys : List Symbol) → records ps xs ≡ records qs ys → (ps ≡ qs) × (xs ≡ ys)
-one-shape [] [] [] [] e = (refl, refl)
-one-shape [] [] [] (y ∷ ys) e = let z : _≡_ {A = ℕ} 0 1 = cc in absurd (omega arith)
-one-shape [] [] (x ∷ xs) [] e = let z : _≡_ {A = ℕ} 0 1 = cc in absurd (omega arith)
-one-shape [] [] (x ∷ xs) (y ∷ ys) e = let (p, q) = one-shape [] [] xs ys cc in (refl, cc)
-one-shape [] (q ∷ qs) [] ys e = let z : _≡_ {A = ℕ} 0 1 = cc in absurd (omega arith)
-one-shape [] (q ∷ qs) (x ∷ xs) ys e = let z : _≡_ {A = ℕ} 0 1 = cc in absurd (omega arith)
-one-shape (p ∷ ps) [] xs [] e = let z : _≡_ {A = ℕ} 0 1 = cc in absurd (omega arith)
-one-shape (p ∷ ps) [] xs (y ∷ ys) e = let z : _≡_ {A = ℕ} 0 1 = cc in absurd (omega arith)
-one-shape (p ∷ ps) (q ∷ qs) xs ys e = let (r, same) = one-shape ps qs xs ys cc in (cc, same)
+pub records-same : (ps qs : List Pattern) (xs ys : List Symbol) → records ps xs ≡ records qs ys → (ps ≡ qs) × (xs ≡ ys)
+records-same [] [] [] [] e = (refl, refl)
+records-same [] [] [] (y ∷ ys) e = let z : _≡_ {A = ℕ} 0 1 = cc in absurd (omega arith)
+records-same [] [] (x ∷ xs) [] e = let z : _≡_ {A = ℕ} 0 1 = cc in absurd (omega arith)
+records-same [] [] (x ∷ xs) (y ∷ ys) e = let (p, q) = records-same [] [] xs ys cc in (refl, cc)
+records-same [] (q ∷ qs) [] ys e = let z : _≡_ {A = ℕ} 0 1 = cc in absurd (omega arith)
+records-same [] (q ∷ qs) (x ∷ xs) ys e = let z : _≡_ {A = ℕ} 0 1 = cc in absurd (omega arith)
+records-same (p ∷ ps) [] xs [] e = let z : _≡_ {A = ℕ} 0 1 = cc in absurd (omega arith)
+records-same (p ∷ ps) [] xs (y ∷ ys) e = let z : _≡_ {A = ℕ} 0 1 = cc in absurd (omega arith)
+records-same (p ∷ ps) (q ∷ qs) xs ys e = let (r, same) = records-same ps qs xs ys cc in (cc, same)
 
 -- A front of a rule's records has some of the patterns and no symbol, or all patterns and some of the symbols.
 abbrev pub FrontOf : List Pattern → List Symbol → List Record → Type 0

@@ -1,4 +1,4 @@
--- Whole records from the bytes that stand at a place.
+-- Whole records from the bytes that stand at a place, one byte after the other.
 use mathlib.Core.Path.{refl, subst, ap, _∙_}
 use mathlib.Core.List.{List, _∷_}
 use Prim.Native.Nat.{ℕ, _+_, _<_}

@@ -1,4 +1,5 @@
--- Two files that agree in 257 bytes say the same, and 256 aren't enough.
+-- Two files that agree in 257 bytes say the same, for 32 patterns and 64 nodes end before byte 256, and the byte there is a kind at most. And 256 bytes
+-- aren't enough.
 use mathlib.Core.Path.{_≡_, refl}
 use mathlib.Core.List.{List, [], _∷_, _++_}
 use Prim.Native.Nat.{ℕ, zero, suc, _+_, _-_, _*_, _≤_, _<_}
@@ -11,7 +12,7 @@ use Rattle.reading.specs.File.{NodeRecord, necessityAt, variableAt, node
 use Rattle.reading.specs.Promises.{SettledByFirstBytes, NotByFewer}
 use Rattle.reading.specs.declared.Pattern.{Pattern}
 use Rattle.reading.proofs.Settling.Agreement.{Agree, inside, settled}
-use Rattle.reading.proofs.Basics.Outcomes.{both-agree}
+use Rattle.reading.proofs.Basics.Outcomes.{andThen-agree-both}
 use Rattle.reading.proofs.Basics.ByteLaws.{bytes-append}
 use Rattle.reading.proofs.RecordLists.RecordsAgree.{FormatsAgree, records-agree, records-next}
 use Rattle.reading.proofs.Accepting.Encoding.{length-formula}
@@ -27,23 +28,25 @@ Room bound at left = (left < bound) × (at + 2 * left ≤ 256)
 
 -- after a node there is room for its parts, and after a formula for the next one
 module _ (bound : ℕ) (s : List ℕ) (n at left : ℕ) (g : Guards) where
-  node-next : {r : NodeRecord} → NodeStands s n at g r → r .next ≤ at + 2
-  node-next (bare k b) = omega arith
-  node-next (of-necessity h b a) = omega arith
-  node-next (of-variable h k b a) = omega arith
+  node-width : {r : NodeRecord} → NodeStands s n at g r → r .next ≤ at + 2
+  node-width (bare k b) = omega arith
+  node-width (of-necessity h b a) = omega arith
+  node-width (of-variable h k b a) = omega arith
 
-  after-node : (r : NodeRecord) → Room (suc bound) at left → nodeAt s n at left g ≡ accepted r
+  room-after-node : (r : NodeRecord) → Room (suc bound) at left → nodeAt s n at left g ≡ accepted r
       → NodeStands s n at g r × Room bound (r .next) (left - 1)
-  after-node r h e =
+  room-after-node r h e =
       let node = node-accepts s n at left g r .0 e in
-      let two : r .next ≤ at + 2 = node-next (node .1) in
+      let two : r .next ≤ at + 2 = node-width (node .1) in
       (node .1, (omega (arith, node .0), omega (arith, node .0)))
 
-  after-formula : (f : Parsed) → Room bound at left → FormulaStands s n at left g f → Room bound (f .next) (f .left)
-  after-formula f h stands = (
+  room-after-formula : (f : Parsed) → Room bound at left → FormulaStands s n at left g f → Room bound (f .next) (f .left)
+  room-after-formula f h stands = (
     omega (arith, stands .nodes),
     omega (arith, stands .nodes, stands .ends, length-formula (f .formula)),
   )
+
+-- ---- files that agree
 
 module _ (s t : List ℕ) (a : Agree 257 s t) where
   pattern-agrees : (at : ℕ) → at + 3 < 257 → patternAt s at ≡ patternAt t at
@@ -72,9 +75,9 @@ module _ (s t : List ℕ) (a : Agree 257 s t) where
   formula-agrees zero n at left g h = absurd (omega arith)
   formula-agrees (suc bound) n at left g h =
       rw (formula-step s n at left g, formula-step t n at left g)
-      (both-agree (nodeAt s n at left g) (nodeAt t n at left g) _ _ (node-agrees n at left g (h .1)) (λ r e.
-      let (stands, room) = after-node bound s n at left g r h e in
-      parts-same s n (Room bound) (after-formula bound s n) (formulaOf s n) (formulaOf t n) (formula-sound s n) (formula-agrees bound n)
+      (andThen-agree-both (nodeAt s n at left g) (nodeAt t n at left g) _ _ (node-agrees n at left g (h .1)) (λ r e.
+      let (stands, room) = room-after-node bound s n at left g r h e in
+      parts-same s n (Room bound) (room-after-formula bound s n) (formulaOf s n) (formulaOf t n) (formula-sound s n) (formula-agrees bound n)
       at (left - 1) g stands room))
 
   formats-agree : FormatsAgree (patternFormat s) (patternFormat t) 4 257
@@ -93,14 +96,14 @@ module _ (s t : List ℕ) (a : Agree 257 s t) where
       → andThen (formulaOf s n at 64 []) (endOfFile s ps) ≡ andThen (formulaOf t n at 64 []) (endOfFile t ps)
   formula-ends ps n at h =
       let room : Room 65 at 64 = (omega arith, omega arith) in
-      both-agree (formulaOf s n at 64 []) (formulaOf t n at 64 []) _ _ (formula-agrees 65 n at 64 [] room) (λ f e.
-      let (fewer, fits) = after-formula 65 s n at 64 [] f room (formula-sound s n at 64 [] f e) in
+      andThen-agree-both (formulaOf s n at 64 []) (formulaOf t n at 64 []) _ _ (formula-agrees 65 n at 64 [] room) (λ f e.
+      let (fewer, fits) = room-after-formula 65 s n at 64 [] f room (formula-sound s n at 64 [] f e) in
       end-of-file-agrees ps f (omega arith))
 
   rule-agrees : ruleOf s ≡ ruleOf t
   unfolding ruleOf
   rule-agrees =
-      both-agree (patternsAt 32 s 0) (patternsAt 32 t 0) _ _ (records-agree _ _ 4 257 formats-agree 32 0 (omega arith)) (λ ps e.
+      andThen-agree-both (patternsAt 32 s 0) (patternsAt 32 t 0) _ _ (records-agree _ _ 4 257 formats-agree 32 0 (omega arith)) (λ ps e.
       formula-ends (ps .list) (length (ps .list)) (ps .next) (records-next (patternFormat s) 4 (λ p. omega arith) 32 0 ps e))
 
 pub first-bytes : SettledByFirstBytes

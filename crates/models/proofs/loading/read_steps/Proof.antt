@@ -64,6 +64,8 @@ use Rattle.models.proofs.loading.read_steps.Proof.Iteration.{State, sta
 mod Calls
 mod Iteration
 
+-- ---- the walk
+
 abbrev stayed : Stays (read-steps.ended .signature .params) (read-steps.ended .kept)
 stayed = (stay-none-slice (0 ∷ []) tt (plain (λ _. u8)) yes, (stay-none (λ _. usize) yes, (stay-slice (1 ∷ []) tt (plain (λ _. R)), tt)))
 
@@ -160,6 +162,8 @@ module _ {M : Type 1} (𝓤 : URA M) (H : Heap 𝓤) (A : Atoms 𝓤) (W : Given
         where
           first-ask : NextStep 𝓤 H A mem run .Ghost
           first-ask = to-next κ b o γ f states 0 2 𝓤 H A W mem run q
+
+-- ---- the contract
 
 pub read-steps-spec : {M : Type 1} → stated.statement M
 unfolding code.routine tablesOf

@@ -7,7 +7,7 @@ use lib.ListN.{getD}
 use borrow.Author.Tests.{eqb-true, eqb-false, not-true, not-false}
 use borrow.Author.Needs.{needs}
 use Rattle.models.specs.Phone.{silentStepKind, isStep}
-use Rattle.models.proofs.Files.StepLaws.{a-step}
+use Rattle.models.proofs.Files.StepLaws.{step-tested}
 use Rattle.models.proofs.Files.RecordChecks.{no-step, no-step-left, code-step, silent-step}
 use Rattle.models.proofs.records.read_step.Statement.{statement}
 use Rattle.models.proofs.records.read_step.Tie as tie
@@ -18,7 +18,7 @@ module _ (c : tie.Joined1) where
   kind = getD (c .before .before .before .args .bytes .now) (c .before .before .before .args .at) 0
 
   is-step : isStep kind ≡ true
-  is-step = a-step kind (⊎-elim (λ w. inr (eqb-true kind silentStepKind (not-false _ (w .1 .left)))) (λ w. inl (w .left)) (c .if1 .came))
+  is-step = step-tested kind (⊎-elim (λ w. inr (eqb-true kind silentStepKind (not-false _ (w .1 .left)))) (λ w. inl (w .left)) (c .if1 .came))
 
 shared-slice-read-kind : tie.Need-shared-slice-read-kind
 shared-slice-read-kind c = search needs

@@ -16,6 +16,8 @@ use Rattle.reading.proofs.Accepting.PatternBytes.{PatternStands, patter
 use Rattle.reading.proofs.patterns.read_patterns.Statement.{statement}
 use Rattle.reading.proofs.patterns.read_patterns.Tie as tie
 
+-- ---- the loop, and what is known in it
+
 abbrev Inv-loop : tie.InvT-loop
 Inv-loop bytes list₀ extents₀ at₀ n₀ list extents at n = PatternsBegun bytes list extents at n
 
@@ -49,6 +51,8 @@ module _ (c : tie.After-known-told Inv-loop μ-loop) where
   stands =
       let file = c .before .before .before .before .before .before .before .before .before .before in
       pattern-stands s place _ (omega (arith, file .shared-slice-known .given (place + 1))) (record-accepted (patternFormat s) place left is-read .1)
+
+-- ---- each obligation
 
 blank-rule-requires : tie.Need-blank-rule-requires Inv-loop μ-loop
 blank-rule-requires c κs = search needs

@@ -45,6 +45,8 @@ use Rattle.models.proofs.loading.read_steps.Code.Mir as body
 use Rattle.models.proofs.loading.read_steps.Proof.Calls.{NextStep, Answered, to-next, asks-next, next-told, PutStep, to-put, asks-put, put-told}
 
 -- what is read before a turn: what comes next, and the records so far
+-- ---- what is read, and how many records are left
+
 module _ (f : List ℕ) (states count : ℕ) where
   pub record State : Type 0 where
     pub next : Next
@@ -60,6 +62,8 @@ module _ (f : List ℕ) (states count : ℕ) where
   -- how many records are left
   abbrev pub left : State → ℕ
   left t = 512 - t .next .n
+
+-- ---- the locals, and one turn
 
 abbrev fileTy : Ty
 fileTy = sliceTy (tyRef (named 0) imm (tyInt w8))
