@@ -8,7 +8,7 @@ use lib.Dec.{eqb}
 use lib.Seq.{sets}
 use Rattle.reading.specs.Pattern.{extentOf}
 use Rattle.reading.specs.File.{Outcome, accepted, refused, refuse, andThen, byCase, RecordFormat, Records, recordsAt, NodeRecord, Parsed}
-use Rattle.reading.specs.Rule.{Guards, Symbol, Truth, Falsity, Both, Max, Necessity, Variable, kindByte}
+use Rattle.reading.specs.Rule.{Guards, Symbol, kindByte, bodyBytes}
 use Rattle.reading.specs.Numbered.{kinds, args, padded, noPattern, noExtent}
 use Rattle.reading.specs.declared.Pattern.{Pattern}
 use Rattle.reading.specs.declared.Acceptance.{Acceptance}
@@ -29,14 +29,9 @@ use Rattle.reading.specs.declared.formulas.FormulaRead as FormulaRead′
 abbrev pub patternRead : Outcome Pattern → PatternRead
 patternRead = byCase PatternRead′.the-variants.Read PatternRead′.the-variants.Refused
 
--- the byte of a symbol's body
+-- the byte of a symbol's body, 0 where it has none
 abbrev pub bodyByte : Symbol → ℕ
-bodyByte Truth = 0
-bodyByte Falsity = 0
-bodyByte Both = 0
-bodyByte (Necessity p) = p
-bodyByte Max = 0
-bodyByte (Variable d) = d
+bodyByte x = getD (bodyBytes x) 0 0
 
 abbrev pub nodeOf : NodeRecord → Record
 nodeOf r = record { kind = kindByte (r .symbol); body = bodyByte (r .symbol); next = r .next }

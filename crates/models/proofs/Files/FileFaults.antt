@@ -177,7 +177,8 @@ module _ (f : List ℕ) (bytes : Bytes f) where
   fault-refuses (count-cut (inside, kind) cut) =
       first-refused f (byCase-refused states-cases (λ n. n) (statesOf f) _ _ (Checks.states-cut f (λ z. omega arith) kind (omega arith)))
   fault-refuses (step-cut m kind few cut) = cut-refused m few kind cut
-  fault-refuses (not-count (inside, other)) = first-refused f (byCase-refused states-cases (λ n. n) (statesOf f) _ _ (Checks.other-kind f (λ z. omega arith) other))
+  fault-refuses (not-count (inside, other)) =
+      first-refused f (byCase-refused states-cases (λ n. n) (statesOf f) _ _ (Checks.other-kind f (λ z. omega arith) other))
   fault-refuses (bad-count (inside, kind) whole (inl none)) =
       first-refused f (byCase-refused states-cases (λ n. n) (statesOf f) _ _ (Checks.no-states f (λ z. omega arith) kind (λ z. omega arith) none))
   fault-refuses (bad-count (inside, kind) whole (inr many)) =

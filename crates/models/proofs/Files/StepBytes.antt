@@ -3,18 +3,18 @@ use mathlib.Core.Path.{_≡_, refl, sym, ap, _∙_, subst}
 use mathlib.Core.Logic.{_↔_, inl, inr}
 use mathlib.Core.Bool.{Bool, true, false, cond, not}
 use mathlib.Core.List.{List, _∷_, _++_, append-nil}
-use Prim.Native.Nat.{ℕ, zero, _+_, _≤_, _<_}
+use Prim.Native.Nat.{ℕ, _+_, _≤_, _<_}
 use native.Mathlib.Omega.{arith}
 use lib.ListN.{length, getD, drop, length-drop, length-append, drop-of-length-le}
 use lib.Dec.{eqb, leb}
 use borrow.Author.Tests.{ltb-true, leb-false, eqb-true, lt-leb, lt-ltb, le-ltb, ne-eqb, not-false}
 use Rattle.reading.specs.Rule.{All, Bytes}
 use Rattle.reading.specs.Faults.{KindAt}
-use Rattle.reading.specs.File.{accepted, refused, Records, recordsAt}
+use Rattle.reading.specs.File.{accepted, refused, Records}
 use Rattle.reading.proofs.Basics.ByteLaws.{byte-at}
 use Rattle.reading.proofs.Basics.Outcomes.{refuse-accepted}
 use Rattle.reading.proofs.Basics.Places.{Byte, from-byte, from-place, byte-of, first-byte, rest-after}
-use Rattle.reading.proofs.RecordLists.RecordsAccepted.{ReadsRecords, FindsRecords, RecordsStand, records-after, records-read, records-accept}
+use Rattle.reading.proofs.RecordLists.RecordsAccepted.{ReadsRecords, FindsRecords, RecordsStand, records-read, records-full, records-accept}
 use Rattle.models.specs.Phone.{WellFormedStep, codeStepKind, silentStepKind, recordBytes, encodeStep, encodeSteps}
 use Rattle.models.specs.Phone.{endingAt, codeStepAt, silentStepAt, isStep, stepAt, recordLength, stepFormat, stepsAt}
 use Rattle.models.specs.Faults.{IsStep, afterStep}
@@ -173,10 +173,9 @@ module _ (f : List ℕ) (states : ℕ) where
   pub steps-full : (xs : List Step) (at left kind : ℕ) (rest : List ℕ) → All (WellFormedStep states) xs → length xs ≡ left
       → drop at f ≡ encodeSteps xs ++ (kind ∷ rest)
       → stepsAt left f states at ≡ refused (cond (isStep kind) 14 12) (at + length (encodeSteps xs))
-  unfolding recordsAt
   steps-full xs at left kind rest all full from =
       let next = at + length (encodeSteps xs) in
       let b = first-byte f next (rest-after f at (encodeSteps xs) from) in
-      records-after f (stepFormat f states) encodeStep (WellFormedStep states) reads-steps xs at next zero left (kind ∷ rest) all from refl
-      (omega arith)
-      ∙ rw (lt-ltb next (length f) (b .inside), b .is)
+      records-full f (stepFormat f states) encodeStep (WellFormedStep states) reads-steps xs at left (kind ∷ rest) all full from
+      (lt-ltb next (length f) (b .inside))
+      ∙ rw (b .is)

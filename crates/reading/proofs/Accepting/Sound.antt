@@ -49,7 +49,11 @@ module _ (s : List ℕ) (n : ℕ) (read : Reader) (sound : Sound s n read) (at l
       let stands′ = sound (a .next) (a .left) g h (second .1) in
       subst Whole (accepted-is (second .2)) (record {
         well-formed = (stands .well-formed, stands′ .well-formed);
-        bytes = from-byte (at + 1) b refl ∙ rw (stands .bytes, stands′ .bytes, append-assoc (encodeFormula (a .formula)) (encodeFormula (h .formula)) (drop (h .next) s));
+        bytes = from-byte (at + 1) b refl ∙ rw (
+          stands .bytes,
+          stands′ .bytes,
+          append-assoc (encodeFormula (a .formula)) (encodeFormula (h .formula)) (drop (h .next) s),
+        );
         ends = omega (arith, stands .ends, stands′ .ends, length-append (encodeFormula (a .formula)) (encodeFormula (h .formula)));
         nodes = omega (arith, stands .nodes, stands′ .nodes);
       })

@@ -53,31 +53,31 @@ module _ (left : ℕ) (pos : 0 < left) (few : left ≤ 64) (ms ms′ ks gs : Lis
 module _ (left argument : ℕ) (pos : 0 < left) (few : left ≤ 64) (ms ks gs : List ℕ)
     (f : Parsed) (takes : size (f .formula) + f .left ≡ left - 1) where
   -- the node itself, and its second part
-  abbrev here : ℕ
-  here = 64 - left
+  abbrev own : ℕ
+  own = 64 - left
 
   abbrev second : ℕ
-  second = here + suc (size (f .formula))
+  second = own + suc (size (f .formula))
 
   two-parts : (o : Outcome Parsed) {ks′ gs′ ks″ gs″ : List ℕ} {r : FormulaRead}
-      → ks′ ≡ sets (set ks here bothKind) (64 - (left - 1)) (kinds (64 - (left - 1)) ms (f .formula))
-      → gs′ ≡ sets (set gs here argument) (64 - (left - 1)) (args (64 - (left - 1)) ms (f .formula))
-      → Reads o (f .left) ms ks′ (set gs′ here (64 - f .left)) ks″ gs″ r
+      → ks′ ≡ sets (set ks own bothKind) (64 - (left - 1)) (kinds (64 - (left - 1)) ms (f .formula))
+      → gs′ ≡ sets (set gs own argument) (64 - (left - 1)) (args (64 - (left - 1)) ms (f .formula))
+      → Reads o (f .left) ms ks′ (set gs′ own (64 - f .left)) ks″ gs″ r
       → Reads (andThen o (under (both (f .formula)))) left ms ks gs ks″ gs″ r
   two-parts (accepted g) ek ea h =
-      let first-is : 64 - (left - 1) ≡ suc here = omega arith in
+      let first-is : 64 - (left - 1) ≡ suc own = omega arith in
       let second-is : 64 - f .left ≡ second = omega arith in
-      let after-kinds : second ≡ suc here + length (kinds (suc here) ms (f .formula)) = omega (arith, kinds-size (suc here) ms (f .formula)) in
-      let after-args : second ≡ suc here + length (args (suc here) ms (f .formula)) = omega (arith, args-size (suc here) ms (f .formula)) in
+      let after-kinds : second ≡ suc own + length (kinds (suc own) ms (f .formula)) = omega (arith, kinds-size (suc own) ms (f .formula)) in
+      let after-args : second ≡ suc own + length (args (suc own) ms (f .formula)) = omega (arith, args-size (suc own) ms (f .formula)) in
       record {
         answer = h .answer;
         written = (
           h .written .0
               ∙ rw (ek, first-is, second-is)
-              (two-lists ks here bothKind (kinds (suc here) ms (f .formula)) (kinds second ms (g .formula)) second after-kinds),
+              (two-lists ks own bothKind (kinds (suc own) ms (f .formula)) (kinds second ms (g .formula)) second after-kinds),
           h .written .1
               ∙ rw (ea, first-is, second-is)
-              (two-lists-over gs here argument second (args (suc here) ms (f .formula)) (args second ms (g .formula)) second after-args),
+              (two-lists-over gs own argument second (args (suc own) ms (f .formula)) (args second ms (g .formula)) second after-args),
         );
       }
   two-parts (refused number place) ek ea h = record { answer = h .answer; written = tt }
@@ -87,7 +87,12 @@ module _ (left argument : ℕ) (pos : 0 < left) (few : left ≤ 64) (ms ks gs : 
 -- the symbol of a kind and a body
 abbrev symbolFor : (kind body : ℕ) → Symbol
 symbolFor k b =
-    cond (eqb k truthKind) Truth (cond (eqb k falsityKind) Falsity (cond (eqb k bothKind) Both (cond (eqb k necessityKind) (Necessity b) (cond (eqb k maxKind) Max (Variable b)))))
+    cond (eqb k truthKind) Truth
+    (cond (eqb k falsityKind) Falsity
+    (cond (eqb k bothKind) Both
+    (cond (eqb k necessityKind) (Necessity b)
+    (cond (eqb k maxKind) Max
+    (Variable b)))))
 
 symbol-is : (x : Symbol) → symbolFor (kindByte x) (bodyByte x) ≡ x
 symbol-is Truth = refl
@@ -157,7 +162,8 @@ module _ (s : List ℕ) (n at left : ℕ) (g : Guards) (ms ks gs : List ℕ) whe
   pub node-refused : (found : NodeRead) {number place : ℕ} {r : FormulaRead} {ks′ gs′ : List ℕ} → found ≡ nodeRead (nodeAt s n at left g)
       → found ≡ NodeRead′.Refused number place → r ≡ passedUp found → Whole ks′ gs′ r
   node-refused found {number} {place} told is e =
-      reads-as {o = refused number place} (formula-step s n at left g ∙ rw (byCase-refused node-cases nodeOf (nodeAt s n at left g) number place (sym is ∙ told)))
+      reads-as {o = refused number place}
+      (formula-step s n at left g ∙ rw (byCase-refused node-cases nodeOf (nodeAt s n at left g) number place (sym is ∙ told)))
       (record { answer = e ∙ ap passedUp is; written = tt })
 
   module _ (node : Record) (found : Found s n at left g node) where
@@ -205,17 +211,18 @@ module _ (s : List ℕ) (n at left : ℕ) (g : Guards) (ms ks gs : List ℕ) whe
 
     -- the first part of a "both", and what `read_formula` found there
     module _ (k : node .kind ≡ bothKind) (few : left ≤ 64) {ks′ gs′ : List ℕ} (first : FormulaRead) (h : Part ms g ks′ gs′ first) where
-      abbrev one : Outcome Parsed
-      one = formulaOf s n (node .next) (left - 1) g
+      abbrev first-part : Outcome Parsed
+      first-part = formulaOf s n (node .next) (left - 1) g
 
-      both-step : formulaOf s n at left g ≡ andThen one (λ f. andThen (formulaOf s n (f .next) (f .left) g) (under (both (f .formula))))
+      both-step : formulaOf s n at left g ≡ andThen first-part (λ f. andThen (formulaOf s n (f .next) (f .left) g) (under (both (f .formula))))
       both-step = step-as found Both (rw k)
 
       pub both-refused : {number place : ℕ} → first ≡ FormulaRead′.Refused number place → Whole ks′ gs′ first
       both-refused {number} {place} e =
-          reads-as {o = refused number place} (both-step ∙ rw (byCase-refused formula-cases restOf one number place (sym e ∙ h .answer))) (record { answer = e; written = tt })
+          reads-as {o = refused number place}
+          (both-step ∙ rw (byCase-refused formula-cases restOf first-part number place (sym e ∙ h .answer))) (record { answer = e; written = tt })
 
-      second-part : (f : Parsed) → one ≡ accepted f → {ks″ gs″ : List ℕ} {r : FormulaRead}
+      second-part : (f : Parsed) → first-part ≡ accepted f → {ks″ gs″ : List ℕ} {r : FormulaRead}
           → Reads (formulaOf s n (f .next) (f .left) g) (f .left) ms ks′ (set gs′ (64 - left) (64 - f .left)) ks″ gs″ r → Whole ks″ gs″ r
       second-part f e h′ =
           let w = rw e at (h .written) in
@@ -226,4 +233,4 @@ module _ (s : List ℕ) (n at left : ℕ) (g : Guards) (ms ks gs : List ℕ) whe
       pub reads-both : (rest : Rest) → first ≡ FormulaRead′.Read rest → {ks″ gs″ : List ℕ} {r : FormulaRead}
           → Reads (formulaOf s n (rest .next) (rest .left) g) (rest .left) ms ks′ (set gs′ (64 - left) (64 - rest .left)) ks″ gs″ r
           → Whole ks″ gs″ r
-      reads-both rest e h′ = let a = byCase-accepted formula-cases restOf one rest (sym e ∙ h .answer) in second-part (a .0) (a .1) (rw (a .2) at h′)
+      reads-both rest e h′ = let a = byCase-accepted formula-cases restOf first-part rest (sym e ∙ h .answer) in second-part (a .0) (a .1) (rw (a .2) at h′)

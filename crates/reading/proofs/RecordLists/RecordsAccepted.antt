@@ -62,6 +62,13 @@ module _ {A : Type 0} (s : List ℕ) (r : RecordFormat A) (bytes : A → List �
         (omega (arith, h .few))
         ∙ rw (records-end r (xs .next) (left - length (xs .list)) (h .over), append-nil (xs .list))
 
+    -- after as many records as are left, one more is too many
+    pub records-full : (xs : List A) (at left : ℕ) (rest : List ℕ) → All Fit xs → length xs ≡ left → drop at s ≡ encodeEach bytes xs ++ rest
+        → let next = at + length (encodeEach bytes xs) in r .more next ≡ true → recordsAt r left at ≡ refused (r .tooMany next) next
+    unfolding recordsAt
+    records-full xs at left rest all full from more =
+        records-after xs at (at + length (encodeEach bytes xs)) zero left rest all from refl (omega arith) ∙ rw more
+
   -- ---- what is read stands
 
   module _ (k : FindsRecords) where

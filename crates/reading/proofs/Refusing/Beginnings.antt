@@ -10,9 +10,10 @@ use Rattle.reading.specs.Rule.{Formula, Guards, WellFormed, Rule, All, S
 use Rattle.reading.specs.Faults.{Record, node, recordsBytes, Bound, Begins, BeginsRule, BeginsBound, IsRule}
 use Rattle.reading.specs.declared.Pattern.{Pattern}
 use Rattle.reading.proofs.Basics.AllLaws.{all-front}
-use Rattle.reading.proofs.Refusing.Contexts.{Contexts, guards, depths, Fits, Consumes, done, consumes-same, consumes-split, formula-consumes, truths, consumes-completes}
-use Rattle.reading.proofs.Refusing.Contexts.{symbols, well-formed-fits, fits-well-formed, bound-fits, fits-bound}
-use Rattle.reading.proofs.Refusing.Records.{records, records-bytes-append, records-front, records-bytes-same, rule-bytes, records-append-nodes, records-same, FrontOf, front-shape}
+use Rattle.reading.proofs.Refusing.Contexts.{Contexts, guards, depths, Fits, Consumes, done, consumes-same, consumes-split, formula-consumes, truths}
+use Rattle.reading.proofs.Refusing.Contexts.{consumes-completes, symbols, well-formed-fits, fits-well-formed, bound-fits, fits-bound}
+use Rattle.reading.proofs.Refusing.Records.{records, records-bytes-append, records-front, records-bytes-same, rule-bytes, records-append-nodes}
+use Rattle.reading.proofs.Refusing.Records.{records-same, FrontOf, front-shape}
 
 -- the patterns and the symbols of the records, and what is due after them
 pub record Shape (K : Contexts) (first : K .Context) (xs : List Record) : Type 0 where

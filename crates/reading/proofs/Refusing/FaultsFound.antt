@@ -12,13 +12,13 @@ use borrow.Author.Tests.{ltb-true, ltb-false, leb-true, leb-false, eqb-true, eqb
 use Rattle.reading.specs.Pattern.{WellFormedPattern}
 use Rattle.reading.specs.Rule.{Guards, Bytes, patternKind, necessityKind, variableKind}
 use Rattle.reading.specs.File.{refused, andThen, patternAt, isPattern, necessityAt, variableAt, nodeAt}
-use Rattle.reading.specs.Faults.{Unfinished, KindAt, IsPattern, HasBody, NoKind, Fault, file-ended, pattern-cut, node-cut, no-kind, after-rule, late-pattern}
-use Rattle.reading.specs.Faults.{pattern-33, node-65, bad-pattern, names-nothing, unguarded}
+use Rattle.reading.specs.Faults.{Unfinished, KindAt, IsPattern, HasBody, NoKind, Fault, file-ended, pattern-cut, node-cut, no-kind, after-rule}
+use Rattle.reading.specs.Faults.{late-pattern, pattern-33, node-65, bad-pattern, names-nothing, unguarded}
 use Rattle.reading.proofs.Basics.ByteLaws.{byte-at}
 use Rattle.reading.proofs.Basics.Outcomes.{neither, refuse-refused, never-refused, andThen-refused}
 use Rattle.reading.proofs.Basics.Places.{Byte}
-use Rattle.reading.proofs.Accepting.NodeBytes.{bare-truth, bare-falsity, bare-both, bare-max, NodeKind, bare-kind, necessity-kind, variable-kind, node-kind, ofKind}
-use Rattle.reading.proofs.Accepting.NodeBytes.{node-accepts}
+use Rattle.reading.proofs.Accepting.NodeBytes.{bare-truth, bare-falsity, bare-both, bare-max, NodeKind, bare-kind, necessity-kind, variable-kind}
+use Rattle.reading.proofs.Accepting.NodeBytes.{node-kind, ofKind, node-accepts}
 use Rattle.reading.proofs.Accepting.PatternBytes.{pattern-stands, pattern-kind}
 use Rattle.reading.proofs.Refusing.Contexts.{guards, parts, done}
 use Rattle.reading.proofs.Refusing.LeftToRight.{dueAt, due-over, headAt}
@@ -50,7 +50,8 @@ module _ {s : List ℕ} {at n m : ℕ} {g : Guards} {due : List Guards} (h : Rea
       (λ f e′.
       let whole : at + 1 < length s = leb-false _ _ f in
       refuse-refused (Fault s) (leb n (getD s (at + 1) 0)) 6 at _ e′
-      (λ t. names-nothing (read-unfinished h) kind few (omega arith) (λ begins. omega (arith, leb-true n (getD s (at + 1) 0) t, node-bound h (necessity-here s at b whole) begins)))
+      (λ t. names-nothing (read-unfinished h) kind few (omega arith)
+      (λ begins. omega (arith, leb-true n (getD s (at + 1) 0) t, node-bound h (necessity-here s at b whole) begins)))
       (λ f′ e″. absurd (never-refused e″)))
 
   variable-fault : Byte s at variableKind → m < 64 → variableAt s g at ≡ refused number place → Fault s number place
@@ -62,7 +63,8 @@ module _ {s : List ℕ} {at n m : ℕ} {g : Guards} {due : List Guards} (h : Rea
       let whole : at + 1 < length s = leb-false _ _ f in
       let here = variable-here s at b whole in
       refuse-refused (Fault s) (leb (length g) depth) 6 at _ e′
-      (λ t. names-nothing (read-unfinished h) (b .inside, inr (b .is)) few (omega arith) (λ begins. omega (arith, leb-true (length g) depth t, node-bound h here begins)))
+      (λ t. names-nothing (read-unfinished h) (b .inside, inr (b .is)) few (omega arith)
+      (λ begins. omega (arith, leb-true (length g) depth t, node-bound h here begins)))
       (λ f′ e″.
       let bound : depth < length g = leb-false _ _ f′ in
       refuse-refused (Fault s) (not (getD g depth false)) 7 at _ e″
@@ -138,7 +140,8 @@ module _ {s : List ℕ} {at n : ℕ} (h : ReadTo s at n 0 ([] ∷ [])) (b : Byte
   -- a pattern that isn't well formed
   unfit-fault : (few : n < 32) → at + 3 < length s
       → (WellFormedPattern (record { mask = getD s (at + 1) 0; first = getD s (at + 2) 0; last = getD s (at + 3) 0 }) → ⊥) → Fault s 5 at
-  unfit-fault few whole unfit = bad-pattern (read-unfinished h) kind few (omega arith) (λ begins. unfit (pattern-well-formed h (pattern-here s at b whole) begins))
+  unfit-fault few whole unfit =
+      bad-pattern (read-unfinished h) kind few (omega arith) (λ begins. unfit (pattern-well-formed h (pattern-here s at b whole) begins))
 
   pattern-fault : {number place : ℕ} → n < 32 → patternAt s at ≡ refused number place → Fault s number place
   pattern-fault few e =

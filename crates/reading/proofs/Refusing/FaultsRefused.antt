@@ -155,7 +155,8 @@ module _ {s : List ℕ} {at n : ℕ} {due : List Guards} (h : ReadTo s at n 0 du
   pattern-refused : {number place : ℕ} → recordAt (patternFormat s) (32 - n) at ≡ refused number place → headAt s 32 0 0 ≡ refused number place
   pattern-refused e = headAt-to-pattern h ∙ head-refused s (32 - n) n at (rw (lt-ltb at (length s) (kind .0), kind .1)) e
 
-  pattern-case-refused : {number place : ℕ} → PatternRead.Refused number place ≡ patternRead (recordAt (patternFormat s) (32 - n) at) → headAt s 32 0 0 ≡ refused number place
+  pattern-case-refused : {number place : ℕ} → PatternRead.Refused number place ≡ patternRead (recordAt (patternFormat s) (32 - n) at)
+      → headAt s 32 0 0 ≡ refused number place
   pattern-case-refused e = pattern-refused (byCase-refused pattern-cases (λ p. p) (recordAt (patternFormat s) (32 - n) at) _ _ e)
 
   pattern-33-refused : n ≡ 32 → headAt s 32 0 0 ≡ refused 4 at
@@ -165,7 +166,8 @@ module _ {s : List ℕ} {at n : ℕ} {due : List Guards} (h : ReadTo s at n 0 du
   pattern-cut-refused few cut = pattern-case-refused (checks.pattern-cut s at (32 - n) (λ z. omega arith) (omega arith))
 
   -- whole and one of the 32, it can be refused with 5 only
-  unfit-refused-with-5 : {number place : ℕ} → n < 32 → at + 4 ≤ length s → recordAt (patternFormat s) (32 - n) at ≡ refused number place → FiveAt at number place
+  unfit-refused-with-5 : {number place : ℕ} → n < 32 → at + 4 ≤ length s
+      → recordAt (patternFormat s) (32 - n) at ≡ refused number place → FiveAt at number place
   unfit-refused-with-5 few whole e =
       refuse-refused (FiveAt at) (eqb (32 - n) 0) 4 at _ e (λ t. absurd (omega (arith, eqb-true (32 - n) 0 t))) (λ f e₁.
       refuse-refused (FiveAt at) (leb (length s) (at + 3)) 1 (length s) _ e₁ (λ t. absurd (omega (arith, leb-true (length s) (at + 3) t))) (λ f₁ e₂.

@@ -83,7 +83,10 @@ module _ {s : List ℕ} {at n m : ℕ} {due : List Guards} (h : ReadTo s at n m 
   front-nodes = recordsBytes (map node (h .nodes))
 
   front-bytes : take at s ≡ front-patterns ++ front-nodes
-  front-bytes = h .are ∙ (records-bytes-append (map pattern (h .patterns)) (map node (h .nodes)) ∙ ap (λ (l : List ℕ). l ++ front-nodes) (pattern-bytes (h .patterns)))
+  front-bytes =
+      h .are
+      ∙ (records-bytes-append (map pattern (h .patterns)) (map node (h .nodes))
+      ∙ ap (λ (l : List ℕ). l ++ front-nodes) (pattern-bytes (h .patterns)))
 
   place-is : at ≡ length front-patterns + length front-nodes
   place-is = sym (length-take-le at s (h .inside)) ∙ (ap length front-bytes ∙ length-append front-patterns front-nodes)

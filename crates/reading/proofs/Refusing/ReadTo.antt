@@ -11,8 +11,10 @@ use Rattle.reading.specs.Rule.{Guards, All, Symbol}
 use Rattle.reading.specs.Faults.{Record, pattern, node, recordBytes, recordsBytes, BeginsRule, BeginsBound, IsRule, Front, Unfinished}
 use Rattle.reading.specs.declared.Pattern.{Pattern}
 use Rattle.reading.proofs.Basics.AllLaws.{all-append, all-last}
-use Rattle.reading.proofs.Refusing.Contexts.{Contexts, guards, depths, Allows, parts, Consumes, done, more, consumes-same, consumes-split, consumes-join, consumes-unguarded}
-use Rattle.reading.proofs.Refusing.Records.{records, records-bytes-append, patterns-in, nodes-in, records-append-nodes, records-append-pattern, records-same}
+use Rattle.reading.proofs.Refusing.Contexts.{Contexts, guards, depths, Allows, parts, Consumes, done, more, consumes-same, consumes-split, consumes-join}
+use Rattle.reading.proofs.Refusing.Contexts.{consumes-unguarded}
+use Rattle.reading.proofs.Refusing.Records.{records, records-bytes-append, patterns-in, nodes-in, records-append-nodes, records-append-pattern}
+use Rattle.reading.proofs.Refusing.Records.{records-same}
 use Rattle.reading.proofs.Refusing.Beginnings.{Shape, rule-shape, shape-begins, bound-shape, shape-bound, shape-rule, rule-nothing-due}
 
 pub record ReadTo (s : List ℕ) (at n m : ℕ) (due : List Guards) : Type 0 where

@@ -42,7 +42,9 @@ module _ (c : tie.After-known-told Inv-loop μ-loop) where
   left = 32 - c .before .before .before .before .before .before .loop .n
 
   is-read : recordAt (patternFormat s) left place ≡ accepted (c .before .found .given .0 .0)
-  is-read = byCase-value pattern-cases (recordAt (patternFormat s) left place) _ (sym (c .before .found .given .1) ∙ c .before .before .before .read-pattern .ensures)
+  is-read =
+      byCase-value pattern-cases (recordAt (patternFormat s) left place) _
+      (sym (c .before .found .given .1) ∙ c .before .before .before .read-pattern .ensures)
 
   some-left : 0 < left
   some-left = record-accepted (patternFormat s) place left is-read .0
