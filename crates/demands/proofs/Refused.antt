@@ -11,7 +11,7 @@ use lib.ListN.{length}
 use borrow.Author.Tests.{ltb-true, ltb-false}
 use Rattle.reading.specs.Rule.{Rule, Bytes}
 use Rattle.reading.specs.File.{accepted, refused, ruleOf}
-use Rattle.reading.proofs.Basics.Outcomes.{found, never-refused, refused-by}
+use Rattle.reading.proofs.Basics.Outcomes.{refuse-refused, never-refused, andThen-refused}
 use Rattle.reading.proofs.Accepting.Accepted.{reading-accepts}
 use Rattle.reading.proofs.Refusing.FaultsRefused.{answer-refused, refuses-at-the-fault}
 use Rattle.synthesis.specs.Answering.{unsatisfiable}
@@ -37,10 +37,10 @@ module _ (s : List ℕ) (bytes : Bytes s) where
   rule-found r read number place e =
       let (w, is) = reading-accepts s bytes r .0 read in
       let outcome : synthesisOf 128 s ≡ synthesisOfRule 128 r = synthesis-of 128 s r read in
-      found (CountRefused s) (unsatisfiable r) 8 0 _ e
+      refuse-refused (CountRefused s) (unsatisfiable r) 8 0 _ e
       (λ t. no-model r w is (eight r read .0 (rw (outcome, t))))
       (λ f e′.
-      found (CountRefused s) (ltb 128 (length (equationsOf 128 r))) 9 0 _ e′
+      refuse-refused (CountRefused s) (ltb 128 (length (equationsOf 128 r))) 9 0 _ e′
       (λ t.
       let other : Counts 8 0 → ⊥ = λ e″. let z : Counted.Refused 9 0 ≡ Counted.Refused 8 0 = rw (outcome, f, t) at e″ in
       let y : _≡_ {A = ℕ} 9 8 = cc in omega arith in
@@ -51,7 +51,7 @@ module _ (s : List ℕ) (bytes : Bytes s) where
   count-found : (number place : ℕ) → Counts number place → CountRefused s number place
   unfolding synthesisOf
   count-found number place e =
-      refused-by (ruleOf s) (synthesisOfRule 128) (counted-refuses (synthesisOf 128 s) number place e)
+      andThen-refused (ruleOf s) (synthesisOfRule 128) (counted-refuses (synthesisOf 128 s) number place e)
       (λ e′. in-file (refuses-at-the-fault s bytes number place .0 (answer-refused (ruleOf s) number place .0 e′)))
       (λ r read e′. rule-found r read number place e′)
 

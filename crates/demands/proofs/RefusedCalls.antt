@@ -8,7 +8,7 @@ use native.Mathlib.Omega.{arith}
 use lib.ListN.{length}
 use Rattle.reading.specs.Rule.{Bytes}
 use Rattle.reading.specs.File.{Outcome, accepted, refused}
-use Rattle.reading.proofs.Basics.Outcomes.{found, never-refused, refused-by}
+use Rattle.reading.proofs.Basics.Outcomes.{refuse-refused, never-refused, andThen-refused}
 use Rattle.synthesis.specs.Building.{buildingOf, countedOf}
 use Rattle.synthesis.proofs.Tables.Synthesized.{building-accepts, counted-accepts, counted-refuses}
 use Rattle.running.specs.Running.{hasRoom, fits, Run, runOf, checkedOf, resultOf}
@@ -43,10 +43,10 @@ module _ (table : List ℕ) (count : ℕ) (s : State) (scans : List ℕ) (output
   unfolding runOf
   run-found number place e =
       let runs = runs-on-tables 128 255 table count s scans output verdicts in
-      found Refuses (not (hasRoom scans output verdicts)) 15 0 _ (checked-refuses (runOf 128 255 table count s scans output verdicts) number place e)
+      refuse-refused Refuses (not (hasRoom scans output verdicts)) 15 0 _ (checked-refuses (runOf 128 255 table count s scans output verdicts) number place e)
       (λ t. short-buffer (runs .short .0 (rw t)))
       (λ f e′.
-      found Refuses (not (fits 128 255 table count s)) 16 0 _ e′
+      refuse-refused Refuses (not (fits 128 255 table count s)) 16 0 _ e′
       (λ t. let (room, room′, bad) = runs .unfit .0 (rw (f, t)) in unfit room room′ (found-unfit table count s bad))
       (λ f′ e″. absurd (never-refused e″)))
 
@@ -85,11 +85,11 @@ module _ (s table f : List ℕ) (bytes : Bytes s) (bytes′ : Bytes f) where
       → JudgeRefused s (length table) f number place
   unfolding judgingOf
   judge-found number place judged =
-      refused-by (buildingOf 128 s (length table)) _ (judged-refuses (judgingOf 128 s (length table) f) number place judged)
+      andThen-refused (buildingOf 128 s (length table)) _ (judged-refuses (judgingOf 128 s (length table) f) number place judged)
       (λ e. in-building (build-refused s bytes (length table) number place .0 (ap countedOf e)))
       (λ y built e.
       let (room, enough) = building-accepts 128 s (length table) y built in
-      refused-by (phoneOf f) _ e
+      andThen-refused (phoneOf f) _ e
       (λ e′.
       in-model room (accepts-exactly 128 s table bytes room .0 (length (y .equations), ap countedOf built))
       (refuses-at-the-fault f bytes′ number place .0 (model-refused (phoneOf f) number place .0 e′)))

@@ -2,7 +2,7 @@
 use mathlib.Core.Path.{refl}
 use native.Mathlib.Omega.{arith}
 use Rattle.reading.specs.Pattern.{bit, covers, least, countBelow}
-use Rattle.reading.specs.File.{patternsAt, formulaAt, formulaOf, ruleOf}
+use Rattle.reading.specs.File.{recordsAt, formulaAt, formulaOf, ruleOf}
 use Rattle.synthesis.specs.Answering.{firstOf, answerOf, unsatisfiable}
 use Rattle.synthesis.specs.Search.{explored, found}
 use Rattle.synthesis.specs.Table.{entriesOf}
@@ -15,7 +15,7 @@ use Rattle.examples.proofs.FileAnswers.{reads, row-left}
 use Rattle.examples.proofs.Listed.{numbers}
 
 pub node-examples : NodeExamples
-unfolding ruleOf patternsAt formulaOf formulaAt unsatisfiable equationsOf found explored entriesOf firstOf answerOf bit covers least countBelow decimal decimalIn
+unfolding ruleOf recordsAt formulaOf formulaAt unsatisfiable equationsOf found explored entriesOf firstOf answerOf bit covers least countBelow decimal decimalIn
 node-examples = record {
   outer-max = numbers (nestedFile 1) (nestedRule 1) nestedSets poolListing refl refl refl (omega arith) refl;
   inner-max = reads (nestedFile 0) (nestedRule 0) refl refl nestedSets refl (omega arith);

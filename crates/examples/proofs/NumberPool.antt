@@ -6,7 +6,7 @@ use mathlib.Core.List.{List, [], _∷_, map}
 use native.Mathlib.Omega.{arith}
 use lib.ListN.{length, getD}
 use Rattle.reading.specs.Pattern.{bit, covers, least, countBelow, extentOf}
-use Rattle.reading.specs.File.{Outcome, accepted, patternsAt, formulaAt, formulaOf, ruleOf}
+use Rattle.reading.specs.File.{Outcome, accepted, recordsAt, formulaAt, formulaOf, ruleOf}
 use Rattle.synthesis.specs.Answering.{firstOf, answerOf, unsatisfiable}
 use Rattle.synthesis.specs.Search.{explored, found}
 use Rattle.synthesis.specs.Monitor.{rowOf}
@@ -28,7 +28,7 @@ abbrev poolEquations : List ℕ
 poolEquations = 2 ∷ 0 ∷ 40 ∷ []
 
 pool-read : ruleOf poolFile ≡ accepted poolRule
-unfolding ruleOf patternsAt formulaOf formulaAt
+unfolding ruleOf recordsAt formulaOf formulaAt
 pool-read = refl
 
 pool-hopeful : unsatisfiable poolRule ≡ false

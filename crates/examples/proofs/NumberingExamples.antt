@@ -2,7 +2,7 @@
 use mathlib.Core.Path.{refl}
 use native.Mathlib.Omega.{arith}
 use Rattle.reading.specs.Pattern.{bit, covers, least, countBelow}
-use Rattle.reading.specs.File.{patternsAt, formulaAt, formulaOf, ruleOf}
+use Rattle.reading.specs.File.{recordsAt, formulaAt, formulaOf, ruleOf}
 use Rattle.synthesis.specs.Answering.{firstOf, answerOf, unsatisfiable}
 use Rattle.synthesis.specs.Search.{explored, found}
 use Rattle.synthesis.specs.Table.{entriesOf}
@@ -13,7 +13,7 @@ use Rattle.examples.specs.NumberingExamples.{levelsFile, levelsRule, lev
 use Rattle.examples.proofs.Listed.{numbers}
 
 pub numbering-examples : NumberingExamples
-unfolding ruleOf patternsAt formulaOf formulaAt unsatisfiable equationsOf found explored entriesOf firstOf answerOf bit covers least countBelow decimal decimalIn
+unfolding ruleOf recordsAt formulaOf formulaAt unsatisfiable equationsOf found explored entriesOf firstOf answerOf bit covers least countBelow decimal decimalIn
 numbering-examples = record {
   crossed = numbers crossedFile crossedRule crossedSets crossedListing refl refl refl (omega arith) refl;
   levels = numbers levelsFile levelsRule levelsSets levelsListing refl refl refl (omega arith) refl;

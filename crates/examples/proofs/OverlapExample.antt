@@ -6,7 +6,7 @@ use mathlib.Core.List.{List}
 use native.Mathlib.Omega.{arith}
 use lib.ListN.{length}
 use Rattle.reading.specs.Pattern.{bit, covers, least, countBelow}
-use Rattle.reading.specs.File.{accepted, patternsAt, formulaAt, formulaOf, ruleOf}
+use Rattle.reading.specs.File.{accepted, recordsAt, formulaAt, formulaOf, ruleOf}
 use Rattle.synthesis.specs.Answering.{firstOf, answerOf, unsatisfiable}
 use Rattle.synthesis.specs.Search.{explored, found}
 use Rattle.synthesis.specs.Table.{entriesOf}
@@ -21,7 +21,7 @@ use Rattle.examples.proofs.Listed.{numbers}
 use Rattle.examples.proofs.RunAnswers.{run-left}
 
 overlap-read : ruleOf overlapFile ≡ accepted overlapRule
-unfolding ruleOf patternsAt formulaOf formulaAt
+unfolding ruleOf recordsAt formulaOf formulaAt
 overlap-read = refl
 
 overlap-hopeful : unsatisfiable overlapRule ≡ false

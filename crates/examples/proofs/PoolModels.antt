@@ -8,12 +8,12 @@ use native.Mathlib.Omega.{arith}
 use lib.ListN.{length}
 use Rattle.reading.specs.Pattern.{bit, covers}
 use Rattle.reading.specs.Rule.{Formula, falsity, both, necessity, variable, Bytes}
-use Rattle.reading.specs.File.{accepted}
+use Rattle.reading.specs.File.{accepted, recordsAt}
 use Rattle.synthesis.specs.Violation.{coveredBy, ViolatesRule, by-falsity, by-first, by-code, by-body}
 use Rattle.synthesis.specs.Monitor.{lookup}
 use Rattle.enforcement.specs.Model.{Label, silent, code, Walk, stay, silent-first, code-first, Weak, StateSatisfies, Satisfies, SatisfiesDecided}
 use Rattle.enforcement.specs.Model.{suppressing}
-use Rattle.models.specs.Phone.{Phone, StepIn, modelOf, statesOf, stepsAt, phoneOf}
+use Rattle.models.specs.Phone.{Phone, StepIn, modelOf, statesOf, phoneOf}
 use Rattle.models.specs.Judging.{judgingOf, JudgedAs}
 use Rattle.enforcement.specs.Promises.{Enforces}
 use Rattle.models.specs.declared.Judged.the-variants.{Meets, Breaks}
@@ -62,7 +62,7 @@ module _ (f : List ℕ) (y : Phone) (read : phoneOf f ≡ accepted y) where
 -- ---- the paper's model breaks the rule
 
 breaking-read : phoneOf breakingFile ≡ accepted breakingPhone
-unfolding phoneOf statesOf stepsAt
+unfolding phoneOf statesOf recordsAt
 breaking-read = refl
 
 -- number 5 is cancelled, and after a silent step issued
@@ -92,7 +92,7 @@ breaking = record {
 -- ---- the other meets it
 
 meeting-read : phoneOf meetingFile ≡ accepted meetingPhone
-unfolding phoneOf statesOf stepsAt
+unfolding phoneOf statesOf recordsAt
 meeting-read = refl
 
 -- its two steps

@@ -6,13 +6,13 @@ use native.Mathlib.Omega.{arith}
 use lib.ListN.{length}
 use Rattle.reading.specs.Pattern.{bit, covers}
 use Rattle.reading.specs.Rule.{necessity, max, variable, Rule}
-use Rattle.reading.specs.File.{refused, patternsAt, formulaAt, formulaOf, ruleOf}
+use Rattle.reading.specs.File.{refused, recordsAt, formulaAt, formulaOf, ruleOf}
 use Rattle.synthesis.specs.Answering.{firstOf, answerOf, unsatisfiable}
 use Rattle.synthesis.specs.Search.{explored, found}
 use Rattle.synthesis.specs.Building.{equationsOf, buildingOf}
 use Rattle.synthesis.specs.declared.Counted.the-variants.{Equations}
 use Rattle.synthesis.proofs.Tables.Synthesized.{counted-accepts}
-use Rattle.models.specs.Phone.{statesOf, stepsAt, phoneOf}
+use Rattle.models.specs.Phone.{statesOf, phoneOf}
 use Rattle.models.specs.Judging.{judgingOf}
 use Rattle.examples.specs.Examples.{pattern, rule, Reads, poolFile}
 use Rattle.examples.specs.RefusalExamples.{times, RuleRefusals, RefusesModel, ModelRefusals, RefusalExamples}
@@ -25,7 +25,7 @@ below-both = rule (pattern 255 0 31 ∷ []) (max (max (necessity 0 (variable 1))
 
 -- node 2 alone, which every code leads back to
 guards-both : Reads (1 ∷ 255 ∷ 0 ∷ 31 ∷ 6 ∷ 6 ∷ 5 ∷ 0 ∷ 7 ∷ 1 ∷ []) below-both (Equations 1)
-unfolding below-both ruleOf patternsAt formulaOf formulaAt unsatisfiable equationsOf found explored firstOf answerOf bit covers
+unfolding below-both ruleOf recordsAt formulaOf formulaAt unsatisfiable equationsOf found explored firstOf answerOf bit covers
 guards-both = reads _ _ refl refl (4 ∷ []) refl (omega arith)
 
 between : Rule
@@ -33,11 +33,11 @@ between = rule (pattern 255 0 31 ∷ []) (max (necessity 0 (max (variable 1))))
 
 -- node 1 alone, likewise
 guards-outer : Reads (1 ∷ 255 ∷ 0 ∷ 31 ∷ 6 ∷ 5 ∷ 0 ∷ 6 ∷ 7 ∷ 1 ∷ []) between (Equations 1)
-unfolding between ruleOf patternsAt formulaOf formulaAt unsatisfiable equationsOf found explored firstOf answerOf bit covers
+unfolding between ruleOf recordsAt formulaOf formulaAt unsatisfiable equationsOf found explored firstOf answerOf bit covers
 guards-outer = reads _ _ refl refl (2 ∷ []) refl (omega arith)
 
 rule-refusals : RuleRefusals
-unfolding times ruleOf patternsAt formulaOf formulaAt below-both between
+unfolding times ruleOf recordsAt formulaOf formulaAt below-both between
 rule-refusals = record {
   half = refuses _ 1 2 refl;
   no-kind-after = refuses _ 3 1 refl;
@@ -81,7 +81,7 @@ refuses-model f number place read = record {
 }
 
 model-refusals : ModelRefusals
-unfolding times phoneOf statesOf stepsAt
+unfolding times phoneOf statesOf recordsAt
 model-refusals = record {
   empty = refuses-model _ 11 0 refl;
   first-kind = refuses-model _ 12 0 refl;

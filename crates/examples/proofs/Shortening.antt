@@ -6,7 +6,7 @@ use mathlib.Core.List.{List, [], _∷_, _++_}
 use native.Mathlib.Omega.{arith}
 use lib.ListN.{length, replicate}
 use Rattle.reading.specs.Pattern.{bit, covers}
-use Rattle.reading.specs.File.{accepted, patternsAt, formulaAt, formulaOf, ruleOf}
+use Rattle.reading.specs.File.{accepted, recordsAt, formulaAt, formulaOf, ruleOf}
 use Rattle.synthesis.specs.Violation.{ViolatesRule, by-falsity, by-code}
 use Rattle.synthesis.specs.Answering.{firstOf, answerOf, unsatisfiable}
 use Rattle.synthesis.specs.Search.{explored, found}
@@ -15,7 +15,7 @@ use Rattle.synthesis.specs.Table.{entriesOf}
 use Rattle.synthesis.specs.Building.{equationsOf}
 use Rattle.enforcement.specs.Model.{Label, silent, code, Walk, stay, silent-first, code-first}
 use Rattle.enforcement.specs.Model.{Response, passed, suppressed, suppressing, passed-step, suppressed-step}
-use Rattle.models.specs.Phone.{StepIn, modelOf, statesOf, stepsAt, phoneOf}
+use Rattle.models.specs.Phone.{StepIn, modelOf, statesOf, phoneOf}
 use Rattle.examples.specs.Examples.{tableLeft}
 use Rattle.examples.specs.ModelExamples.{behind, neverFile, neverRule, shorteningFile, shorteningPhone, Shortening}
 use Rattle.examples.proofs.FileAnswers.{reads, row-left}
@@ -24,7 +24,7 @@ use Rattle.examples.proofs.PhoneSteps.{step-at, every-step}
 -- ---- the rule
 
 never-read : ruleOf neverFile ≡ accepted neverRule
-unfolding ruleOf patternsAt formulaOf formulaAt
+unfolding ruleOf recordsAt formulaOf formulaAt
 never-read = refl
 
 never-hopeful : unsatisfiable neverRule ≡ false
@@ -52,7 +52,7 @@ not-violating (by-code q x) = true≢false (sym q)
 -- ---- the phone
 
 shortening-read : phoneOf shorteningFile ≡ accepted shorteningPhone
-unfolding phoneOf statesOf stepsAt
+unfolding phoneOf statesOf recordsAt
 shortening-read = refl
 
 -- its two steps

@@ -4,7 +4,7 @@ use mathlib.Core.List.{[], _∷_}
 use native.Mathlib.Omega.{arith}
 use Rattle.reading.specs.Pattern.{bit, covers, least}
 use Rattle.reading.specs.Rule.{truth, falsity}
-use Rattle.reading.specs.File.{patternsAt, formulaAt, formulaOf, ruleOf}
+use Rattle.reading.specs.File.{recordsAt, formulaAt, formulaOf, ruleOf}
 use Rattle.synthesis.specs.Answering.{firstOf, answerOf, unsatisfiable}
 use Rattle.synthesis.specs.Search.{explored, found}
 use Rattle.synthesis.specs.Table.{entriesOf}
@@ -13,7 +13,7 @@ use Rattle.examples.specs.Examples.{pattern, rule, SmallFiles}
 use Rattle.examples.proofs.FileAnswers.{refuses, reads-unsatisfiable, reads, row-left}
 
 pub small-files : SmallFiles
-unfolding ruleOf patternsAt formulaOf formulaAt unsatisfiable equationsOf found explored entriesOf firstOf answerOf bit covers least
+unfolding ruleOf recordsAt formulaOf formulaAt unsatisfiable equationsOf found explored entriesOf firstOf answerOf bit covers least
 small-files = record {
   empty = refuses [] 1 0 refl;
   truth-alone = reads (2 ∷ []) (rule [] truth) refl refl (0 ∷ []) refl (omega arith);

@@ -6,7 +6,7 @@ use native.Mathlib.Omega.{arith}
 use lib.ListN.{length, set, replicate, length-append}
 use lib.Seq.{take-append-seam}
 use Rattle.reading.specs.Numbered.{padded}
-use Rattle.reading.proofs.Functions.Heads.{set-padded}
+use Rattle.reading.proofs.RecordLists.RecordsRead.{set-padded}
 use Rattle.listing.specs.Positions.{lineOf}
 use Rattle.listing.specs.Text.{text}
 use Rattle.listing.specs.Lines.{spaced, line}

@@ -1,4 +1,5 @@
 -- What model files say: their records, bytes, fronts and faults.
+pub mod Cases
 pub mod StepLaws
 pub mod RecordChecks
 pub mod StepBytes

@@ -8,7 +8,7 @@ use mathlib.Core.List.{List, _++_}
 use lib.Dec.{eqb}
 use lib.ListN.{length, getD, take}
 use Rattle.reading.specs.Faults.{KindAt}
-use Rattle.models.specs.Phone.{Phone, WellFormedPhone, PhoneWithinLimits, encodePhone}
+use Rattle.models.specs.Phone.{Phone, WellFormedPhone, PhoneWithinLimits, statesKind, codeStepKind, silentStepKind, encodePhone}
 
 -- ---- fronts of files
 
@@ -29,20 +29,20 @@ pub record BeginsModel (f : List ℕ) : Type 0 where
 -- ---- the clauses
 
 abbrev pub IsCount : ℕ → Type 0
-IsCount k = k ≡ 16
+IsCount k = k ≡ statesKind
 
 abbrev pub NoCount : ℕ → Type 0
 NoCount k = IsCount k → ⊥
 
 abbrev pub IsStep : ℕ → Type 0
-IsStep k = (k ≡ 17) ⊎ (k ≡ 18)
+IsStep k = (k ≡ codeStepKind) ⊎ (k ≡ silentStepKind)
 
 abbrev pub NoStep : ℕ → Type 0
 NoStep k = IsStep k → ⊥
 
 -- the place after the step that begins at `at`, by its kind
 abbrev pub afterStep : List ℕ → (at : ℕ) → ℕ
-afterStep f at = at + cond (eqb (getD f at 0) 17) 4 3
+afterStep f at = at + cond (eqb (getD f at 0) codeStepKind) 4 3
 
 -- Refused with this number at this place. n counts the steps before it.
 pub data Fault (f : List ℕ) : (number place : ℕ) → Type 0 where

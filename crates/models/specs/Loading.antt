@@ -1,38 +1,29 @@
 -- Reading the steps of a model file one record after the other. No public contract cites these.
 use mathlib.Core.Path.{_≡_}
 use mathlib.Core.Bool.{true, false}
-use mathlib.Core.List.{List, _++_}
-use Prim.Native.Nat.{ℕ, _+_, _-_, _≤_}
+use mathlib.Core.List.{List}
+use Prim.Native.Nat.{ℕ, _+_}
 use lib.ListN.{length, set}
-use Rattle.reading.specs.Rule.{Bytes}
-use Rattle.reading.specs.File.{Outcome, accepted, refused, andThen}
+use Rattle.reading.specs.File.{Outcome, accepted, refused, Records}
 use Rattle.reading.specs.Numbered.{padded}
+use Rattle.reading.specs.Representations.{RecordsBegun}
 use Rattle.reading.specs.declared.Acceptance.{Acceptance}
 use Rattle.reading.specs.declared.Acceptance.the-variants.{Accepted, Refused}
-use Rattle.models.specs.Phone.{noStep, stepsAt}
+use Rattle.models.specs.Phone.{noStep, stepFormat, stepsAt}
 use Rattle.models.specs.declared.Step.{Step}
 use Rattle.models.specs.declared.loading.Next.{Next}
 
--- an outcome's steps, after those that are read
-abbrev pub prepend : List Step → Outcome (List Step) → Outcome (List Step)
-prepend done o = andThen o (λ more. accepted (done ++ more))
-
 -- n steps are read, up to `at`, and stand in 512 records, of which the others are blank
-pub record StepsBegun (f : List ℕ) (states : ℕ) (steps : List Step) (n at : ℕ) : Type 0 where
-  pub done : List Step
-  pub counted : length done ≡ n
-  pub few : n ≤ 512
-  pub stored : steps ≡ padded 512 noStep done
-  pub are-bytes : Bytes f
-  pub rest : stepsAt 512 f states 2 ≡ prepend done (stepsAt (512 - n) f states at)
+abbrev pub StepsBegun : List ℕ → (states : ℕ) (steps : List Step) (n at : ℕ) → Type 0
+StepsBegun f states steps n at = RecordsBegun (stepFormat f states) noStep 512 2 steps n at
 
 -- the answer to an outcome, with its steps in 512 records and their count; of a refusal the answer alone
-abbrev pub LoadedAs : Outcome (List Step) → (steps : List Step) (answer : Acceptance) (n : ℕ) → Type 0
-LoadedAs (accepted xs) steps answer n = (answer ≡ Accepted) × (steps ≡ padded 512 noStep xs) × (n ≡ length xs)
+abbrev pub LoadedAs : Outcome (Records Step) → (steps : List Step) (answer : Acceptance) (n : ℕ) → Type 0
+LoadedAs (accepted xs) steps answer n = (answer ≡ Accepted) × (steps ≡ padded 512 noStep (xs .list)) × (n ≡ length (xs .list))
 LoadedAs (refused number place) steps answer n = answer ≡ Refused number place
 
 -- what comes after n steps: one more, or the end
 pub record NextRead (f : List ℕ) (states : ℕ) (steps : List Step) (n : ℕ) (next : Next) : Type 0 where
   pub number-is : next .n ≡ n
-  pub one-more : next .more ≡ true → StepsBegun f states (set steps n (next .step)) (n + 1) (next .at)
+  pub begun : next .more ≡ true → StepsBegun f states (set steps n (next .step)) (n + 1) (next .at)
   pub at-end : next .more ≡ false → LoadedAs (stepsAt 512 f states 2) steps (next .answer) n

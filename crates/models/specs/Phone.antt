@@ -1,13 +1,13 @@
 -- Phone models: a count of states and a list of steps; which are well formed, and their encoding as the bytes of a file. What the bytes of a model
 -- file say: the checks of each record stand in the order of the paper's table, a line each. f is the file, `at` the place of a record.
-use Prim.Native.Nat.{ℕ, _≤_, _<_, zero, suc, _+_}
+use Prim.Native.Nat.{ℕ, _≤_, _<_, _+_}
 use mathlib.Core.Path.{_≡_}
 use mathlib.Core.Bool.{Bool, true, false, cond, not, _||_}
-use mathlib.Core.List.{List, [], _∷_, _++_}
+use mathlib.Core.List.{List, [], _∷_}
 use lib.Dec.{eqb, ltb, leb}
 use lib.ListN.{length, getD}
-use Rattle.reading.specs.Rule.{All}
-use Rattle.reading.specs.File.{Outcome, accepted, refuse, andThen}
+use Rattle.reading.specs.Rule.{All, encodeEach}
+use Rattle.reading.specs.File.{Outcome, accepted, refuse, andThen, RecordFormat, Records, recordsAt}
 use Rattle.enforcement.specs.Model.{Label, silent, code, Model}
 use Rattle.models.specs.declared.Step.{Step}
 
@@ -54,21 +54,32 @@ pub record PhoneWithinLimits (y : Phone) : Type 0 where
   pub well-formed : WellFormedPhone y
   pub few-steps : length (y .steps) ≤ 512
 
+-- ---- records and their bytes
+
+-- The byte with which a record begins is its kind: the count of states, a step with a code, a silent step.
+abbrev pub statesKind : ℕ
+statesKind = 16
+
+abbrev pub codeStepKind : ℕ
+codeStepKind = 17
+
+abbrev pub silentStepKind : ℕ
+silentStepKind = 18
+
 -- the record of a step, silent or with a code
 abbrev pub recordBytes : (silent : Bool) → Step → List ℕ
-recordBytes true x = 18 ∷ x .from ∷ x .to ∷ []
-recordBytes false x = 17 ∷ x .from ∷ x .label ∷ x .to ∷ []
+recordBytes true x = silentStepKind ∷ x .from ∷ x .to ∷ []
+recordBytes false x = codeStepKind ∷ x .from ∷ x .label ∷ x .to ∷ []
 
 abbrev pub encodeStep : Step → List ℕ
 encodeStep x = recordBytes (eqb (x .label) 256) x
 
 abbrev pub encodeSteps : List Step → List ℕ
-encodeSteps [] = []
-encodeSteps (x ∷ xs) = encodeStep x ++ encodeSteps xs
+encodeSteps = encodeEach encodeStep
 
--- kind 16 with the count of states, then the steps
+-- the count of states, then the steps
 abbrev pub encodePhone : Phone → List ℕ
-encodePhone y = 16 ∷ y .states ∷ encodeSteps (y .steps)
+encodePhone y = statesKind ∷ y .states ∷ encodeSteps (y .steps)
 
 -- ---- what a file says
 
@@ -77,7 +88,7 @@ unfoldable pub statesOf : List ℕ → Outcome ℕ
 statesOf f =
     let states = getD f 1 0 in
     refuse (eqb (length f) 0) 11 (length f)
-    (refuse (not (eqb (getD f 0 0) 16)) 12 0
+    (refuse (not (eqb (getD f 0 0) statesKind)) 12 0
     (refuse (eqb (length f) 1) 11 (length f)
     (refuse (eqb states 0) 12 0
     (refuse (ltb 64 states) 12 0
@@ -96,42 +107,43 @@ endingAt f states at last x =
     refuse (leb (length f) last) 11 (length f)
     (among states at x)
 
--- a kind 17 record
+-- a step with a code
 abbrev pub codeStepAt : List ℕ → (states at : ℕ) → Outcome Step
 codeStepAt f states at =
     endingAt f states at (at + 3) (record { from = getD f (at + 1) 0; label = getD f (at + 2) 0; to = getD f (at + 3) 0 })
 
--- a kind 18 record
+-- a silent step
 abbrev pub silentStepAt : List ℕ → (states at : ℕ) → Outcome Step
 silentStepAt f states at =
     endingAt f states at (at + 2) (record { from = getD f (at + 1) 0; label = 256; to = getD f (at + 2) 0 })
 
--- The record of a step at `at`, with `left` of the 512 steps left.
-abbrev pub stepAt : List ℕ → (states at left : ℕ) → Outcome Step
-stepAt f states at left =
+abbrev pub isStep : (kind : ℕ) → Bool
+isStep kind = eqb kind codeStepKind || eqb kind silentStepKind
+
+-- The record of a step at `at`. Between its two checks comes that of `stepFormat`: 14 where none of the 512 steps is left.
+abbrev pub stepAt : List ℕ → (states at : ℕ) → Outcome Step
+stepAt f states at =
     let kind = getD f at 0 in
-    refuse (not (eqb kind 17 || eqb kind 18)) 12 at
-    (refuse (eqb left 0) 14 at
-    (cond (eqb kind 17) (codeStepAt f states at) (silentStepAt f states at)))
+    refuse (not (isStep kind)) 12 at
+    (cond (eqb kind codeStepKind) (codeStepAt f states at) (silentStepAt f states at))
 
 -- how many bytes the record of a step has
 abbrev pub recordLength : Step → ℕ
 recordLength x = cond (eqb (x .label) 256) 3 4
 
-abbrev pub withStep : Step → List Step → Outcome (List Step)
-withStep x xs = accepted (x ∷ xs)
+-- Steps go on to the end of the file. One too many is refused with 14, but what is no step with 12 all the same.
+abbrev pub stepFormat : List ℕ → (states : ℕ) → RecordFormat Step
+stepFormat f states = record {
+  more = λ at. ltb at (length f);
+  one = stepAt f states;
+  width = recordLength;
+  tooMany = λ at. cond (isStep (getD f at 0)) 14 12;
+}
 
--- The steps from `at` on, with `left` of the 512 left. Where none is left, one more is refused by `stepAt`.
-unfoldable pub stepsAt : (left : ℕ) → List ℕ → (states at : ℕ) → Outcome (List Step)
-stepsAt zero f states at =
-    cond (ltb at (length f))
-    (andThen (stepAt f states at zero) (λ x. withStep x []))
-    (accepted [])
-stepsAt (suc left) f states at =
-    cond (ltb at (length f))
-    (andThen (stepAt f states at (suc left)) (λ x. andThen (stepsAt left f states (at + recordLength x)) (withStep x)))
-    (accepted [])
+-- The steps from `at` on, with `left` of the 512 left.
+abbrev pub stepsAt : (left : ℕ) → List ℕ → (states at : ℕ) → Outcome (Records Step)
+stepsAt left f states at = recordsAt (stepFormat f states) left at
 
 -- the whole file
 unfoldable pub phoneOf : List ℕ → Outcome Phone
-phoneOf f = andThen (statesOf f) (λ states. andThen (stepsAt 512 f states 2) (λ steps. accepted (record { states = states; steps = steps })))
+phoneOf f = andThen (statesOf f) (λ states. andThen (stepsAt 512 f states 2) (λ steps. accepted (record { states = states; steps = steps .list })))

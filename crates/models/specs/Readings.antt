@@ -1,6 +1,6 @@
 -- What the crate's own enums stand for. No public contract cites these.
 use Prim.Native.Nat.{ℕ}
-use Rattle.reading.specs.File.{Outcome, accepted, refused}
+use Rattle.reading.specs.File.{Outcome, byCase}
 use Rattle.reading.specs.declared.Acceptance.{Acceptance}
 use Rattle.reading.specs.declared.Acceptance as Acceptance′
 use Rattle.synthesis.specs.declared.Counted.{Counted}
@@ -16,12 +16,10 @@ use Rattle.models.specs.declared.records.StepRead as StepRead′
 -- ---- the case of each outcome; a refusal has the paper's number and place
 
 abbrev pub statesRead : Outcome ℕ → StatesRead
-statesRead (accepted n) = StatesRead′.the-variants.Read n
-statesRead (refused number place) = StatesRead′.the-variants.Refused number place
+statesRead = byCase StatesRead′.the-variants.Read StatesRead′.the-variants.Refused
 
 abbrev pub stepRead : Outcome Step → StepRead
-stepRead (accepted x) = StepRead′.the-variants.Read x
-stepRead (refused number place) = StepRead′.the-variants.Refused number place
+stepRead = byCase StepRead′.the-variants.Read StepRead′.the-variants.Refused
 
 -- ---- refusals passed up
 

@@ -5,7 +5,8 @@ use reading::Acceptance;
 ghost use mathlib.Core.Path.{_≡_};
 ghost use Prim.Native.Nat.{_<_};
 ghost use lib.ListN.{length};
-ghost use Rattle.models.specs.Phone.{statesOf, among, codeStepAt, silentStepAt, stepAt, recordLength};
+ghost use Rattle.reading.specs.Representations.{recordAt};
+ghost use Rattle.models.specs.Phone.{statesOf, among, codeStepAt, silentStepAt, stepFormat, recordLength};
 ghost use Rattle.models.specs.Readings.{statesRead, stepRead, statesAnswer, stepAnswer};
 
 // The kind bytes of the records.
@@ -63,7 +64,7 @@ fn among(step: Step, states: usize, at: usize) -> StepRead
     StepRead::Read(step)
 }
 
-// The step of a kind 17 record at `at`.
+// The step with a code at `at`.
 fn read_code_step(bytes: &[u8], states: usize, at: usize) -> StepRead
     requires { ⌜ at < length (now bytes) ⌝ }
     ensures { λ r. ⌜ r ≡ stepRead (codeStepAt (now (bytes .entry)) states at) ⌝ }
@@ -79,7 +80,7 @@ fn read_code_step(bytes: &[u8], states: usize, at: usize) -> StepRead
     among(step, states, at)
 }
 
-// The step of a kind 18 record at `at`.
+// The silent step at `at`.
 fn read_silent_step(bytes: &[u8], states: usize, at: usize) -> StepRead
     requires { ⌜ at < length (now bytes) ⌝ }
     ensures { λ r. ⌜ r ≡ stepRead (silentStepAt (now (bytes .entry)) states at) ⌝ }
@@ -98,7 +99,7 @@ fn read_silent_step(bytes: &[u8], states: usize, at: usize) -> StepRead
 // The record of a step at `at`, with `left` of the 512 steps left.
 pub(crate) fn read_step(bytes: &[u8], states: usize, at: usize, left: usize) -> StepRead
     requires { ⌜ at < length (now bytes) ⌝ }
-    ensures { λ r. ⌜ r ≡ stepRead (stepAt (now (bytes .entry)) states at left) ⌝ }
+    ensures { λ r. ⌜ r ≡ stepRead (recordAt (stepFormat (now (bytes .entry)) states) left at) ⌝ }
 {
     let kind = bytes[at];
     if kind != CODE_STEP && kind != SILENT_STEP {

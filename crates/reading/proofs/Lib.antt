@@ -1,6 +1,7 @@
 -- The parts of the argument, in the order in which they build on each other.
 pub mod Basics
 pub mod Measures
+pub mod RecordLists
 pub mod Accepting
 pub mod Settling
 pub mod Numbering

@@ -7,28 +7,22 @@ use mathlib.Core.List.{List, [], _∷_, _++_}
 use lib.ListN.{length, getD, take}
 use Rattle.reading.specs.Pattern.{WellFormedPattern}
 use Rattle.reading.specs.Rule.{Formula, truth, falsity, both, necessity, max, variable, WellFormed, Rule, All, WellFormedRule, encode}
-use Rattle.reading.specs.File.{Symbol, Truth, Falsity, Both, Max, Necessity, Variable}
+use Rattle.reading.specs.Rule.{Symbol, patternKind, truthKind, necessityKind, variableKind, patternBytes, nodeBytes, encodeEach}
 use Rattle.reading.specs.declared.Pattern.{Pattern}
 
 -- ---- whole records
 
--- a pattern, or a node: its symbol, with the pattern number or the depth of its body
+-- a pattern, or a node without its parts
 pub data Record : Type 0 where
   pattern : Pattern → Record
   node : Symbol → Record
 
 abbrev pub recordBytes : Record → List ℕ
-recordBytes (pattern p) = 1 ∷ p .mask ∷ p .first ∷ p .last ∷ []
-recordBytes (node Truth) = 2 ∷ []
-recordBytes (node Falsity) = 3 ∷ []
-recordBytes (node Both) = 4 ∷ []
-recordBytes (node (Necessity p)) = 5 ∷ p ∷ []
-recordBytes (node Max) = 6 ∷ []
-recordBytes (node (Variable d)) = 7 ∷ d ∷ []
+recordBytes (pattern p) = patternBytes p
+recordBytes (node x) = nodeBytes x
 
 abbrev pub recordsBytes : List Record → List ℕ
-recordsBytes [] = []
-recordsBytes (x ∷ xs) = recordBytes x ++ recordsBytes xs
+recordsBytes = encodeEach recordBytes
 
 -- how many of the records are patterns, and how many nodes
 abbrev pub patternsIn : List Record → ℕ
@@ -93,19 +87,19 @@ abbrev pub KindAt : List ℕ → (at : ℕ) → (Is : ℕ → Type 0) → Type 0
 KindAt s at Is = (at < length s) × Is (getD s at 0)
 
 abbrev pub IsPattern : ℕ → Type 0
-IsPattern k = k ≡ 1
+IsPattern k = k ≡ patternKind
 
 abbrev pub NoKind : ℕ → Type 0
-NoKind k = (k ≡ 0) ⊎ (7 < k)
+NoKind k = (k ≡ 0) ⊎ (variableKind < k)
 
 abbrev pub IsNode : ℕ → Type 0
-IsNode k = (2 ≤ k) × (k ≤ 7)
+IsNode k = (truthKind ≤ k) × (k ≤ variableKind)
 
 abbrev pub HasBody : ℕ → Type 0
-HasBody k = (k ≡ 5) ⊎ (k ≡ 7)
+HasBody k = (k ≡ necessityKind) ⊎ (k ≡ variableKind)
 
 abbrev pub IsVariable : ℕ → Type 0
-IsVariable k = k ≡ 7
+IsVariable k = k ≡ variableKind
 
 -- Refused with this number at this place. n and m count the patterns and the nodes before it.
 pub data Fault (s : List ℕ) : (number place : ℕ) → Type 0 where

@@ -6,6 +6,8 @@ use mathlib.Core.List.{List, [], _∷_}
 use lib.ListN.{length, getD}
 use lib.Dec.{ltb, leb, eqb}
 use Rattle.reading.specs.Rule.{Formula, truth, falsity, both, necessity, max, variable, Guards, guarded, Rule}
+use Rattle.reading.specs.Rule.{Symbol, Truth, Falsity, Both, Max, Necessity, Variable}
+use Rattle.reading.specs.Rule.{patternKind, truthKind, falsityKind, bothKind, necessityKind, maxKind, variableKind}
 use Rattle.reading.specs.declared.Pattern.{Pattern}
 
 -- ---- what checking some input gives
@@ -24,57 +26,73 @@ abbrev pub andThen : {A B : Type 0} → Outcome A → (A → Outcome B) → Outc
 andThen (accepted a) f = f a
 andThen (refused number place) f = refused number place
 
+-- one value for what is accepted, another for a refusal
+abbrev pub byCase : {A R : Type 0} → (value : A → R) → (refusal : (number place : ℕ) → R) → Outcome A → R
+byCase value refusal (accepted a) = value a
+byCase value refusal (refused number place) = refusal number place
+
+-- ---- a list of records
+
+-- What a list of records needs to know of them: whether one more begins at a place, what the one there says, how many bytes it has, and the number
+-- with which one too many is refused there.
+pub record RecordFormat (A : Type 0) : Type 0 where
+  pub more : (at : ℕ) → Bool
+  pub one : (at : ℕ) → Outcome A
+  pub width : A → ℕ
+  pub tooMany : (at : ℕ) → ℕ
+
+-- some records, and the place after them
+pub record Records (A : Type 0) : Type 0 where
+  pub list : List A
+  pub next : ℕ
+
+abbrev pub withRecord : {A : Type 0} → A → Records A → Outcome (Records A)
+withRecord x xs = accepted (record { list = x ∷ xs .list; next = xs .next })
+
+-- The records from `at` on, of which `left` are left. Where none is left, one more is too many.
+unfoldable pub recordsAt : {A : Type 0} → RecordFormat A → (left at : ℕ) → Outcome (Records A)
+recordsAt r zero at =
+    cond (r .more at)
+    (refused (r .tooMany at) at)
+    (accepted (record { list = []; next = at }))
+recordsAt r (suc left) at =
+    cond (r .more at)
+    (andThen (r .one at) (λ x. andThen (recordsAt r left (at + r .width x)) (withRecord x)))
+    (accepted (record { list = []; next = at }))
+
 -- ---- the patterns
 
--- The record of kind 1 at `at`, with `left` of the 32 patterns left.
-abbrev pub patternAt : List ℕ → (at left : ℕ) → Outcome Pattern
-patternAt s at left =
+-- The pattern record at `at`. The first check of all, 4 where none of the 32 patterns is left, is that of `patternFormat`.
+abbrev pub patternAt : List ℕ → (at : ℕ) → Outcome Pattern
+patternAt s at =
     let mask = getD s (at + 1) 0 in
     let first = getD s (at + 2) 0 in
     let last = getD s (at + 3) 0 in
-    refuse (eqb left 0) 4 at
-    (refuse (leb (length s) (at + 3)) 1 (length s)
+    refuse (leb (length s) (at + 3)) 1 (length s)
     (refuse (eqb mask 0) 5 at
     (refuse (ltb 31 first) 5 at
     (refuse (ltb 31 last) 5 at
     (refuse (ltb last first) 5 at
-    (accepted (record { mask = mask; first = first; last = last })))))))
+    (accepted (record { mask = mask; first = first; last = last }))))))
 
 abbrev pub isPattern : List ℕ → (at : ℕ) → Bool
-isPattern s at = ltb at (length s) && eqb (getD s at 0) 1
+isPattern s at = ltb at (length s) && eqb (getD s at 0) patternKind
 
--- some patterns, and the place after them
-pub record Patterns : Type 0 where
-  pub list : List Pattern
-  pub next : ℕ
+abbrev pub patternFormat : List ℕ → RecordFormat Pattern
+patternFormat s = record { more = isPattern s; one = patternAt s; width = λ p. 4; tooMany = λ at. 4 }
 
-abbrev pub withPattern : Pattern → Patterns → Outcome Patterns
-withPattern p ps = accepted (record { list = p ∷ ps .list; next = ps .next })
-
--- The patterns from `at` on, with `left` of the 32 left. Where none is left, one more is refused by `patternAt`.
-unfoldable pub patternsAt : (left : ℕ) → List ℕ → (at : ℕ) → Outcome Patterns
-patternsAt zero s at =
-    cond (isPattern s at)
-    (andThen (patternAt s at zero) (λ p. accepted (record { list = p ∷ []; next = at })))
-    (accepted (record { list = []; next = at }))
-patternsAt (suc left) s at =
-    cond (isPattern s at)
-    (andThen (patternAt s at (suc left)) (λ p. andThen (patternsAt left s (at + 4)) (withPattern p)))
-    (accepted (record { list = []; next = at }))
+-- The patterns from `at` on, with `left` of the 32 left.
+abbrev pub patternsAt : (left : ℕ) → List ℕ → (at : ℕ) → Outcome (Records Pattern)
+patternsAt left s at = recordsAt (patternFormat s) left at
 
 -- ---- one node record
-
--- What a node record says of its node: the symbol, and the pattern number or the depth in its body.
-pub data Symbol : Type 0 where
-  Truth Falsity Both Max : Symbol
-  Necessity Variable : ℕ → Symbol
 
 -- a symbol, and the place after its record
 pub record NodeRecord : Type 0 where
   pub symbol : Symbol
   pub next : ℕ
 
--- a kind 5 record
+-- a necessity
 abbrev pub necessityAt : List ℕ → (n at : ℕ) → Outcome NodeRecord
 necessityAt s n at =
     let pattern = getD s (at + 1) 0 in
@@ -82,7 +100,7 @@ necessityAt s n at =
     (refuse (leb n pattern) 6 at
     (accepted (record { symbol = Necessity pattern; next = at + 2 })))
 
--- a kind 7 record
+-- a variable
 abbrev pub variableAt : List ℕ → Guards → (at : ℕ) → Outcome NodeRecord
 variableAt s g at =
     let depth = getD s (at + 1) 0 in
@@ -100,14 +118,14 @@ abbrev pub nodeAt : List ℕ → (n at left : ℕ) → Guards → Outcome NodeRe
 nodeAt s n at left g =
     let kind = getD s at 0 in
     refuse (leb (length s) at) 1 (length s)
-    (refuse (eqb kind 0 || ltb 7 kind) 2 at
-    (refuse (eqb kind 1) 3 at
+    (refuse (eqb kind 0 || ltb variableKind kind) 2 at
+    (refuse (eqb kind patternKind) 3 at
     (refuse (eqb left 0) 4 at
-    (cond (eqb kind 2) (bareAt Truth at)
-    (cond (eqb kind 3) (bareAt Falsity at)
-    (cond (eqb kind 4) (bareAt Both at)
-    (cond (eqb kind 5) (necessityAt s n at)
-    (cond (eqb kind 6) (bareAt Max at)
+    (cond (eqb kind truthKind) (bareAt Truth at)
+    (cond (eqb kind falsityKind) (bareAt Falsity at)
+    (cond (eqb kind bothKind) (bareAt Both at)
+    (cond (eqb kind necessityKind) (necessityAt s n at)
+    (cond (eqb kind maxKind) (bareAt Max at)
     (variableAt s g at)))))))))
 
 -- ---- a formula: a node, then its parts

@@ -5,6 +5,7 @@ use mathlib.Core.Bool.{false}
 use mathlib.Core.List.{List, [], _∷_, _++_}
 use lib.ListN.{getD, drop}
 use Rattle.reading.specs.Rule.{Formula, truth, falsity, both, necessity, max, variable, size, Guards, guarded}
+use Rattle.reading.specs.Rule.{truthKind, falsityKind, bothKind, necessityKind, maxKind, variableKind}
 
 -- a max node around a formula: its number and its body
 pub record EnclosingMax : Type 0 where
@@ -43,10 +44,10 @@ preorder keep own k ms (variable d) = own k ms (variable d) ∷ []
 
 -- What the kind and the argument of node k say: its formula, its parts by their numbers, and the max of a variable.
 pub data Resolves (root : Formula) (k : ℕ) (ms : List EnclosingMax) : (kind argument : ℕ) → Formula → Type 0 where
-  is-truth : Resolves root k ms 2 0 truth
-  is-falsity : Resolves root k ms 3 0 falsity
-  is-both : {m : ℕ} {f g : Formula} → Node root (suc k) ms f → Node root m ms g → Resolves root k ms 4 m (both f g)
-  is-necessity : {p : ℕ} {f : Formula} → Node root (suc k) ms f → Resolves root k ms 5 p (necessity p f)
-  is-max : {f : Formula} → Node root (suc k) (record { number = k; body = f } ∷ ms) f → Resolves root k ms 6 0 (max f)
+  is-truth : Resolves root k ms truthKind 0 truth
+  is-falsity : Resolves root k ms falsityKind 0 falsity
+  is-both : {m : ℕ} {f g : Formula} → Node root (suc k) ms f → Node root m ms g → Resolves root k ms bothKind m (both f g)
+  is-necessity : {p : ℕ} {f : Formula} → Node root (suc k) ms f → Resolves root k ms necessityKind p (necessity p f)
+  is-max : {f : Formula} → Node root (suc k) (record { number = k; body = f } ∷ ms) f → Resolves root k ms maxKind 0 (max f)
   is-variable : {m d : ℕ} {f : Formula} → getD ms d noMax ≡ record { number = m; body = f } → Node root m (drop (suc d) ms) (max f) → m < k
-      → Resolves root k ms 7 m (variable d)
+      → Resolves root k ms variableKind m (variable d)

@@ -3,7 +3,7 @@ use Prim.Native.Nat.{ℕ, suc, _+_, _-_}
 use mathlib.Core.List.{List, [], _++_, map}
 use lib.ListN.{length, getD, replicate}
 use Rattle.reading.specs.Pattern.{extentOf}
-use Rattle.reading.specs.Rule.{Formula, truth, falsity, both, necessity, max, variable, size, Rule}
+use Rattle.reading.specs.Rule.{Formula, truth, falsity, both, necessity, max, variable, symbolOf, size, Rule, kindByte}
 use Rattle.reading.specs.File.{Outcome, accepted, refused}
 use Rattle.reading.specs.Nodes.{EnclosingMax, preorder}
 use Rattle.reading.specs.declared.Pattern.{Pattern}
@@ -14,12 +14,7 @@ use Rattle.reading.specs.declared.Reading.{Reading}
 
 -- the kind of a node
 abbrev pub kind : Formula → ℕ
-kind truth = 2
-kind falsity = 3
-kind (both f g) = 4
-kind (necessity p f) = 5
-kind (max f) = 6
-kind (variable d) = 7
+kind f = kindByte (symbolOf f)
 
 -- The argument of node k inside the max nodes ms, innermost first: the node of the second part of a "both", the pattern of a necessity,
 -- the max node of a variable, and else 0.

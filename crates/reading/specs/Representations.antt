@@ -4,11 +4,11 @@ use mathlib.Core.Path.{_≡_}
 use mathlib.Core.List.{List, [], _∷_, _++_, map}
 use mathlib.Core.Bool.{true, false}
 use lib.ListN.{length, getD, replicate}
+use lib.Dec.{eqb}
 use lib.Seq.{sets}
 use Rattle.reading.specs.Pattern.{extentOf}
-use Rattle.reading.specs.File.{Outcome, accepted, refused}
-use Rattle.reading.specs.File.{Patterns, Symbol, Truth, Falsity, Both, Max, Necessity, Variable, NodeRecord, Parsed}
-use Rattle.reading.specs.Rule.{Guards}
+use Rattle.reading.specs.File.{Outcome, accepted, refused, refuse, andThen, byCase, RecordFormat, Records, recordsAt, NodeRecord, Parsed}
+use Rattle.reading.specs.Rule.{Guards, Symbol, kindByte, bodyBytes}
 use Rattle.reading.specs.Numbered.{kinds, args, padded, noPattern, noExtent}
 use Rattle.reading.specs.declared.Pattern.{Pattern}
 use Rattle.reading.specs.declared.Acceptance.{Acceptance}
@@ -17,6 +17,8 @@ use Rattle.reading.specs.declared.patterns.PatternRead.{PatternRead}
 use Rattle.reading.specs.declared.patterns.PatternRead as PatternRead′
 use Rattle.reading.specs.declared.patterns.Head.{Head}
 use Rattle.reading.specs.declared.formulas.Scope.{Scope}
+use Rattle.reading.specs.declared.formulas.Record.{Record}
+use Rattle.reading.specs.declared.formulas.Rest.{Rest}
 use Rattle.reading.specs.declared.formulas.NodeRead.{NodeRead}
 use Rattle.reading.specs.declared.formulas.NodeRead as NodeRead′
 use Rattle.reading.specs.declared.formulas.FormulaRead.{FormulaRead}
@@ -25,34 +27,24 @@ use Rattle.reading.specs.declared.formulas.FormulaRead as FormulaRead′
 -- ---- the case of each outcome; a refusal has the paper's number and place
 
 abbrev pub patternRead : Outcome Pattern → PatternRead
-patternRead (accepted p) = PatternRead′.the-variants.Read p
-patternRead (refused number place) = PatternRead′.the-variants.Refused number place
+patternRead = byCase PatternRead′.the-variants.Read PatternRead′.the-variants.Refused
 
--- the kind byte of a symbol, and the byte of its body
-abbrev pub kindByte : Symbol → ℕ
-kindByte Truth = 2
-kindByte Falsity = 3
-kindByte Both = 4
-kindByte (Necessity p) = 5
-kindByte Max = 6
-kindByte (Variable d) = 7
-
+-- the byte of a symbol's body, 0 where it has none
 abbrev pub bodyByte : Symbol → ℕ
-bodyByte Truth = 0
-bodyByte Falsity = 0
-bodyByte Both = 0
-bodyByte (Necessity p) = p
-bodyByte Max = 0
-bodyByte (Variable d) = d
+bodyByte x = getD (bodyBytes x) 0 0
+
+abbrev pub nodeOf : NodeRecord → Record
+nodeOf r = record { kind = kindByte (r .symbol); body = bodyByte (r .symbol); next = r .next }
 
 abbrev pub nodeRead : Outcome NodeRecord → NodeRead
-nodeRead (accepted r) = NodeRead′.the-variants.Read (record { kind = kindByte (r .symbol); body = bodyByte (r .symbol); next = r .next })
-nodeRead (refused number place) = NodeRead′.the-variants.Refused number place
+nodeRead = byCase (λ r. NodeRead′.the-variants.Read (nodeOf r)) NodeRead′.the-variants.Refused
 
 -- a formula's case has the place after it and the nodes left; its nodes are in the arrays
+abbrev pub restOf : Parsed → Rest
+restOf f = record { next = f .next; left = f .left }
+
 abbrev pub formulaRead : Outcome Parsed → FormulaRead
-formulaRead (accepted f) = FormulaRead′.the-variants.Read (record { next = f .next; left = f .left })
-formulaRead (refused number place) = FormulaRead′.the-variants.Refused number place
+formulaRead = byCase (λ f. FormulaRead′.the-variants.Read (restOf f)) FormulaRead′.the-variants.Refused
 
 -- ---- refusals passed up
 
@@ -69,9 +61,27 @@ abbrev pub passedUp : NodeRead → FormulaRead
 passedUp (NodeRead′.the-variants.Read r) = FormulaRead′.the-variants.Refused 0 0
 passedUp (NodeRead′.the-variants.Refused number place) = FormulaRead′.the-variants.Refused number place
 
+-- ---- a list of records, read one after the other
+
+-- the record at `at`, of which `left` are left
+abbrev pub recordAt : {A : Type 0} → RecordFormat A → (left at : ℕ) → Outcome A
+recordAt r left at = refuse (eqb left 0) (r .tooMany at) at (r .one at)
+
+-- the records of an outcome, after some that were read before
+abbrev pub prepend : {A : Type 0} → List A → Outcome (Records A) → Outcome (Records A)
+prepend done o = andThen o (λ xs. accepted (record { list = done ++ xs .list; next = xs .next }))
+
+-- Of at most `limit` records from `start` on n are read, up to `at`, and stand in an array, of which the rest is blank.
+pub record RecordsBegun {A : Type 0} (r : RecordFormat A) (blank : A) (limit start : ℕ) (array : List A) (n at : ℕ) : Type 0 where
+  pub done : List A
+  pub counted : length done ≡ n
+  pub few : n ≤ limit
+  pub stored : array ≡ padded limit blank done
+  pub rest : recordsAt r limit start ≡ prepend done (recordsAt r (limit - n) at)
+
 -- ---- the patterns that a file begins with
 
-abbrev pub headOf : Patterns → Head
+abbrev pub headOf : Records Pattern → Head
 headOf ps = record {
   answer = Acceptance′.the-variants.Accepted;
   next = ps .next;
@@ -80,7 +90,7 @@ headOf ps = record {
   extents = padded 32 noExtent (map extentOf (ps .list));
 }
 
-abbrev pub HeadOf : Outcome Patterns → Head → Type 0
+abbrev pub HeadOf : Outcome (Records Pattern) → Head → Type 0
 HeadOf (accepted ps) h = h ≡ headOf ps
 HeadOf (refused number place) h = h .answer ≡ Acceptance′.the-variants.Refused number place
 

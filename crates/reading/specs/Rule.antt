@@ -27,6 +27,19 @@ size (necessity p f) = suc (size f)
 size (max f) = suc (size f)
 size (variable d) = 1
 
+-- A node without its parts, which is what its record says: the symbol, and the pattern number or the depth.
+pub data Symbol : Type 0 where
+  Truth Falsity Both Max : Symbol
+  Necessity Variable : ℕ → Symbol
+
+abbrev pub symbolOf : Formula → Symbol
+symbolOf truth = Truth
+symbolOf falsity = Falsity
+symbolOf (both f g) = Both
+symbolOf (necessity p f) = Necessity p
+symbolOf (max f) = Max
+symbolOf (variable d) = Variable d
+
 -- Of each max around a formula, innermost first: whether a necessity stands between the two.
 abbrev pub Guards : Type 0
 Guards = List Bool
@@ -67,19 +80,72 @@ pub record RuleWithinLimits (r : Rule) : Type 0 where
   pub few-patterns : length (r .patterns) ≤ 32
   pub few-nodes : size (r .formula) ≤ 64
 
--- patterns first, each of kind 1 with mask, first and last
-abbrev pub encodePatterns : List Pattern → List ℕ
-encodePatterns [] = []
-encodePatterns (p ∷ ps) = 1 ∷ p .mask ∷ p .first ∷ p .last ∷ encodePatterns ps
+-- ---- records and their bytes
 
--- then the formula in prefix order: a node's kind and body, then its parts
+-- The byte with which a record begins is its kind.
+abbrev pub patternKind : ℕ
+patternKind = 1
+
+abbrev pub truthKind : ℕ
+truthKind = 2
+
+abbrev pub falsityKind : ℕ
+falsityKind = 3
+
+abbrev pub bothKind : ℕ
+bothKind = 4
+
+abbrev pub necessityKind : ℕ
+necessityKind = 5
+
+abbrev pub maxKind : ℕ
+maxKind = 6
+
+abbrev pub variableKind : ℕ
+variableKind = 7
+
+abbrev pub patternBytes : Pattern → List ℕ
+patternBytes p = patternKind ∷ p .mask ∷ p .first ∷ p .last ∷ []
+
+abbrev pub kindByte : Symbol → ℕ
+kindByte Truth = truthKind
+kindByte Falsity = falsityKind
+kindByte Both = bothKind
+kindByte (Necessity p) = necessityKind
+kindByte Max = maxKind
+kindByte (Variable d) = variableKind
+
+-- after the kind: the body of a necessity, which is its pattern, or of a variable, its depth
+abbrev pub bodyBytes : Symbol → List ℕ
+bodyBytes Truth = []
+bodyBytes Falsity = []
+bodyBytes Both = []
+bodyBytes (Necessity p) = p ∷ []
+bodyBytes Max = []
+bodyBytes (Variable d) = d ∷ []
+
+abbrev pub nodeBytes : Symbol → List ℕ
+nodeBytes x = kindByte x ∷ bodyBytes x
+
+-- ---- a rule's bytes
+
+-- the bytes of each element, one after the other
+abbrev pub encodeEach : {A : Type 0} → (A → List ℕ) → List A → List ℕ
+encodeEach bytes [] = []
+encodeEach bytes (x ∷ xs) = bytes x ++ encodeEach bytes xs
+
+-- patterns first
+abbrev pub encodePatterns : List Pattern → List ℕ
+encodePatterns = encodeEach patternBytes
+
+-- then the formula in prefix order: a node's record, then its parts
 abbrev pub encodeFormula : Formula → List ℕ
-encodeFormula truth = 2 ∷ []
-encodeFormula falsity = 3 ∷ []
-encodeFormula (both f g) = 4 ∷ (encodeFormula f ++ encodeFormula g)
-encodeFormula (necessity p f) = 5 ∷ p ∷ encodeFormula f
-encodeFormula (max f) = 6 ∷ encodeFormula f
-encodeFormula (variable d) = 7 ∷ d ∷ []
+encodeFormula truth = nodeBytes Truth
+encodeFormula falsity = nodeBytes Falsity
+encodeFormula (both f g) = nodeBytes Both ++ (encodeFormula f ++ encodeFormula g)
+encodeFormula (necessity p f) = nodeBytes (Necessity p) ++ encodeFormula f
+encodeFormula (max f) = nodeBytes Max ++ encodeFormula f
+encodeFormula (variable d) = nodeBytes (Variable d)
 
 abbrev pub encode : Rule → List ℕ
 encode r = encodePatterns (r .patterns) ++ encodeFormula (r .formula)

@@ -8,8 +8,8 @@ ghost use mathlib.Core.Path.{_≡_};
 ghost use Prim.Native.Nat.{_<_};
 ghost use lib.ListN.{length};
 ghost use Rattle.reading.specs.Pattern.{extentOf, WellFormedPattern};
-ghost use Rattle.reading.specs.File.{patternAt, isPattern, patternsAt};
-ghost use Rattle.reading.specs.Representations.{patternRead, patternAnswer, HeadOf};
+ghost use Rattle.reading.specs.File.{isPattern, patternFormat, patternsAt};
+ghost use Rattle.reading.specs.Representations.{recordAt, patternRead, patternAnswer, HeadOf};
 
 // What reading a pattern record finds: the pattern, or the number and place of a refusal.
 pub(crate) enum PatternRead {
@@ -45,7 +45,7 @@ fn extent(p: Pattern) -> Extent
 // The pattern record at `at`, with `left` of the 32 patterns left.
 fn read_pattern(bytes: &[u8], at: usize, left: usize) -> PatternRead
     requires { ⌜ at < length (now bytes) ⌝ }
-    ensures { λ r. ⌜ r ≡ patternRead (patternAt (now (bytes .entry)) at left) ⌝ }
+    ensures { λ r. ⌜ r ≡ patternRead (recordAt (patternFormat (now (bytes .entry))) left at) ⌝ }
 {
     if left == 0 {
         return PatternRead::Refused(4, at);

@@ -1,18 +1,19 @@
--- Reading the steps of a model file: what is read so far, and what each way out of `next_step` and of `read_model` returns.
-use mathlib.Core.Path.{_≡_, refl, sym, ap, _∙_}
+-- What each way out of `next_step` and of `read_model` returns: the steps that are read so far stand before the rest.
+use mathlib.Core.Path.{_≡_, refl, sym, _∙_}
 use mathlib.Core.Bool.{true, false}
-use mathlib.Core.List.{List, [], _∷_, _++_, append-nil, append-assoc}
-use Prim.Native.Nat.{ℕ, suc, _+_, _-_, _≤_, _<_}
+use mathlib.Core.List.{List}
+use Prim.Native.Nat.{ℕ, _+_, _-_, _≤_, _<_}
 use native.Mathlib.Omega.{arith}
-use lib.ListN.{length, set, length-append}
-use Rattle.reading.specs.Rule.{Bytes}
-use Rattle.reading.specs.File.{Outcome, accepted, refused, andThen}
+use lib.ListN.{length}
+use borrow.Author.Tests.{lt-ltb, le-ltb}
+use Rattle.reading.specs.File.{Outcome, accepted, refused, andThen, Records}
+use Rattle.reading.specs.Representations.{recordAt}
 use Rattle.reading.specs.declared.Acceptance.{Acceptance}
 use Rattle.reading.specs.declared.Acceptance.the-variants.{Accepted, Refused}
-use Rattle.reading.proofs.Functions.Heads.{set-padded}
-use Rattle.reading.proofs.Numbering.NumberedLaws.{padded-long}
-use Rattle.models.specs.Phone.{noStep, statesOf, stepAt, recordLength, withStep, stepsAt, phoneOf}
-use Rattle.models.specs.Loading.{prepend, StepsBegun, LoadedAs, NextRead}
+use Rattle.reading.proofs.Basics.Outcomes.{byCase-refused}
+use Rattle.reading.proofs.RecordLists.RecordsRead.{begun-one, begun-all, begun-refused}
+use Rattle.models.specs.Phone.{noStep, statesOf, recordLength, stepFormat, stepsAt, phoneOf}
+use Rattle.models.specs.Loading.{StepsBegun, LoadedAs, NextRead}
 use Rattle.models.specs.Judging.{blank, modelReadingOf}
 use Rattle.models.specs.Readings.{statesRead, stepRead, statesAnswer, stepAnswer}
 use Rattle.models.specs.declared.Step.{Step}
@@ -23,92 +24,33 @@ use Rattle.models.specs.declared.records.StatesRead.{StatesRead}
 use Rattle.models.specs.declared.records.StatesRead.the-variants as StatesRead′
 use Rattle.models.specs.declared.records.StepRead.{StepRead}
 use Rattle.models.specs.declared.records.StepRead.the-variants as StepRead′
-use Rattle.models.proofs.Files.StepLaws.{steps-end, one-more, one-refused}
-use Rattle.models.proofs.Files.StepBytes.{step-fits}
+use Rattle.models.proofs.Files.Cases.{states-cases, step-cases}
 
--- ---- what the readers of records found
-
-pub states-found : (o : Outcome ℕ) {n : ℕ} → StatesRead′.Read n ≡ statesRead o → o ≡ accepted n
-states-found (accepted n) e = cc
-states-found (refused number place) e = let z : _≡_ {A = ℕ} 0 1 = cc in absurd (omega arith)
-
-pub no-states-found : (o : Outcome ℕ) {number place : ℕ} → StatesRead′.Refused number place ≡ statesRead o → o ≡ refused number place
-no-states-found (accepted n) e = let z : _≡_ {A = ℕ} 0 1 = cc in absurd (omega arith)
-no-states-found (refused number place) e = cc
-
-pub step-found : (o : Outcome Step) {x : Step} → StepRead′.Read x ≡ stepRead o → o ≡ accepted x
-step-found (accepted x) e = cc
-step-found (refused number place) e = let z : _≡_ {A = ℕ} 0 1 = cc in absurd (omega arith)
-
-pub no-step-found : (o : Outcome Step) {number place : ℕ} → StepRead′.Refused number place ≡ stepRead o → o ≡ refused number place
-no-step-found (accepted x) e = let z : _≡_ {A = ℕ} 0 1 = cc in absurd (omega arith)
-no-step-found (refused number place) e = cc
-
--- ---- the rest of the steps, after some
-
-prepend-none : (o : Outcome (List Step)) → o ≡ prepend [] o
-prepend-none (accepted more) = refl
-prepend-none (refused number place) = refl
-
-prepend-one : (done : List Step) (x : Step) (o : Outcome (List Step)) → prepend done (andThen o (withStep x)) ≡ prepend (done ++ x ∷ []) o
-prepend-one done x (accepted more) = rw (append-assoc done (x ∷ []) more)
-prepend-one done x (refused number place) = refl
-
--- ---- what is read so far
-
-pub none-begun : (f : List ℕ) (states : ℕ) → Bytes f → StepsBegun f states (blank .steps) 0 2
-none-begun f states bytes =
-    record { done = []; counted = refl; few = omega arith; stored = refl; are-bytes = bytes; rest = prepend-none _ }
+-- ---- the ways out of `next_step`
 
 module _ {f : List ℕ} {states : ℕ} {steps : List Step} {n at : ℕ} (b : StepsBegun f states steps n at) where
-  pub begun-length : length steps ≡ 512
-  begun-length = rw (b .stored) (padded-long noStep 512 (b .done) (omega (arith, b .few, b .counted)))
-
-  one-begun : (x : Step) → at < length f → 0 < 512 - n → stepAt f states at (512 - n) ≡ accepted x
-      → StepsBegun f states (set steps n x) (n + 1) (at + recordLength x)
-  one-begun x inside some-left e =
-      let left : 512 - n ≡ suc (512 - (n + 1)) = omega arith in
-      let more = stepsAt (512 - (n + 1)) f states (at + recordLength x) in
-      record {
-        done = b .done ++ x ∷ [];
-        counted = length-append (b .done) (x ∷ []) ∙ omega (arith, b .counted);
-        few = omega arith;
-        stored = rw (b .stored) (set-padded 512 n noStep x (b .done) (b .counted) (omega arith));
-        are-bytes = b .are-bytes;
-        rest = b .rest
-            ∙ rw left (ap (prepend (b .done)) (one-more f states at (512 - (n + 1)) inside (rw left at e)) ∙ prepend-one (b .done) x more);
-      }
-
-  -- ---- the ways out of `next_step`
-
-  ends : (answer : Acceptance) → LoadedAs (stepsAt 512 f states 2) steps answer n
+  next-none : (answer : Acceptance) → LoadedAs (stepsAt 512 f states 2) steps answer n
       → (next : Next) → next ≡ record { more = false; answer = answer; step = noStep; n = n; at = 0 } → NextRead f states steps n next
-  ends answer loaded next is =
-      rw is record { number-is = refl; one-more = λ e. absurd (let z : _≡_ {A = ℕ} 0 1 = cc in omega arith); at-end = λ _. loaded }
+  next-none answer loaded next is =
+      rw is record { number-is = refl; begun = λ e. absurd (let z : _≡_ {A = ℕ} 0 1 = cc in omega arith); at-end = λ _. loaded }
 
-  pub all-read : length f ≤ at → (next : Next) → next ≡ record { more = false; answer = Accepted; step = noStep; n = n; at = 0 }
+  pub next-at-end : length f ≤ at → (next : Next) → next ≡ record { more = false; answer = Accepted; step = noStep; n = n; at = 0 }
       → NextRead f states steps n next
-  all-read over =
-      let whole : stepsAt 512 f states 2 ≡ accepted (b .done) = b .rest ∙ rw (steps-end f states at (512 - n) over, append-nil (b .done)) in
-      ends Accepted (rw whole (refl, b .stored, sym (b .counted)))
+  next-at-end over = next-none Accepted (rw (begun-all b (le-ltb _ _ over)) (refl, b .stored, sym (b .counted)))
 
-  pub step-refused : at < length f → (found : StepRead) → found ≡ stepRead (stepAt f states at (512 - n))
+  pub next-refused : at < length f → (found : StepRead) → found ≡ stepRead (recordAt (stepFormat f states) (512 - n) at)
       → {number place : ℕ} → found ≡ StepRead′.Refused number place → (a : Acceptance) → a ≡ stepAnswer found
       → (next : Next) → next ≡ record { more = false; answer = a; step = noStep; n = n; at = 0 } → NextRead f states steps n next
-  step-refused inside found is {number} {place} e a is-a =
-      let here : stepAt f states at (512 - n) ≡ refused number place = no-step-found _ (sym e ∙ is) in
-      let whole : stepsAt 512 f states 2 ≡ refused number place = b .rest ∙ rw (one-refused f states at (512 - n) inside here) in
-      ends a (rw whole (is-a ∙ rw e))
+  next-refused inside found is e a is-a =
+      next-none a (rw (begun-refused b (lt-ltb _ _ inside) (byCase-refused step-cases (λ x. x) _ _ _ (sym e ∙ is))) (is-a ∙ rw e))
 
-  pub step-read : (x : Step) → at < length f → stepAt f states at (512 - n) ≡ accepted x
+  pub next-read : (x : Step) → at < length f → recordAt (stepFormat f states) (512 - n) at ≡ accepted x
       → NextRead f states steps n (record { more = true; answer = Accepted; step = x; n = n; at = at + recordLength x })
-  step-read x inside e =
-      let some-left = step-fits f states at (512 - n) x (b .are-bytes) inside e .some-left in
-      record {
-        number-is = refl;
-        one-more = λ _. one-begun x inside some-left e;
-        at-end = λ e. absurd (let z : _≡_ {A = ℕ} 0 1 = cc in omega arith);
-      }
+  next-read x inside e = record {
+    number-is = refl;
+    begun = λ _. begun-one b (lt-ltb _ _ inside) e;
+    at-end = λ e. absurd (let z : _≡_ {A = ℕ} 0 1 = cc in omega arith);
+  }
 
 -- ---- the ways out of `read_model`
 
@@ -116,33 +58,33 @@ module _ (f : List ℕ) (found : StatesRead) (is : found ≡ statesRead (statesO
   pub states-refused : {number place : ℕ} → found ≡ StatesRead′.Refused number place
       → (a : Acceptance) → a ≡ statesAnswer found → (r : ModelReading) → r ≡ record { answer = a; model = blank } → r ≡ modelReadingOf (phoneOf f)
   unfolding phoneOf
-  states-refused e a is-a r is-r = is-r ∙ rw (no-states-found (statesOf f) (sym e ∙ is), is-a, e)
+  states-refused e a is-a r is-r = is-r ∙ rw (byCase-refused states-cases (λ n. n) (statesOf f) _ _ (sym e ∙ is), is-a, e)
 
 module _ (states : ℕ) (steps : List Step) (n : ℕ) where
   -- what is handed up of an outcome
-  abbrev handed : Outcome (List Step) → ModelReading
-  handed o = modelReadingOf (andThen o (λ xs. accepted (record { states = states; steps = xs })))
+  abbrev handed : Outcome (Records Step) → ModelReading
+  handed o = modelReadingOf (andThen o (λ xs. accepted (record { states = states; steps = xs .list })))
 
-  handed-all : (o : Outcome (List Step)) → LoadedAs o steps Accepted n
+  handed-accepted : (o : Outcome (Records Step)) → LoadedAs o steps Accepted n
       → record { answer = Accepted; model = record { states = states; steps = steps; nsteps = n } } ≡ handed o
-  handed-all (accepted xs) (_, stored, counted) = rw (stored, counted)
-  handed-all (refused number place) e = let z : _≡_ {A = ℕ} 0 1 = cc in absurd (omega arith)
+  handed-accepted (accepted xs) (_, stored, counted) = rw (stored, counted)
+  handed-accepted (refused number place) e = let z : _≡_ {A = ℕ} 0 1 = cc in absurd (omega arith)
 
-  handed-none : (o : Outcome (List Step)) {number place : ℕ} → LoadedAs o steps (Refused number place) n
+  handed-refused : (o : Outcome (Records Step)) {number place : ℕ} → LoadedAs o steps (Refused number place) n
       → record { answer = Refused number place; model = blank } ≡ handed o
-  handed-none (accepted xs) (e, _, _) = let z : _≡_ {A = ℕ} 0 1 = cc in absurd (omega arith)
-  handed-none (refused number place) e = rw e
+  handed-refused (accepted xs) (e, _, _) = let z : _≡_ {A = ℕ} 0 1 = cc in absurd (omega arith)
+  handed-refused (refused number place) e = rw e
 
 module _ (f : List ℕ) {states : ℕ} (states-are : statesOf f ≡ accepted states) (l : Loaded)
     (loaded : LoadedAs (stepsAt 512 f states 2) (l .steps) (l .answer) (l .nsteps)) where
-  then-steps : phoneOf f ≡ andThen (stepsAt 512 f states 2) (λ xs. accepted (record { states = states; steps = xs }))
+  phone-after-states : phoneOf f ≡ andThen (stepsAt 512 f states 2) (λ xs. accepted (record { states = states; steps = xs .list }))
   unfolding phoneOf
-  then-steps = rw states-are
+  phone-after-states = rw states-are
 
   pub loaded-accepted : l .answer ≡ Accepted
       → record { answer = l .answer; model = record { states = states; steps = l .steps; nsteps = l .nsteps } } ≡ modelReadingOf (phoneOf f)
-  loaded-accepted e = rw (e, then-steps) (handed-all states (l .steps) (l .nsteps) (stepsAt 512 f states 2) (rw e at loaded))
+  loaded-accepted e = rw (e, phone-after-states) (handed-accepted states (l .steps) (l .nsteps) (stepsAt 512 f states 2) (rw e at loaded))
 
   pub loaded-refused : {number place : ℕ} → l .answer ≡ Refused number place
       → (r : ModelReading) → r ≡ record { answer = l .answer; model = blank } → r ≡ modelReadingOf (phoneOf f)
-  loaded-refused e r is = is ∙ rw (e, then-steps) (handed-none states (l .steps) (l .nsteps) (stepsAt 512 f states 2) (rw e at loaded))
+  loaded-refused e r is = is ∙ rw (e, phone-after-states) (handed-refused states (l .steps) (l .nsteps) (stepsAt 512 f states 2) (rw e at loaded))

@@ -2,64 +2,53 @@
 -- begins with it and a record has that record as a step.
 use mathlib.Core.Path.{_≡_, refl, sym, ap, _∙_}
 use mathlib.Core.Bool.{Bool, true, false}
-use mathlib.Core.List.{List, [], _∷_, _++_, append-nil, append-assoc}
+use mathlib.Core.List.{List, [], _∷_, _++_, append-nil}
 use Prim.Native.Nat.{ℕ, suc, _+_, _≤_, _<_}
 use native.Mathlib.Omega.{arith}
 use lib.Dec.{eqb}
 use lib.ListN.{length, take, drop, length-append, take-append-drop}
 use lib.Seq.{length-take-le, take-add, take-at}
-use Rattle.reading.specs.Rule.{All, Bytes}
+use borrow.Author.Tests.{eqb-true}
+use Rattle.reading.specs.Rule.{Bytes}
 use Rattle.reading.specs.File.{accepted, refused}
-use Rattle.reading.proofs.Basics.AllLaws.{all-append}
+use Rattle.reading.proofs.Basics.AllLaws.{all-append, all-front, all-last}
+use Rattle.reading.proofs.Basics.EncodeLaws.{encodeEach-append, encodeEach-front}
+use Rattle.reading.proofs.RecordLists.RecordsAccepted.{records-after}
 use Rattle.models.specs.Phone.{WellFormedStep, recordBytes, encodeStep, encodeSteps, encodePhone}
-use Rattle.models.specs.Phone.{statesOf, stepAt, recordLength, stepsAt, phoneOf}
+use Rattle.models.specs.Phone.{codeStepKind, silentStepKind, statesOf, stepAt, recordLength, stepFormat, stepsAt, phoneOf}
 use Rattle.models.specs.Faults.{ModelBefore, BeginsModel}
 use Rattle.models.specs.declared.Step.{Step}
-use Rattle.models.proofs.Files.StepBytes.{length-step, step-stands, refused-after}
+use Rattle.models.proofs.Files.StepLaws.{record-bounds}
+use Rattle.models.proofs.Files.StepBytes.{length-step, step-stands, reads-steps}
 use Rattle.models.proofs.Files.Encoding.{states-read}
 
--- ---- encodings of steps
+-- ---- the bytes of a step tell it
 
-encode-append : (xs ys : List Step) → encodeSteps (xs ++ ys) ≡ encodeSteps xs ++ encodeSteps ys
-encode-append [] ys = refl
-encode-append (x ∷ xs) ys = rw (encode-append xs ys, append-assoc (encodeStep x) (encodeSteps xs) (encodeSteps ys))
+step-some : (x : Step) → 1 ≤ length (encodeStep x)
+step-some x = omega (arith, length-step x, record-bounds x .0)
 
--- two records with which the same bytes begin
-same-record : (b b′ : Bool) (x y : Step) {p q : List ℕ} → recordBytes b x ++ p ≡ recordBytes b′ y ++ q
-    → (x .from ≡ y .from) × (x .to ≡ y .to) × (p ≡ q)
-same-record true true x y e = (cc, cc, cc)
-same-record true false x y e = let z : _≡_ {A = ℕ} 18 17 = cc in absurd (omega arith)
-same-record false true x y e = let z : _≡_ {A = ℕ} 17 18 = cc in absurd (omega arith)
-same-record false false x y e = (cc, cc, cc)
+step-same : (x y : Step) → x .from ≡ y .from → x .label ≡ y .label → x .to ≡ y .to → x ≡ y
+step-same x y from label to =
+    let same : _≡_ {A = Step} (record { from = x .from; label = x .label; to = x .to }) (record { from = y .from; label = y .label; to = y .to }) = cc in
+    same
 
-no-record : (b : Bool) (x : Step) (p : List ℕ) → recordBytes b x ++ p ≡ [] → ⊥
-no-record true x p e = let z : _≡_ {A = ℕ} 0 1 = cc in omega arith
-no-record false x p e = let z : _≡_ {A = ℕ} 0 1 = cc in omega arith
-
-module _ (states : ℕ) where
-  -- what follows steps in the bytes of steps are the bytes of steps
-  steps-left : (xs ys : List Step) (p : List ℕ) → encodeSteps xs ++ p ≡ encodeSteps ys → All (WellFormedStep states) ys
-      → (zs : List Step) × All (WellFormedStep states) zs × (p ≡ encodeSteps zs)
-  steps-left [] ys p e all = (ys, all, e)
-  steps-left (x ∷ xs) [] p e all =
-      absurd (no-record (eqb (x .label) 256) x (encodeSteps xs ++ p) (sym (append-assoc (encodeStep x) (encodeSteps xs) p) ∙ e))
-  steps-left (x ∷ xs) (y ∷ ys) p e all =
-      let whole = sym (append-assoc (encodeStep x) (encodeSteps xs) p) ∙ e in
-      steps-left xs ys p (same-record (eqb (x .label) 256) (eqb (y .label) 256) x y whole .2) (all .1)
-
-  -- a record with which the bytes of steps begin
-  first-among : (x : Step) (p : List ℕ) (zs : List Step) → All (WellFormedStep states) zs → encodeStep x ++ p ≡ encodeSteps zs
-      → (x .from < states) × (x .to < states)
-  first-among x p [] all e = absurd (no-record (eqb (x .label) 256) x p e)
-  first-among x p (z ∷ zs) all e =
-      let same = same-record (eqb (x .label) 256) (eqb (z .label) 256) x z e in
-      (rw (same .0) (all .0 .from), rw (same .1) (all .0 .to))
+step-told : (x y : Step) (p q : List ℕ) → encodeStep x ++ p ≡ encodeStep y ++ q → (x ≡ y) × (p ≡ q)
+step-told x y p q = on (eqb (x .label) 256) (eqb (y .label) 256) refl refl
+  where
+    on : (b b′ : Bool) → eqb (x .label) 256 ≡ b → eqb (y .label) 256 ≡ b′ → recordBytes b x ++ p ≡ recordBytes b′ y ++ q → (x ≡ y) × (p ≡ q)
+    on true true is is′ e =
+        let silent : x .label ≡ 256 = eqb-true _ _ is in
+        let silent′ : y .label ≡ 256 = eqb-true _ _ is′ in
+        (step-same x y (cc) (cc) (cc), cc)
+    on true false is is′ e = let z : _≡_ {A = ℕ} silentStepKind codeStepKind = cc in absurd (omega arith)
+    on false true is is′ e = let z : _≡_ {A = ℕ} codeStepKind silentStepKind = cc in absurd (omega arith)
+    on false false is is′ e = (step-same x y (cc) (cc) (cc), cc)
 
 -- ---- a model at the front of a file
 
 module _ {f : List ℕ} {at n : ℕ} (m : ModelBefore f at n) where
-  whole : f ≡ encodePhone (m .phone) ++ drop at f
-  whole = sym (take-append-drop at f) ∙ ap (λ p. p ++ drop at f) (m .bytes-are)
+  file-is : f ≡ encodePhone (m .phone) ++ drop at f
+  file-is = sym (take-append-drop at f) ∙ ap (λ p. p ++ drop at f) (m .bytes-are)
 
   -- and the record of a step after it
   with-record : (x : Step) → drop at f ≡ encodeStep x ++ drop (at + recordLength x) f
@@ -69,23 +58,25 @@ module _ {f : List ℕ} {at n : ℕ} (m : ModelBefore f at n) where
       take-add at (recordLength x) f ∙ rw (m .bytes-are, from, take-at (encodeStep x) rest (recordLength x) (length-step x))
 
   -- what is refused after the model is what the file is refused with
-  pub refused-there : at ≤ length f → (left : ℕ) → left + n ≡ 512 → {number place : ℕ}
+  pub refused-after-model : at ≤ length f → (left : ℕ) → left + n ≡ 512 → {number place : ℕ}
       → stepsAt left f (m .phone .states) at ≡ refused number place → phoneOf f ≡ refused number place
   unfolding phoneOf
-  refused-there inside left all {number} {place} e =
+  refused-after-model inside left all {number} {place} e =
       let well = m .within-limits .well-formed in
-      let first : statesOf f ≡ accepted (m .phone .states) = ap statesOf whole ∙ states-read _ _ (well .some-states) (well .few-states) in
+      let first : statesOf f ≡ accepted (m .phone .states) = ap statesOf file-is ∙ states-read _ _ (well .some-states) (well .few-states) in
       let steps : stepsAt 512 f (m .phone .states) 2 ≡ refused number place =
-      refused-after f (m .phone .states) (m .phone .steps) 2 at left 512 (drop at f) (well .steps) (ap (drop 2) whole)
-      (omega (arith, ap length (m .bytes-are), length-take-le at f inside)) (omega (arith, m .steps-are)) e in
+      records-after f (stepFormat f (m .phone .states)) encodeStep (WellFormedStep (m .phone .states)) (reads-steps f (m .phone .states))
+      (m .phone .steps) 2 at left 512 (drop at f) (well .steps) (ap (drop 2) file-is)
+      (omega (arith, ap length (m .bytes-are), length-take-le at f inside)) (omega (arith, m .steps-are))
+      ∙ rw e in
       rw (first, steps)
 
   -- with a step that is accepted there it is a longer one
-  pub step-longer : Bytes f → at < length f → n < 512 → (left : ℕ) (x : Step) → stepAt f (m .phone .states) at left ≡ accepted x
+  pub model-with-step : Bytes f → at < length f → n < 512 → (x : Step) → stepAt f (m .phone .states) at ≡ accepted x
       → (longer : ModelBefore f (at + recordLength x) (suc n)) × (longer .phone .states ≡ m .phone .states)
-  step-longer bytes inside few left x e =
+  model-with-step bytes inside few x e =
       let well = m .within-limits .well-formed in
-      let stands = step-stands f (m .phone .states) at left x bytes inside e in
+      let stands = step-stands f (m .phone .states) at x bytes inside e in
       let steps = m .phone .steps ++ x ∷ [] in
       let counted : length steps ≡ suc n = length-append (m .phone .steps) (x ∷ []) ∙ omega (arith, m .steps-are) in (
         record {
@@ -99,7 +90,7 @@ module _ {f : List ℕ} {at n : ℕ} (m : ModelBefore f at n) where
             few-steps = omega arith;
           };
           steps-are = counted;
-          bytes-are = with-record x (stands .bytes) ∙ rw (encode-append (m .phone .steps) (x ∷ []), append-nil (encodeStep x));
+          bytes-are = with-record x (stands .bytes) ∙ rw (encodeEach-append encodeStep (m .phone .steps) (x ∷ []), append-nil (encodeStep x));
         },
         refl,
       )
@@ -116,10 +107,14 @@ module _ {f : List ℕ} {at n : ℕ} (m : ModelBefore f at n) where
   pub begins-among : (x : Step) → drop at f ≡ encodeStep x ++ drop (at + recordLength x) f → BeginsModel (take (at + recordLength x) f)
       → (x .from < m .phone .states) × (x .to < m .phone .states)
   begins-among x from g =
+      let steps = m .phone .steps in
       let joined : (encodePhone (m .phone) ++ encodeStep x) ++ g .rest ≡ encodePhone (g .phone) =
       ap (λ p. p ++ g .rest) (sym (with-record x from)) ∙ g .bytes-are in
       let same : g .phone .states ≡ m .phone .states = cc in
-      let more : (encodeSteps (m .phone .steps) ++ encodeStep x) ++ g .rest ≡ encodeSteps (g .phone .steps) = cc in
-      let (zs, all, is) = steps-left (m .phone .states) (m .phone .steps) (g .phone .steps) (encodeStep x ++ g .rest)
-      (sym (append-assoc (encodeSteps (m .phone .steps)) (encodeStep x) (g .rest)) ∙ more) (rw same at (g .well-formed .steps)) in
-      first-among (m .phone .states) x (g .rest) zs all is
+      let more : (encodeSteps steps ++ encodeStep x) ++ g .rest ≡ encodeSteps (g .phone .steps) = cc in
+      let longer : encodeSteps (steps ++ x ∷ []) ≡ encodeSteps steps ++ encodeStep x =
+      encodeEach-append encodeStep steps (x ∷ []) ∙ ap (λ p. encodeSteps steps ++ p) (append-nil (encodeStep x)) in
+      let (zs, are, left) = encodeEach-front encodeStep step-some step-told (steps ++ x ∷ []) (g .phone .steps) (g .rest)
+      (ap (λ p. p ++ g .rest) longer ∙ more) in
+      let fit = all-last _ steps x (all-front _ (steps ++ x ∷ []) zs (rw (same, are) at (g .well-formed .steps))) in
+      (fit .from, fit .to)

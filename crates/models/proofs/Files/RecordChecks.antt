@@ -1,13 +1,15 @@
 -- The rows of the model file's refusal table: where the checks before it pass and its own doesn't, its refusal is the record's case. And
 -- what a record is where every check passes.
-use mathlib.Core.Path.{_≡_}
-use mathlib.Core.Bool.{true, _||_}
+use mathlib.Core.Path.{_≡_, refl}
+use mathlib.Core.Bool.{Bool, true, false}
 use mathlib.Core.List.{List}
 use Prim.Native.Nat.{ℕ, _≤_, _<_}
 use lib.ListN.{length, getD}
 use lib.Dec.{eqb}
 use borrow.Author.Tests.{le-leb, lt-leb, le-ltb, lt-ltb, eq-eqb, ne-eqb}
-use Rattle.models.specs.Phone.{statesOf, among, endingAt, codeStepAt, silentStepAt, stepAt}
+use Rattle.reading.specs.File.{refused, refuse}
+use Rattle.reading.specs.Representations.{recordAt}
+use Rattle.models.specs.Phone.{statesKind, codeStepKind, silentStepKind, isStep, statesOf, among, endingAt, codeStepAt, silentStepAt, stepFormat}
 use Rattle.models.specs.Readings.{statesRead, stepRead}
 use Rattle.models.specs.declared.Step.{Step}
 use Rattle.models.specs.declared.records.StatesRead.the-variants as StatesRead′
@@ -22,11 +24,11 @@ module _ (f : List ℕ) where
   file-empty h = simp (eq-eqb _ _ h)
 
   module _ (b : length f ≡ 0 → ⊥) where
-    pub other-kind : (getD f 0 0 ≡ 16 → ⊥) → StatesRead′.Refused 12 0 ≡ statesRead (statesOf f)
+    pub other-kind : (getD f 0 0 ≡ statesKind → ⊥) → StatesRead′.Refused 12 0 ≡ statesRead (statesOf f)
     unfolding statesOf
     other-kind h = simp (ne-eqb _ _ b, ne-eqb _ _ h)
 
-    module _ (k : getD f 0 0 ≡ 16) where
+    module _ (k : getD f 0 0 ≡ statesKind) where
       pub states-cut : length f ≡ 1 → StatesRead′.Refused 11 (length f) ≡ statesRead (statesOf f)
       unfolding statesOf
       states-cut h = simp (ne-eqb _ _ b, eq-eqb _ _ k, eq-eqb _ _ h)
@@ -69,17 +71,24 @@ module _ (f : List ℕ) (states at : ℕ) where
     step-whole h r e = simp (lt-leb _ _ h) e
 
   module _ (left : ℕ) where
-    pub no-step : (getD f at 0 ≡ 17 → ⊥) → (getD f at 0 ≡ 18 → ⊥) → StepRead′.Refused 12 at ≡ stepRead (stepAt f states at left)
-    no-step c s = simp (ne-eqb _ _ c, ne-eqb _ _ s)
+    -- what `read_step` answers
+    abbrev read-at : StepRead
+    read-at = stepRead (recordAt (stepFormat f states) left at)
 
-    module _ (kind : (eqb (getD f at 0) 17 || eqb (getD f at 0) 18) ≡ true) where
-      pub no-step-left : left ≡ 0 → StepRead′.Refused 14 at ≡ stepRead (stepAt f states at left)
+    pub no-step : (getD f at 0 ≡ codeStepKind → ⊥) → (getD f at 0 ≡ silentStepKind → ⊥) → StepRead′.Refused 12 at ≡ read-at
+    no-step c s = rw (ne-eqb _ _ c, ne-eqb _ _ s) (on (eqb left 0))
+      where
+        on : (none-left : Bool) → StepRead′.Refused 12 at ≡ stepRead (refuse none-left 12 at (refused 12 at))
+        on true = refl
+        on false = refl
+
+    module _ (kind : isStep (getD f at 0) ≡ true) where
+      pub no-step-left : left ≡ 0 → StepRead′.Refused 14 at ≡ read-at
       no-step-left h = simp (kind, h)
 
       module _ (l : left ≡ 0 → ⊥) where
-        pub code-step : getD f at 0 ≡ 17 → (r : StepRead) → r ≡ stepRead (codeStepAt f states at) → r ≡ stepRead (stepAt f states at left)
+        pub code-step : getD f at 0 ≡ codeStepKind → (r : StepRead) → r ≡ stepRead (codeStepAt f states at) → r ≡ read-at
         code-step h r e = simp (h, ne-eqb _ _ l) e
 
-        pub silent-step : (getD f at 0 ≡ 17 → ⊥) → (r : StepRead) → r ≡ stepRead (silentStepAt f states at)
-            → r ≡ stepRead (stepAt f states at left)
+        pub silent-step : (getD f at 0 ≡ codeStepKind → ⊥) → (r : StepRead) → r ≡ stepRead (silentStepAt f states at) → r ≡ read-at
         silent-step h r e = rw (kind, ne-eqb _ _ l, ne-eqb _ _ h) e

@@ -1,4 +1,5 @@
--- Two files that agree in 2,051 bytes say the same, and 2,050 aren't enough.
+-- Two files that agree in 2,051 bytes say the same, for a count of states and 512 steps end before byte 2,050, and the byte there is a kind at most. And
+-- 2,050 bytes aren't enough.
 use mathlib.Core.Path.{_≡_, refl, _∙_}
 use mathlib.Core.List.{List, [], _∷_, _++_}
 use Prim.Native.Nat.{ℕ, zero, suc, _+_, _*_, _≤_}
@@ -10,14 +11,16 @@ use Rattle.reading.specs.Rule.{All}
 use Rattle.reading.proofs.Basics.ByteLaws.{bytes-append}
 use Rattle.reading.specs.File.{accepted, refused}
 use Rattle.reading.proofs.Settling.Agreement.{Agree, inside, settled}
-use Rattle.reading.proofs.Basics.Outcomes.{then-agree, both-agree}
-use Rattle.models.specs.Phone.{Phone, WellFormedStep, WellFormedPhone, encodeSteps, encodePhone}
-use Rattle.models.specs.Phone.{statesOf, stepAt, recordLength, stepsAt, phoneOf}
+use Rattle.reading.proofs.Basics.Outcomes.{andThen-agree}
+use Rattle.reading.proofs.RecordLists.RecordsAgree.{FormatsAgree, records-agree}
+use Rattle.models.specs.Phone.{Phone, WellFormedStep, WellFormedPhone, encodeSteps, encodePhone, codeStepKind, statesOf, stepAt, stepFormat, phoneOf}
 use Rattle.models.specs.Promises.{SettledByFirstBytes, NotByFewer}
 use Rattle.models.specs.declared.Step.{Step}
 use Rattle.models.proofs.Files.StepLaws.{record-bounds}
 use Rattle.models.proofs.Files.StepBytes.{steps-full}
 use Rattle.models.proofs.Files.Encoding.{states-read, phone-reads, encode-bytes}
+
+-- ---- files that agree
 
 module _ (f g : List ℕ) (a : Agree 2051 f g) where
   states-agree : statesOf f ≡ statesOf g
@@ -32,10 +35,8 @@ module _ (f g : List ℕ) (a : Agree 2051 f g) where
         a .same 1 (omega arith),
       )
 
-  -- a record is read to its end, or only its kind where no step is left
-  step-agrees : (states at left : ℕ) → at + 4 * left ≤ 2050 → stepAt f states at left ≡ stepAt g states at left
-  step-agrees states at zero h = rw (a .same at (omega arith))
-  step-agrees states at (suc left) h =
+  step-agrees : (states at : ℕ) → at + 4 ≤ 2051 → stepAt f states at ≡ stepAt g states at
+  step-agrees states at h =
       let three = inside 2051 f g a (at + 3) (omega arith) in
       let two = inside 2051 f g a (at + 2) (omega arith) in
       rw (
@@ -49,18 +50,18 @@ module _ (f g : List ℕ) (a : Agree 2051 f g) where
         a .same (at + 3) (omega arith),
       )
 
-  steps-agree : (left states at : ℕ) → at + 4 * left ≤ 2050 → stepsAt left f states at ≡ stepsAt left g states at
-  unfolding stepsAt
-  steps-agree zero states at h =
-      rw (lt-ltb at (length f) (omega (arith, a .long)), lt-ltb at (length g) (omega (arith, a .long′)), step-agrees states at zero h)
-  steps-agree (suc left) states at h =
-      rw (lt-ltb at (length f) (omega (arith, a .long)), lt-ltb at (length g) (omega (arith, a .long′)))
-      (both-agree (stepAt f states at (suc left)) (stepAt g states at (suc left)) _ _ (step-agrees states at (suc left) h) (λ x e.
-      rw (steps-agree left states (at + recordLength x) (omega (arith, record-bounds x .1)))))
+  formats-agree : (states : ℕ) → FormatsAgree (stepFormat f states) (stepFormat g states) 4 2051
+  formats-agree states = record {
+    more = λ at h. rw (lt-ltb at (length f) (omega (arith, a .long)), lt-ltb at (length g) (omega (arith, a .long′)));
+    one = step-agrees states;
+    tooMany = λ at h. rw (a .same at h);
+    width = λ x. refl;
+    narrow = λ x. record-bounds x .1;
+  }
 
   phone-agrees : phoneOf f ≡ phoneOf g
   unfolding phoneOf
-  phone-agrees = rw states-agree (then-agree (statesOf g) _ _ (λ states e. rw (steps-agree 512 states 2 (omega arith))))
+  phone-agrees = rw states-agree (andThen-agree (statesOf g) _ _ (λ states e. rw (records-agree _ _ 4 2051 (formats-agree states) 512 2 (omega arith))))
 
 pub settled-by-first-bytes : SettledByFirstBytes
 settled-by-first-bytes = settled phoneOf 2051 phone-agrees
@@ -69,13 +70,13 @@ settled-by-first-bytes = settled phoneOf 2051 phone-agrees
 
 -- After 512 steps one more is refused, whatever they are.
 full-refused : (y : Phone) → WellFormedPhone y → length (y .steps) ≡ 512
-    → phoneOf (encodePhone y ++ (17 ∷ [])) ≡ refused 14 (length (encodePhone y))
+    → phoneOf (encodePhone y ++ (codeStepKind ∷ [])) ≡ refused 14 (length (encodePhone y))
 unfolding phoneOf
 full-refused y w full =
-    let f = encodePhone y ++ (17 ∷ []) in
+    let f = encodePhone y ++ (codeStepKind ∷ []) in
     let states : statesOf f ≡ accepted (y .states) = states-read (y .states) _ (w .some-states) (w .few-states) in
     let place : 2 + length (encodeSteps (y .steps)) ≡ length (encodePhone y) = omega arith in
-    rw (states, steps-full f (y .states) (y .steps) 2 512 17 [] (w .steps) full refl, place)
+    rw (states, steps-full f (y .states) (y .steps) 2 512 codeStepKind [] (w .steps) full refl, place)
 
 -- a step from state 0 to itself
 selfLoop : Step
@@ -101,9 +102,9 @@ not-by-fewer = on 512 refl
         let full : length (y .steps) ≡ 512 = length-replicate n selfLoop ∙ e in
         let w : WellFormedPhone y = record { some-states = omega arith; few-states = omega arith; steps = self-loops-well-formed n } in
         let long : length (encodePhone y) ≡ 2050 = omega (arith, self-loops-length n) in (
-          encodePhone y ++ (17 ∷ []),
+          encodePhone y ++ (codeStepKind ∷ []),
           y,
-          bytes-append (encodePhone y) (17 ∷ []) (encode-bytes y w) (omega arith, tt),
-          rw (take-at (encodePhone y) (17 ∷ []) 2050 long) (phone-reads y (record { well-formed = w; few-steps = omega arith })),
+          bytes-append (encodePhone y) (codeStepKind ∷ []) (encode-bytes y w) (omega arith, tt),
+          rw (take-at (encodePhone y) (codeStepKind ∷ []) 2050 long) (phone-reads y (record { well-formed = w; few-steps = omega arith })),
           rw (← long) (full-refused y w full),
         )

@@ -7,7 +7,7 @@ use native.Mathlib.Omega.{arith}
 use lib.ListN.{length}
 use Rattle.reading.specs.Rule.{Rule}
 use Rattle.reading.specs.File.{Outcome, accepted, refused, ruleOf}
-use Rattle.reading.proofs.Basics.Outcomes.{then-accepts}
+use Rattle.reading.proofs.Basics.Outcomes.{andThen-accepts}
 use Rattle.synthesis.specs.Building.{buildingOf, countedOf, tableAfter}
 use Rattle.synthesis.specs.declared.Counted.the-variants.{Equations}
 use Rattle.synthesis.proofs.Tables.Synthesized.{building-accepts, counted-accepts, accepts-as}
@@ -26,7 +26,7 @@ unfolding judgingOf
 judging-case limit s f capacity r n y read e read′ =
     let (z, built, long) = counted-accepts (buildingOf limit s capacity) n e in
     let same = accepts-as limit s r read z (building-accepts limit s capacity z built .1) in
-    then-accepts _ (built ∙ ap accepted same) (then-accepts _ read′ refl)
+    andThen-accepts _ (built ∙ ap accepted same) (andThen-accepts _ read′ refl)
 
 judged-case : (r : Rule) (y : Phone) (answer : Judged) → JudgedAs (accepted (record { rule = r; phone = y })) answer → JudgedExactly r y answer
 judged-case r y answer (inl (q, sat)) =

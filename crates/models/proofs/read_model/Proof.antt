@@ -4,13 +4,17 @@ use Prim.Native.Nat.{ℕ}
 use mathlib.Core.List.{List}
 use borrow.Author.Needs.{needs}
 use Rattle.reading.specs.File.{accepted}
-use Rattle.reading.proofs.Basics.ByteLaws.{slice-bytes}
-use Rattle.models.specs.Phone.{statesOf}
+use Rattle.reading.proofs.Basics.Outcomes.{byCase-value}
+use Rattle.reading.proofs.RecordLists.RecordsRead.{begun-none}
+use Rattle.models.specs.Phone.{noStep, statesOf, stepFormat}
 use Rattle.models.specs.Loading.{StepsBegun}
 use Rattle.models.specs.declared.PhoneModel.{PhoneModel}
-use Rattle.models.proofs.Files.FileWays.{states-found, none-begun, states-refused, loaded-accepted, loaded-refused}
+use Rattle.models.proofs.Files.Cases.{states-cases}
+use Rattle.models.proofs.Files.FileWays.{states-refused, loaded-accepted, loaded-refused}
 use Rattle.models.proofs.read_model.Statement.{statement}
 use Rattle.models.proofs.read_model.Tie as tie
+
+-- ---- what is known of the count
 
 -- the count of states that was read
 module _ (c : tie.After-known-told) where
@@ -21,7 +25,9 @@ module _ (c : tie.After-known-told) where
   states = c .before .first .given .0 .0
 
   states-are : statesOf f ≡ accepted states
-  states-are = states-found (statesOf f) (sym (c .before .first .given .1) ∙ c .before .before .before .read-states .ensures)
+  states-are = byCase-value states-cases (statesOf f) _ (sym (c .before .first .given .1) ∙ c .before .before .before .read-states .ensures)
+
+-- ---- each obligation
 
 read-states-requires : tie.Need-read-states-requires
 read-states-requires c κs = search needs
@@ -50,9 +56,8 @@ blank-model-requires c κs = search needs
 read-array-requires : tie.Need-read-array-requires
 read-array-requires c κs =
     let k = c .before .before in
-    let known = k .before .before .before .before .shared-slice-known .given in
     subst (λ (b : PhoneModel). StepsBegun (f k) (states k) (b .steps) 0 2) (sym (c .before .blank-model .ensures))
-    (none-begun (f k) _ (slice-bytes (f k) known))
+    (begun-none (stepFormat (f k) (states k)) noStep 512 2)
 
 enum-told-2 : tie.Need-enum-told-2
 enum-told-2 c = search needs

@@ -1,34 +1,37 @@
--- A file is accepted as the rule r exactly where r is well formed and the file is its encoding.
+-- A file is accepted as the rule r exactly where r is well formed and the file is its encoding: its patterns stand at the front, its formula after them,
+-- and there the file ends.
 use mathlib.Core.Path.{_≡_, refl, sym, ap, _∙_, subst}
-use mathlib.Core.Bool.{false, and-false}
+use mathlib.Core.Bool.{false}
 use mathlib.Core.List.{List, [], _++_, append-nil}
 use Prim.Native.Nat.{ℕ, _+_, _-_, _≤_}
 use native.Mathlib.Omega.{arith}
 use lib.ListN.{length, drop, length-append, drop-of-length-le}
 use lib.Dec.{ltb}
 use borrow.Author.Tests.{ltb-false, le-ltb}
-use Rattle.reading.specs.Rule.{Formula, truth, falsity, both, necessity, max, variable, size}
+use Rattle.reading.specs.Rule.{Formula, truth, falsity, both, necessity, max, variable, size, Truth, Falsity, Both, Max, Necessity, Variable}
 use Rattle.reading.specs.Rule.{Rule, RuleWithinLimits, encodePatterns, encodeFormula, encode, Bytes}
 use Rattle.reading.specs.File.{Outcome, accepted, refused, isPattern, patternsAt, Parsed, formulaOf, endOfFile, ruleOf}
 use Rattle.reading.specs.Numbered.{numbered, readingOf}
 use Rattle.reading.specs.Promises.{AcceptsEncodings, OneRule, AnswersAccepted}
 use Rattle.reading.specs.declared.Acceptance.the-variants.{Accepted}
 use Rattle.reading.specs.declared.Reading.{Reading}
-use Rattle.reading.proofs.Basics.Outcomes.{accepted-is, accepted-by, then-accepts, passes}
+use Rattle.reading.proofs.Basics.Outcomes.{accepted-is, andThen-accepted, andThen-accepts, refuse-accepted}
 use Rattle.reading.proofs.Basics.Places.{first-byte, rest-after}
-use Rattle.reading.proofs.Accepting.PatternBytes.{PatternsStand, patterns-accept}
+use Rattle.reading.proofs.Accepting.PatternBytes.{node-no-pattern, PatternsStand, patterns-accept}
 use Rattle.reading.proofs.Accepting.Sound.{FormulaStands}
 use Rattle.reading.proofs.Accepting.FormulaBytes.{formula-accepts}
 use Rattle.reading.proofs.Accepting.Encoding.{encoding-is-bytes}
 
+-- ---- what is accepted stands
+
 rule-stands : (s : List ℕ) → Bytes s → (r : Rule) → ruleOf s ≡ accepted r → RuleWithinLimits r × (s ≡ encode r)
 unfolding ruleOf
 rule-stands s bytes r e =
-    let head = accepted-by (patternsAt 32 s 0) _ e in
+    let head = andThen-accepted (patternsAt 32 s 0) _ e in
     let ps = head .0 in
-    let body = accepted-by (formulaOf s (length (ps .list)) (ps .next) 64 []) (endOfFile s (ps .list)) (head .2) in
+    let body = andThen-accepted (formulaOf s (length (ps .list)) (ps .next) 64 []) (endOfFile s (ps .list)) (head .2) in
     let f = body .0 in
-    let end = passes (ltb (f .next) (length s)) 3 (f .next) _ (body .2) in
+    let end = refuse-accepted (ltb (f .next) (length s)) 3 (f .next) _ (body .2) in
     let patterns = patterns-accept s bytes 0 32 ps .0 (head .1) in
     let formula = formula-accepts s (length (ps .list)) (ps .next) 64 [] f .0 (body .1) in
     let bp = encodePatterns (ps .list) in
@@ -40,17 +43,19 @@ rule-stands s bytes r e =
         few-patterns = patterns .few;
         few-nodes = omega (arith, formula .nodes);
       },
-      patterns .bytes ∙ ap (λ (l : List ℕ). bp ++ l) (formula .bytes ∙ ap (λ (l : List ℕ). bf ++ l) none ∙ append-nil bf),
+      patterns .bytes-are ∙ ap (λ (l : List ℕ). bp ++ l) (formula .bytes ∙ ap (λ (l : List ℕ). bf ++ l) none ∙ append-nil bf),
     )
 
+-- ---- what stands is accepted
+
 -- a formula does not begin as a pattern
-no-pattern : (f : Formula) (s : List ℕ) (at : ℕ) → drop at s ≡ encodeFormula f ++ [] → isPattern s at ≡ false
-no-pattern truth s at from = rw (first-byte s at from .is, and-false)
-no-pattern falsity s at from = rw (first-byte s at from .is, and-false)
-no-pattern (both f g) s at from = rw (first-byte s at from .is, and-false)
-no-pattern (necessity p f) s at from = rw (first-byte s at from .is, and-false)
-no-pattern (max f) s at from = rw (first-byte s at from .is, and-false)
-no-pattern (variable d) s at from = rw (first-byte s at from .is, and-false)
+formula-no-pattern : (f : Formula) (s : List ℕ) (at : ℕ) → drop at s ≡ encodeFormula f ++ [] → isPattern s at ≡ false
+formula-no-pattern truth s at from = node-no-pattern s at Truth (first-byte s at from)
+formula-no-pattern falsity s at from = node-no-pattern s at Falsity (first-byte s at from)
+formula-no-pattern (both f g) s at from = node-no-pattern s at Both (first-byte s at from)
+formula-no-pattern (necessity p f) s at from = node-no-pattern s at (Necessity p) (first-byte s at from)
+formula-no-pattern (max f) s at from = node-no-pattern s at Max (first-byte s at from)
+formula-no-pattern (variable d) s at from = node-no-pattern s at (Variable d) (first-byte s at from)
 
 rule-read : (s : List ℕ) → Bytes s → (r : Rule) → RuleWithinLimits r → s ≡ encode r → ruleOf s ≡ accepted r
 unfolding ruleOf
@@ -63,9 +68,9 @@ rule-read s bytes r w e =
     let patterns : PatternsStand s 0 32 (record { list = r .patterns; next = next }) = record {
       well-formed = w .well-formed .patterns;
       few = w .few-patterns;
-      bytes = e ∙ ap (λ (l : List ℕ). bp ++ l) (sym (rest-after s 0 bp e));
+      bytes-are = e ∙ ap (λ (l : List ℕ). bp ++ l) (sym (rest-after s 0 bp e));
       ends = refl;
-      over = no-pattern (r .formula) s next from;
+      over = formula-no-pattern (r .formula) s next from;
     } in
     let n = length (r .patterns) in
     let f : Parsed = record { formula = r .formula; next = next + length bf; left = 64 - size (r .formula) } in
@@ -76,8 +81,8 @@ rule-read s bytes r w e =
       nodes = omega (arith, w .few-nodes);
     } in
     let ends : length s ≤ next + length bf = omega (arith, ap length e, length-append bp bf) in
-    then-accepts _ (patterns-accept s bytes 0 32 _ .1 patterns) (
-    then-accepts _ (formula-accepts s n next 64 [] f .1 formula) (rw (le-ltb (next + length bf) (length s) ends)))
+    andThen-accepts _ (patterns-accept s bytes 0 32 _ .1 patterns) (
+    andThen-accepts _ (formula-accepts s n next 64 [] f .1 formula) (rw (le-ltb (next + length bf) (length s) ends)))
 
 -- ---- the promises
 
@@ -96,7 +101,7 @@ pub reading-of-encoding : (r : Rule) → RuleWithinLimits r → readingOf (ruleO
 reading-of-encoding r w = ap readingOf (reading-accepts (encode r) (encoding-is-bytes r w) r .1 (w, refl))
 
 pub answer-accepted : AnswersAccepted
-answer-accepted s bytes = (λ e. on (ruleOf s) refl e, λ h. rw (h .2) (ap (λ (x : Reading). x .answer) (reading-of-encoding (h .0) (h .1))))
+answer-accepted s bytes = (λ e. on (ruleOf s) refl e, λ (r, w, is, rule). rw is (ap (λ (x : Reading). x .answer) (reading-of-encoding r w)))
   where
     on : (o : Outcome Rule) → ruleOf s ≡ o → readingOf o .answer ≡ Accepted
         → (r : Rule) × RuleWithinLimits r × (s ≡ encode r) × (readingOf (ruleOf s) .rule ≡ numbered r)

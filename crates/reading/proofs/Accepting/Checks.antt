@@ -6,9 +6,11 @@ use mathlib.Core.List.{List}
 use Prim.Native.Nat.{ℕ, _+_, _≤_, _<_}
 use lib.ListN.{length, getD}
 use borrow.Author.Tests.{le-leb, lt-leb, le-ltb, lt-ltb, eq-eqb, ne-eqb}
-use Rattle.reading.specs.Rule.{Guards}
-use Rattle.reading.specs.File.{accepted, patternAt, Necessity, Variable, necessityAt, variableAt, nodeAt}
-use Rattle.reading.specs.Representations.{patternRead, nodeRead, guardsOf}
+use Rattle.reading.specs.Rule.{Guards, Necessity, Variable, patternKind, necessityKind, variableKind}
+use Rattle.reading.specs.File.{accepted, patternAt, patternFormat, necessityAt, variableAt, nodeAt}
+use Rattle.reading.specs.Representations.{recordAt, patternRead, nodeRead, guardsOf}
+use Rattle.reading.specs.declared.Pattern.{Pattern}
+use Rattle.reading.specs.declared.patterns.PatternRead.{PatternRead as PatternRead′}
 use Rattle.reading.specs.declared.patterns.PatternRead.the-variants as PatternRead
 use Rattle.reading.specs.declared.formulas.NodeRead.{NodeRead as NodeRead′}
 use Rattle.reading.specs.declared.formulas.NodeRead.the-variants as NodeRead
@@ -17,40 +19,43 @@ use Rattle.reading.proofs.Functions.Scopes.{guards-length, unguarded-at
 -- ---- a pattern
 
 module _ (s : List ℕ) (at left : ℕ) where
-  pub no-pattern-left : left ≡ 0 → PatternRead.Refused 4 at ≡ patternRead (patternAt s at left)
+  -- what `read_pattern` answers
+  abbrev read-at : PatternRead′
+  read-at = patternRead (recordAt (patternFormat s) left at)
+
+  pub no-pattern-left : left ≡ 0 → PatternRead.Refused 4 at ≡ read-at
   no-pattern-left h = simp (eq-eqb _ _ h)
 
   module _ (l : left ≡ 0 → ⊥) where
-    pub pattern-cut : length s ≤ at + 3 → PatternRead.Refused 1 (length s) ≡ patternRead (patternAt s at left)
+    pub pattern-cut : length s ≤ at + 3 → PatternRead.Refused 1 (length s) ≡ read-at
     pattern-cut h = simp (ne-eqb _ _ l, le-leb _ _ h)
 
     module _ (b : at + 3 < length s) where
-      pub no-kind : getD s (at + 1) 0 ≡ 0 → PatternRead.Refused 5 at ≡ patternRead (patternAt s at left)
+      pub no-kind : getD s (at + 1) 0 ≡ 0 → PatternRead.Refused 5 at ≡ read-at
       no-kind h = simp (ne-eqb _ _ l, lt-leb _ _ b, eq-eqb _ _ h)
 
       module _ (k : getD s (at + 1) 0 ≡ 0 → ⊥) where
-        pub first-over : 31 < getD s (at + 2) 0 → PatternRead.Refused 5 at ≡ patternRead (patternAt s at left)
+        pub first-over : 31 < getD s (at + 2) 0 → PatternRead.Refused 5 at ≡ read-at
         first-over h = simp (ne-eqb _ _ l, lt-leb _ _ b, ne-eqb _ _ k, lt-ltb _ _ h)
 
         module _ (f : getD s (at + 2) 0 ≤ 31) where
-          pub last-over : 31 < getD s (at + 3) 0 → PatternRead.Refused 5 at ≡ patternRead (patternAt s at left)
+          pub last-over : 31 < getD s (at + 3) 0 → PatternRead.Refused 5 at ≡ read-at
           last-over h = simp (ne-eqb _ _ l, lt-leb _ _ b, ne-eqb _ _ k, le-ltb _ _ f, lt-ltb _ _ h)
 
           module _ (t : getD s (at + 3) 0 ≤ 31) where
-            pub first-past-last : getD s (at + 3) 0 < getD s (at + 2) 0 → PatternRead.Refused 5 at ≡ patternRead (patternAt s at left)
+            pub first-past-last : getD s (at + 3) 0 < getD s (at + 2) 0 → PatternRead.Refused 5 at ≡ read-at
             first-past-last h = simp (ne-eqb _ _ l, lt-leb _ _ b, ne-eqb _ _ k, le-ltb _ _ f, le-ltb _ _ t, lt-ltb _ _ h)
 
-            module _ (o : getD s (at + 2) 0 ≤ getD s (at + 3) 0) where
-              pub pattern-accepted : patternAt s at left ≡ accepted (record {
-                mask = getD s (at + 1) 0;
-                first = getD s (at + 2) 0;
-                last = getD s (at + 3) 0;
-              })
-              pattern-accepted = simp (ne-eqb _ _ l, lt-leb _ _ b, ne-eqb _ _ k, le-ltb _ _ f, le-ltb _ _ t, le-ltb _ _ o)
+module _ (s : List ℕ) (at : ℕ) (b : at + 3 < length s) (k : getD s (at + 1) 0 ≡ 0 → ⊥) (f : getD s (at + 2) 0 ≤ 31) (t : getD s (at + 3) 0 ≤ 31)
+    (o : getD s (at + 2) 0 ≤ getD s (at + 3) 0) where
+  abbrev pub pattern-there : Pattern
+  pattern-there = record { mask = getD s (at + 1) 0; first = getD s (at + 2) 0; last = getD s (at + 3) 0 }
 
-              pub pattern-read : PatternRead.Read (record { mask = getD s (at + 1) 0; first = getD s (at + 2) 0; last = getD s (at + 3) 0 })
-                  ≡ patternRead (patternAt s at left)
-              pattern-read = sym (ap patternRead pattern-accepted)
+  pub pattern-accepted : patternAt s at ≡ accepted pattern-there
+  pattern-accepted = simp (lt-leb _ _ b, ne-eqb _ _ k, le-ltb _ _ f, le-ltb _ _ t, le-ltb _ _ o)
+
+  pub pattern-read : (left : ℕ) → (left ≡ 0 → ⊥) → PatternRead.Read pattern-there ≡ read-at s at left
+  pattern-read left l = simp (ne-eqb _ _ l, pattern-accepted)
 
 -- ---- a necessity
 
@@ -66,7 +71,7 @@ module _ (s : List ℕ) (n at : ℕ) where
       pub necessity-accepted : necessityAt s n at ≡ accepted (record { symbol = Necessity (getD s (at + 1) 0); next = at + 2 })
       necessity-accepted = simp (lt-leb _ _ b, lt-leb _ _ i)
 
-      pub necessity-read : NodeRead.Read (record { kind = 5; body = getD s (at + 1) 0; next = at + 2 }) ≡ nodeRead (necessityAt s n at)
+      pub necessity-read : NodeRead.Read (record { kind = necessityKind; body = getD s (at + 1) 0; next = at + 2 }) ≡ nodeRead (necessityAt s n at)
       necessity-read = sym (ap nodeRead necessity-accepted)
 
 -- ---- a variable
@@ -87,7 +92,7 @@ module _ (s : List ℕ) (g : Guards) (at : ℕ) where
         pub variable-accepted : variableAt s g at ≡ accepted (record { symbol = Variable (getD s (at + 1) 0); next = at + 2 })
         variable-accepted = simp (lt-leb _ _ b, lt-leb _ _ i, h)
 
-        pub variable-read : NodeRead.Read (record { kind = 7; body = getD s (at + 1) 0; next = at + 2 }) ≡ nodeRead (variableAt s g at)
+        pub variable-read : NodeRead.Read (record { kind = variableKind; body = getD s (at + 1) 0; next = at + 2 }) ≡ nodeRead (variableAt s g at)
         variable-read = sym (ap nodeRead variable-accepted)
 
 -- the same where two counts say which maxes are guarded
@@ -100,7 +105,7 @@ module _ (s : List ℕ) (m u at : ℕ) (order : u ≤ m) (b : at + 1 < length s)
     not-guarded-of h = not-guarded s (guardsOf m u) at b (rw (guards-length m u order) i) (unguarded-at m u (getD s (at + 1) 0) h)
 
     pub variable-read-of : u ≤ getD s (at + 1) 0
-        → NodeRead.Read (record { kind = 7; body = getD s (at + 1) 0; next = at + 2 }) ≡ nodeRead (variableAt s (guardsOf m u) at)
+        → NodeRead.Read (record { kind = variableKind; body = getD s (at + 1) 0; next = at + 2 }) ≡ nodeRead (variableAt s (guardsOf m u) at)
     variable-read-of h = variable-read s (guardsOf m u) at b (rw (guards-length m u order) i) (guarded-at m u (getD s (at + 1) 0) h i)
 
 -- ---- a node
@@ -110,24 +115,24 @@ module _ (s : List ℕ) (n at left : ℕ) (g : Guards) where
   file-ended h = simp (le-leb _ _ h)
 
   module _ (b : at < length s) where
-    pub kind-0 : getD s at 0 ≡ 0 → NodeRead.Refused 2 at ≡ nodeRead (nodeAt s n at left g)
-    kind-0 h = simp (lt-leb _ _ b, h)
+    pub kind-zero : getD s at 0 ≡ 0 → NodeRead.Refused 2 at ≡ nodeRead (nodeAt s n at left g)
+    kind-zero h = simp (lt-leb _ _ b, h)
 
     module _ (z : getD s at 0 ≡ 0 → ⊥) where
-      pub kind-over : 7 < getD s at 0 → NodeRead.Refused 2 at ≡ nodeRead (nodeAt s n at left g)
+      pub kind-over : variableKind < getD s at 0 → NodeRead.Refused 2 at ≡ nodeRead (nodeAt s n at left g)
       kind-over h = simp (lt-leb _ _ b, ne-eqb _ _ z, lt-ltb _ _ h)
 
-      module _ (t : getD s at 0 ≤ 7) where
-        pub late-pattern : getD s at 0 ≡ 1 → NodeRead.Refused 3 at ≡ nodeRead (nodeAt s n at left g)
+      module _ (t : getD s at 0 ≤ variableKind) where
+        pub late-pattern : getD s at 0 ≡ patternKind → NodeRead.Refused 3 at ≡ nodeRead (nodeAt s n at left g)
         late-pattern h = simp (lt-leb _ _ b, h)
 
-        module _ (p : getD s at 0 ≡ 1 → ⊥) where
+        module _ (p : getD s at 0 ≡ patternKind → ⊥) where
           pub no-node-left : left ≡ 0 → NodeRead.Refused 4 at ≡ nodeRead (nodeAt s n at left g)
           no-node-left h = simp (lt-leb _ _ b, ne-eqb _ _ z, le-ltb _ _ t, ne-eqb _ _ p, h)
 
           module _ (l : left ≡ 0 → ⊥) where
-            pub node-necessity : getD s at 0 ≡ 5 → (r : NodeRead′) → r ≡ nodeRead (necessityAt s n at) → r ≡ nodeRead (nodeAt s n at left g)
+            pub node-necessity : getD s at 0 ≡ necessityKind → (r : NodeRead′) → r ≡ nodeRead (necessityAt s n at) → r ≡ nodeRead (nodeAt s n at left g)
             node-necessity h r e = simp (lt-leb _ _ b, h, ne-eqb _ _ l) e
 
-            pub node-variable : getD s at 0 ≡ 7 → (r : NodeRead′) → r ≡ nodeRead (variableAt s g at) → r ≡ nodeRead (nodeAt s n at left g)
+            pub node-variable : getD s at 0 ≡ variableKind → (r : NodeRead′) → r ≡ nodeRead (variableAt s g at) → r ≡ nodeRead (nodeAt s n at left g)
             node-variable h r e = simp (lt-leb _ _ b, h, ne-eqb _ _ l) e

@@ -1,4 +1,5 @@
--- The encoding of a well-formed rule is a list of bytes, at most 255 of them.
+-- The encoding of a well-formed rule is a list of bytes, at most 255 of them: four for each pattern, at most two for each node, and some node has no
+-- body.
 use mathlib.Core.Path.{_≡_, refl}
 use mathlib.Core.Bool.{true, false}
 use mathlib.Core.List.{List, [], _∷_}
@@ -7,17 +8,15 @@ use native.Mathlib.Omega.{arith}
 use lib.ListN.{length, length-append, length-map}
 use Rattle.reading.specs.Pattern.{WellFormedPattern}
 use Rattle.reading.specs.Rule.{Formula, truth, falsity, both, necessity, max, variable, size, Guards, guarded, WellFormed}
-use Rattle.reading.specs.Rule.{Rule, All, RuleWithinLimits, encodePatterns, encodeFormula, encode, Bytes}
+use Rattle.reading.specs.Rule.{Rule, RuleWithinLimits, patternBytes, encodePatterns, encodeFormula, encode, Bytes}
 use Rattle.reading.specs.declared.Pattern.{Pattern}
 use Rattle.reading.proofs.Basics.ByteLaws.{bytes-append}
+use Rattle.reading.proofs.Basics.EncodeLaws.{encodeEach-bytes}
 
 -- ---- bytes
 
-patterns-are-bytes : (l : List Pattern) → All WellFormedPattern l → Bytes (encodePatterns l)
-patterns-are-bytes [] w = tt
-patterns-are-bytes (p ∷ l) w =
-    let h = w .0 in
-    (omega arith, (omega (arith, h .byte), (omega (arith, h .in-order, h .slots), (omega (arith, h .slots), patterns-are-bytes l (w .1)))))
+pattern-is-bytes : (p : Pattern) → WellFormedPattern p → Bytes (patternBytes p)
+pattern-is-bytes p w = (omega arith, (omega (arith, w .byte), (omega (arith, w .in-order, w .slots), (omega (arith, w .slots), tt))))
 
 -- a variable's depth is below the maxes around it, each of which is a node
 formula-is-bytes : (n : ℕ) → n ≤ 256 → (f : Formula) (g : Guards) → length g + size f ≤ 256 → WellFormed n g f → Bytes (encodeFormula f)
@@ -37,7 +36,7 @@ formula-is-bytes n few (variable d) g fits w = (omega arith, (omega (arith, w .0
 pub encoding-is-bytes : (r : Rule) → RuleWithinLimits r → Bytes (encode r)
 encoding-is-bytes r w =
     bytes-append (encodePatterns (r .patterns)) (encodeFormula (r .formula))
-    (patterns-are-bytes (r .patterns) (w .well-formed .patterns))
+    (encodeEach-bytes patternBytes WellFormedPattern pattern-is-bytes (r .patterns) (w .well-formed .patterns))
     (formula-is-bytes (length (r .patterns)) (omega (arith, w .few-patterns)) (r .formula) [] (omega (arith, w .few-nodes)) (w .well-formed .formula))
 
 -- ---- length

@@ -1,4 +1,5 @@
--- A node record is accepted exactly where a node is left and the record's bytes, within its limits, stand at its place.
+-- A node record is accepted exactly where a node is left and the record's bytes, within its limits, stand at its place: kind by kind, the checks that
+-- the record passes say so.
 use mathlib.Core.Path.{_≡_, refl, sym, ap, subst, _∙_}
 use mathlib.Core.Bool.{true, false, cond, not, _||_}
 use mathlib.Core.Logic.{_↔_}
@@ -8,14 +9,16 @@ use native.Mathlib.Omega.{arith}
 use lib.ListN.{length, getD}
 use lib.Dec.{ltb, leb, eqb}
 use borrow.Author.Tests.{ltb-false, leb-false, eqb-false, lt-leb, ne-eqb, not-false}
-use Rattle.reading.specs.Rule.{Guards}
-use Rattle.reading.specs.File.{Outcome, accepted}
-use Rattle.reading.specs.File.{Symbol, Truth, Falsity, Both, Necessity, Max, Variable, NodeRecord, necessityAt, variableAt, bareAt, nodeAt}
-use Rattle.reading.specs.Representations.{kindByte, nodeRead}
+use Rattle.reading.specs.Rule.{Guards, Symbol, Truth, Falsity, Both, Necessity, Max, Variable, kindByte}
+use Rattle.reading.specs.Rule.{patternKind, truthKind, falsityKind, bothKind, necessityKind, maxKind, variableKind}
+use Rattle.reading.specs.File.{Outcome, accepted, NodeRecord, necessityAt, variableAt, bareAt, nodeAt}
+use Rattle.reading.specs.Representations.{nodeRead}
 use Rattle.reading.specs.declared.formulas.NodeRead.the-variants as NodeRead
-use Rattle.reading.proofs.Basics.Outcomes.{accepted-is, passes, neither}
+use Rattle.reading.proofs.Basics.Outcomes.{accepted-is, refuse-accepted, neither}
 use Rattle.reading.proofs.Basics.Places.{Byte}
 use Rattle.reading.proofs.Accepting.Checks.{necessity-accepted, variable-accepted}
+
+-- ---- the kinds of nodes
 
 -- the symbols without a body
 pub data Bare : Symbol → Type 0 where
@@ -24,97 +27,114 @@ pub data Bare : Symbol → Type 0 where
   bare-both : Bare Both
   bare-max : Bare Max
 
+-- the kinds of nodes
+pub data NodeKind : ℕ → Type 0 where
+  bare-kind : {x : Symbol} → Bare x → NodeKind (kindByte x)
+  necessity-kind : NodeKind necessityKind
+  variable-kind : NodeKind variableKind
+
+-- a kind of a record that is no pattern
+pub node-kind : (k : ℕ) → (k ≡ 0 → ⊥) → k ≤ variableKind → (k ≡ patternKind → ⊥) → NodeKind k
+node-kind zero some known node = absurd (some refl)
+node-kind (suc zero) some known node = absurd (node refl)
+node-kind (suc (suc zero)) some known node = bare-kind bare-truth
+node-kind (suc (suc (suc zero))) some known node = bare-kind bare-falsity
+node-kind (suc (suc (suc (suc zero)))) some known node = bare-kind bare-both
+node-kind (suc (suc (suc (suc (suc zero))))) some known node = necessity-kind
+node-kind (suc (suc (suc (suc (suc (suc zero)))))) some known node = bare-kind bare-max
+node-kind (suc (suc (suc (suc (suc (suc (suc zero))))))) some known node = variable-kind
+node-kind (suc (suc (suc (suc (suc (suc (suc (suc k)))))))) some known node = absurd (omega arith)
+
+-- ---- where a record stands it is read
+
 -- The record r stands at `at`, after n patterns, inside maxes of which g says whether they are guarded.
 pub data NodeStands (s : List ℕ) (n at : ℕ) (g : Guards) : NodeRecord → Type 0 where
   bare : {x : Symbol} → Bare x → Byte s at (kindByte x) → NodeStands s n at g (record { symbol = x; next = at + 1 })
-  of-necessity : {p : ℕ} → p < n → Byte s at 5 → Byte s (at + 1) p → NodeStands s n at g (record { symbol = Necessity p; next = at + 2 })
-  of-variable : {d : ℕ} → d < length g → getD g d false ≡ true → Byte s at 7 → Byte s (at + 1) d
+  of-necessity : {p : ℕ} → p < n → Byte s at necessityKind → Byte s (at + 1) p → NodeStands s n at g (record { symbol = Necessity p; next = at + 2 })
+  of-variable : {d : ℕ} → d < length g → getD g d false ≡ true → Byte s at variableKind → Byte s (at + 1) d
       → NodeStands s n at g (record { symbol = Variable d; next = at + 2 })
 
 module _ (s : List ℕ) (n at left : ℕ) (g : Guards) where
   -- what is left to check of a record of kind k once it is known to begin
   abbrev pub ofKind : ℕ → Outcome NodeRecord
   ofKind k =
-      cond (eqb k 2) (bareAt Truth at)
-      (cond (eqb k 3) (bareAt Falsity at)
-      (cond (eqb k 4) (bareAt Both at)
-      (cond (eqb k 5) (necessityAt s n at)
-      (cond (eqb k 6) (bareAt Max at)
+      cond (eqb k truthKind) (bareAt Truth at)
+      (cond (eqb k falsityKind) (bareAt Falsity at)
+      (cond (eqb k bothKind) (bareAt Both at)
+      (cond (eqb k necessityKind) (necessityAt s n at)
+      (cond (eqb k maxKind) (bareAt Max at)
       (variableAt s g at)))))
 
-  begins : {k : ℕ} → 0 < left → Byte s at k → (eqb k 0 || ltb 7 k) ≡ false → eqb k 1 ≡ false → nodeAt s n at left g ≡ ofKind k
-  begins pos b known node = rw (lt-leb (length s) at (b .inside), b .is, known, node, ne-eqb left 0 (λ z. omega arith))
+  node-of-kind : {k : ℕ} → 0 < left → Byte s at k → (eqb k 0 || ltb variableKind k) ≡ false → eqb k patternKind ≡ false → nodeAt s n at left g ≡ ofKind k
+  node-of-kind pos b known node = rw (lt-leb (length s) at (b .inside), b .is, known, node, ne-eqb left 0 (λ z. omega arith))
 
   bare-read : {x : Symbol} → Bare x → Byte s at (kindByte x) → 0 < left → nodeAt s n at left g ≡ bareAt x at
-  bare-read bare-truth b pos = begins pos b refl refl
-  bare-read bare-falsity b pos = begins pos b refl refl
-  bare-read bare-both b pos = begins pos b refl refl
-  bare-read bare-max b pos = begins pos b refl refl
+  bare-read bare-truth b pos = node-of-kind pos b refl refl
+  bare-read bare-falsity b pos = node-of-kind pos b refl refl
+  bare-read bare-both b pos = node-of-kind pos b refl refl
+  bare-read bare-max b pos = node-of-kind pos b refl refl
 
   node-read : {r : NodeRecord} → 0 < left → NodeStands s n at g r → nodeAt s n at left g ≡ accepted r
   node-read pos (bare x b) = bare-read x b pos
   node-read pos (of-necessity h b a) =
-      begins pos b refl refl ∙ necessity-accepted s n at (a .inside) (rw (a .is) h) ∙ rw (a .is)
+      node-of-kind pos b refl refl ∙ necessity-accepted s n at (a .inside) (rw (a .is) h) ∙ rw (a .is)
   node-read pos (of-variable h guard b a) =
-      begins pos b refl refl ∙ variable-accepted s g at (a .inside) (rw (a .is) h) (rw (a .is) guard) ∙ rw (a .is)
+      node-of-kind pos b refl refl ∙ variable-accepted s g at (a .inside) (rw (a .is) h) (rw (a .is) guard) ∙ rw (a .is)
 
   -- a kind that is none of the others is that of a record without a body
-  bare-kind : (k : ℕ) → Byte s at k → 0 < left → (k ≡ 0 → ⊥) → k ≤ 7 → (k ≡ 1 → ⊥) → (k ≡ 5 → ⊥) → (k ≡ 7 → ⊥)
+  bare-node : {k : ℕ} → NodeKind k → Byte s at k → 0 < left → (k ≡ necessityKind → ⊥) → (k ≡ variableKind → ⊥)
       → NodeRead.Read (record { kind = k; body = 0; next = at + 1 }) ≡ nodeRead (nodeAt s n at left g)
-  bare-kind zero b pos h0 h h1 h5 h7 = absurd (h0 refl)
-  bare-kind (suc zero) b pos h0 h h1 h5 h7 = absurd (h1 refl)
-  bare-kind (suc (suc zero)) b pos h0 h h1 h5 h7 = sym (ap nodeRead (bare-read bare-truth b pos))
-  bare-kind (suc (suc (suc zero))) b pos h0 h h1 h5 h7 = sym (ap nodeRead (bare-read bare-falsity b pos))
-  bare-kind (suc (suc (suc (suc zero)))) b pos h0 h h1 h5 h7 = sym (ap nodeRead (bare-read bare-both b pos))
-  bare-kind (suc (suc (suc (suc (suc zero))))) b pos h0 h h1 h5 h7 = absurd (h5 refl)
-  bare-kind (suc (suc (suc (suc (suc (suc zero)))))) b pos h0 h h1 h5 h7 = sym (ap nodeRead (bare-read bare-max b pos))
-  bare-kind (suc (suc (suc (suc (suc (suc (suc zero))))))) b pos h0 h h1 h5 h7 = absurd (h7 refl)
-  bare-kind (suc (suc (suc (suc (suc (suc (suc (suc k)))))))) b pos h0 h h1 h5 h7 = absurd (omega arith)
+  bare-node (bare-kind bare-truth) b pos no-necessity no-variable = sym (ap nodeRead (bare-read bare-truth b pos))
+  bare-node (bare-kind bare-falsity) b pos no-necessity no-variable = sym (ap nodeRead (bare-read bare-falsity b pos))
+  bare-node (bare-kind bare-both) b pos no-necessity no-variable = sym (ap nodeRead (bare-read bare-both b pos))
+  bare-node (bare-kind bare-max) b pos no-necessity no-variable = sym (ap nodeRead (bare-read bare-max b pos))
+  bare-node necessity-kind b pos no-necessity no-variable = absurd (no-necessity refl)
+  bare-node variable-kind b pos no-necessity no-variable = absurd (no-variable refl)
 
-  pub node-bare : at < length s → (getD s at 0 ≡ 0 → ⊥) → getD s at 0 ≤ 7 → (getD s at 0 ≡ 1 → ⊥) → (left ≡ 0 → ⊥)
-      → (getD s at 0 ≡ 5 → ⊥) → (getD s at 0 ≡ 7 → ⊥)
+  pub node-bare : at < length s → (getD s at 0 ≡ 0 → ⊥) → getD s at 0 ≤ variableKind → (getD s at 0 ≡ patternKind → ⊥) → (left ≡ 0 → ⊥)
+      → (getD s at 0 ≡ necessityKind → ⊥) → (getD s at 0 ≡ variableKind → ⊥)
       → NodeRead.Read (record { kind = getD s at 0; body = 0; next = at + 1 }) ≡ nodeRead (nodeAt s n at left g)
-  node-bare i h0 h h1 l h5 h7 = bare-kind (getD s at 0) (record { inside = i; is = refl }) (omega arith) h0 h h1 h5 h7
+  node-bare i some known node l no-necessity no-variable =
+      bare-node (node-kind (getD s at 0) some known node) (record { inside = i; is = refl }) (omega arith) no-necessity no-variable
+
+  -- ---- what is read stands
 
   module _ (r : NodeRecord) where
-    read-as : {x : NodeRecord} → NodeStands s n at g x → accepted x ≡ accepted r → NodeStands s n at g r
-    read-as stands e = subst (λ (x : NodeRecord). NodeStands s n at g x) (accepted-is e) stands
+    stands-as : {x : NodeRecord} → NodeStands s n at g x → accepted x ≡ accepted r → NodeStands s n at g r
+    stands-as stands e = subst (λ (x : NodeRecord). NodeStands s n at g x) (accepted-is e) stands
 
-    necessity-stands : Byte s at 5 → necessityAt s n at ≡ accepted r → NodeStands s n at g r
+    necessity-stands : Byte s at necessityKind → necessityAt s n at ≡ accepted r → NodeStands s n at g r
     necessity-stands b e =
-        let whole = passes (leb (length s) (at + 1)) 1 (length s) _ e in
-        let known = passes (leb n (getD s (at + 1) 0)) 6 at _ (whole .1) in
-        read-as (of-necessity (leb-false _ _ (known .0)) b (record { inside = leb-false _ _ (whole .0); is = refl })) (known .1)
+        let whole = refuse-accepted (leb (length s) (at + 1)) 1 (length s) _ e in
+        let known = refuse-accepted (leb n (getD s (at + 1) 0)) 6 at _ (whole .1) in
+        stands-as (of-necessity (leb-false _ _ (known .0)) b (record { inside = leb-false _ _ (whole .0); is = refl })) (known .1)
 
-    variable-stands : Byte s at 7 → variableAt s g at ≡ accepted r → NodeStands s n at g r
+    variable-stands : Byte s at variableKind → variableAt s g at ≡ accepted r → NodeStands s n at g r
     variable-stands b e =
-        let whole = passes (leb (length s) (at + 1)) 1 (length s) _ e in
-        let known = passes (leb (length g) (getD s (at + 1) 0)) 6 at _ (whole .1) in
-        let guard = passes (not (getD g (getD s (at + 1) 0) false)) 7 at _ (known .1) in
+        let whole = refuse-accepted (leb (length s) (at + 1)) 1 (length s) _ e in
+        let known = refuse-accepted (leb (length g) (getD s (at + 1) 0)) 6 at _ (whole .1) in
+        let guard = refuse-accepted (not (getD g (getD s (at + 1) 0) false)) 7 at _ (known .1) in
         let depth : Byte s (at + 1) (getD s (at + 1) 0) = record { inside = leb-false _ _ (whole .0); is = refl } in
-        read-as (of-variable (leb-false _ _ (known .0)) (not-false _ (guard .0)) b depth) (guard .1)
+        stands-as (of-variable (leb-false _ _ (known .0)) (not-false _ (guard .0)) b depth) (guard .1)
 
-    by-kind : (k : ℕ) → Byte s at k → (k ≡ 0 → ⊥) → k ≤ 7 → (k ≡ 1 → ⊥) → ofKind k ≡ accepted r → NodeStands s n at g r
-    by-kind zero b some known node e = absurd (some refl)
-    by-kind (suc zero) b some known node e = absurd (node refl)
-    by-kind (suc (suc zero)) b some known node e = read-as (bare bare-truth b) e
-    by-kind (suc (suc (suc zero))) b some known node e = read-as (bare bare-falsity b) e
-    by-kind (suc (suc (suc (suc zero)))) b some known node e = read-as (bare bare-both b) e
-    by-kind (suc (suc (suc (suc (suc zero))))) b some known node e = necessity-stands b e
-    by-kind (suc (suc (suc (suc (suc (suc zero)))))) b some known node e = read-as (bare bare-max b) e
-    by-kind (suc (suc (suc (suc (suc (suc (suc zero))))))) b some known node e = variable-stands b e
-    by-kind (suc (suc (suc (suc (suc (suc (suc (suc k)))))))) b some known node e = absurd (omega arith)
+    kind-stands : {k : ℕ} → NodeKind k → Byte s at k → ofKind k ≡ accepted r → NodeStands s n at g r
+    kind-stands (bare-kind bare-truth) b e = stands-as (bare bare-truth b) e
+    kind-stands (bare-kind bare-falsity) b e = stands-as (bare bare-falsity b) e
+    kind-stands (bare-kind bare-both) b e = stands-as (bare bare-both b) e
+    kind-stands (bare-kind bare-max) b e = stands-as (bare bare-max b) e
+    kind-stands necessity-kind b e = necessity-stands b e
+    kind-stands variable-kind b e = variable-stands b e
 
     node-stands : nodeAt s n at left g ≡ accepted r → (0 < left) × NodeStands s n at g r
     node-stands e =
-        let begun = passes (leb (length s) at) 1 (length s) _ e in
-        let known = passes (eqb (getD s at 0) 0 || ltb 7 (getD s at 0)) 2 at _ (begun .1) in
-        let node = passes (eqb (getD s at 0) 1) 3 at _ (known .1) in
-        let few = passes (eqb left 0) 4 at _ (node .1) in
-        let range = neither (eqb (getD s at 0) 0) (ltb 7 (getD s at 0)) (known .0) in
+        let begun = refuse-accepted (leb (length s) at) 1 (length s) _ e in
+        let known = refuse-accepted (eqb (getD s at 0) 0 || ltb variableKind (getD s at 0)) 2 at _ (begun .1) in
+        let node = refuse-accepted (eqb (getD s at 0) patternKind) 3 at _ (known .1) in
+        let few = refuse-accepted (eqb left 0) 4 at _ (node .1) in
+        let range = neither (eqb (getD s at 0) 0) (ltb variableKind (getD s at 0)) (known .0) in
         let here : Byte s at (getD s at 0) = record { inside = leb-false _ _ (begun .0); is = refl } in (
           omega (arith, eqb-false left 0 (few .0)),
-          by-kind (getD s at 0) here (eqb-false _ _ (range .0)) (ltb-false _ _ (range .1)) (eqb-false _ _ (node .0)) (few .1),
+          kind-stands (node-kind (getD s at 0) (eqb-false _ _ (range .0)) (ltb-false _ _ (range .1)) (eqb-false _ _ (node .0))) here (few .1),
         )
 
     pub node-accepts : (nodeAt s n at left g ≡ accepted r) ↔ ((0 < left) × NodeStands s n at g r)

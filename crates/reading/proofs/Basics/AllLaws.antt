@@ -1,4 +1,4 @@
--- Laws of a property that every element of a list has.
+-- Laws of a property that every element of a list has, each by going through the list.
 use mathlib.Core.List.{List, [], _∷_, _++_}
 use Prim.Native.Nat.{ℕ, zero, suc, _<_}
 use native.Mathlib.Omega.{arith}

@@ -1,4 +1,4 @@
--- Laws of lists of bytes.
+-- Laws of lists of bytes, from those of a property that every element has.
 use mathlib.Core.List.{List, _++_}
 use Prim.Native.Nat.{ℕ, _<_}
 use native.Mathlib.Omega.{arith}

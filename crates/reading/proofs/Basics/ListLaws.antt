@@ -1,4 +1,4 @@
--- Elements of a list by their place.
+-- Elements of a list by their place, by going through the list to it.
 use mathlib.Core.Path.{_≡_, refl, _∙_}
 use mathlib.Core.List.{List, [], _∷_, map}
 use Prim.Native.Nat.{ℕ, zero, suc, _<_}

@@ -1,4 +1,5 @@
--- Bytes at a place of a file. That the bytes `l` are the file from `at` on is said by `drop at s ≡ l`.
+-- Bytes at a place of a file. That the bytes `l` are the file from `at` on is said by `drop at s ≡ l`; what stands further on is found by dropping
+-- more.
 use mathlib.Core.Path.{_≡_, refl, ap, _∙_}
 use mathlib.Core.List.{List, _∷_, _++_}
 use Prim.Native.Nat.{ℕ, suc, _+_, _<_}
@@ -15,6 +16,10 @@ pub from-byte : {s : List ℕ} {at x : ℕ} (next : ℕ) → Byte s at x → at 
 from-byte {s} {at} next b e =
     let after : suc at ≡ next = omega arith in
     drop-cons s at 0 (b .inside) ∙ rw (b .is, after)
+
+-- the byte at `at`, whatever it is, and what follows it
+pub from-place : (s : List ℕ) (at next : ℕ) → at < length s → at + 1 ≡ next → drop at s ≡ getD s at 0 ∷ drop next s
+from-place s at next inside e = from-byte next (record { inside = inside; is = refl }) e
 
 -- where the file from `at` on is l, its byte and its rest i places on
 module _ (s : List ℕ) (at i place : ℕ) {l : List ℕ} (from : drop at s ≡ l) (e : at + i ≡ place) where

@@ -1,4 +1,5 @@
--- What each way out of `read_formula` leaves is what its contract says.
+-- What each way out of `read_formula` leaves is what its contract says: the node that was read settles the way, and the calls before it say what they
+-- left of the parts.
 use mathlib.Core.Path.{_≡_, refl, sym, ap, _∙_}
 use mathlib.Core.Bool.{false, cond}
 use mathlib.Core.List.{List, _∷_}
@@ -7,37 +8,31 @@ use native.Mathlib.Omega.{arith}
 use lib.ListN.{length, getD, set}
 use lib.Dec.{eqb}
 use lib.Seq.{sets, set-set}
-use Rattle.reading.specs.Rule.{Formula, both, necessity, max, size, Guards, guarded}
-use Rattle.reading.specs.File.{Outcome, accepted, refused, andThen}
-use Rattle.reading.specs.File.{Symbol, Truth, Falsity, Both, Necessity, Max, Variable, NodeRecord, nodeAt, Parsed, under, partsBy, formulaOf}
+use Rattle.reading.specs.Rule.{Formula, both, necessity, max, size, Guards, guarded, Symbol, Truth, Falsity, Both, Necessity, Max, Variable, kindByte}
+use Rattle.reading.specs.Rule.{truthKind, falsityKind, bothKind, necessityKind, maxKind, variableKind}
+use Rattle.reading.specs.File.{Outcome, accepted, refused, andThen, NodeRecord, nodeAt, Parsed, under, partsBy, formulaOf}
 use Rattle.reading.specs.Numbered.{kinds, args}
-use Rattle.reading.specs.Representations.{kindByte, bodyByte, nodeRead, formulaRead, passedUp, Reads}
+use Rattle.reading.specs.Representations.{bodyByte, nodeOf, nodeRead, restOf, passedUp, Reads}
 use Rattle.reading.specs.declared.formulas.Record.{Record}
 use Rattle.reading.specs.declared.formulas.Rest.{Rest}
 use Rattle.reading.specs.declared.formulas.NodeRead.{NodeRead}
 use Rattle.reading.specs.declared.formulas.NodeRead.the-variants as NodeRead′
 use Rattle.reading.specs.declared.formulas.FormulaRead.{FormulaRead}
 use Rattle.reading.specs.declared.formulas.FormulaRead.the-variants as FormulaRead′
+use Rattle.reading.proofs.Basics.Outcomes.{byCase-refused, byCase-accepted}
+use Rattle.reading.proofs.Basics.Cases.{node-cases, formula-cases}
 use Rattle.reading.proofs.Accepting.Steps.{formula-step, formula-sound}
 use Rattle.reading.proofs.Accepting.NodeBytes.{bare-truth, bare-falsity, bare-both, bare-max, NodeStands, bare, of-necessity, of-variable, node-accepts}
 use Rattle.reading.proofs.Numbering.NumberedLaws.{kinds-size, args-size}
 use Rattle.reading.proofs.Functions.Stores.{two-lists, two-lists-over}
 
--- what a formula's answer says of it
-pub not-read : (o : Outcome Parsed) {number place : ℕ} → formulaRead o ≡ FormulaRead′.Refused number place → o ≡ refused number place
-not-read (accepted f) e = let z : _≡_ {A = ℕ} 0 1 = cc in absurd (omega arith)
-not-read (refused number place) e = cc
-
-pub was-read : (o : Outcome Parsed) {rest : Rest} → formulaRead o ≡ FormulaRead′.Read rest
-    → (f : Parsed) × (o ≡ accepted f) × (rest ≡ record { next = f .next; left = f .left })
-was-read (accepted f) e = (f, refl, cc)
-was-read (refused number place) e = let z : _≡_ {A = ℕ} 0 1 = cc in absurd (omega arith)
+-- ---- a node and its parts in the arrays
 
 -- a part that was read leaves no more nodes than there were
-pub rest-left : (s : List ℕ) (n at left : ℕ) (g : Guards) {ms ks gs ks′ gs′ : List ℕ} (r : FormulaRead) (rest : Rest)
+pub part-leaves : (s : List ℕ) (n at left : ℕ) (g : Guards) {ms ks gs ks′ gs′ : List ℕ} (r : FormulaRead) (rest : Rest)
     → Reads (formulaOf s n at left g) left ms ks gs ks′ gs′ r → r ≡ FormulaRead′.Read rest → rest .left ≤ left
-rest-left s n at left g r rest h e =
-    let a = was-read (formulaOf s n at left g) (sym (h .answer) ∙ e) in
+part-leaves s n at left g r rest h e =
+    let a = byCase-accepted formula-cases restOf (formulaOf s n at left g) rest (sym e ∙ h .answer) in
     omega (arith, formula-sound s n at left g (a .0) (a .1) .nodes, ap (λ (x : Rest). x .left) (a .2))
 
 -- A node with one part: the node's kind and argument are stored, then those of the part.
@@ -58,31 +53,31 @@ module _ (left : ℕ) (pos : 0 < left) (few : left ≤ 64) (ms ms′ ks gs : Lis
 module _ (left argument : ℕ) (pos : 0 < left) (few : left ≤ 64) (ms ks gs : List ℕ)
     (f : Parsed) (takes : size (f .formula) + f .left ≡ left - 1) where
   -- the node itself, and its second part
-  abbrev here : ℕ
-  here = 64 - left
+  abbrev own : ℕ
+  own = 64 - left
 
   abbrev second : ℕ
-  second = here + suc (size (f .formula))
+  second = own + suc (size (f .formula))
 
   two-parts : (o : Outcome Parsed) {ks′ gs′ ks″ gs″ : List ℕ} {r : FormulaRead}
-      → ks′ ≡ sets (set ks here 4) (64 - (left - 1)) (kinds (64 - (left - 1)) ms (f .formula))
-      → gs′ ≡ sets (set gs here argument) (64 - (left - 1)) (args (64 - (left - 1)) ms (f .formula))
-      → Reads o (f .left) ms ks′ (set gs′ here (64 - f .left)) ks″ gs″ r
+      → ks′ ≡ sets (set ks own bothKind) (64 - (left - 1)) (kinds (64 - (left - 1)) ms (f .formula))
+      → gs′ ≡ sets (set gs own argument) (64 - (left - 1)) (args (64 - (left - 1)) ms (f .formula))
+      → Reads o (f .left) ms ks′ (set gs′ own (64 - f .left)) ks″ gs″ r
       → Reads (andThen o (under (both (f .formula)))) left ms ks gs ks″ gs″ r
   two-parts (accepted g) ek ea h =
-      let first-is : 64 - (left - 1) ≡ suc here = omega arith in
+      let first-is : 64 - (left - 1) ≡ suc own = omega arith in
       let second-is : 64 - f .left ≡ second = omega arith in
-      let after-kinds : second ≡ suc here + length (kinds (suc here) ms (f .formula)) = omega (arith, kinds-size (suc here) ms (f .formula)) in
-      let after-args : second ≡ suc here + length (args (suc here) ms (f .formula)) = omega (arith, args-size (suc here) ms (f .formula)) in
+      let after-kinds : second ≡ suc own + length (kinds (suc own) ms (f .formula)) = omega (arith, kinds-size (suc own) ms (f .formula)) in
+      let after-args : second ≡ suc own + length (args (suc own) ms (f .formula)) = omega (arith, args-size (suc own) ms (f .formula)) in
       record {
         answer = h .answer;
         written = (
           h .written .0
               ∙ rw (ek, first-is, second-is)
-              (two-lists ks here 4 (kinds (suc here) ms (f .formula)) (kinds second ms (g .formula)) second after-kinds),
+              (two-lists ks own bothKind (kinds (suc own) ms (f .formula)) (kinds second ms (g .formula)) second after-kinds),
           h .written .1
               ∙ rw (ea, first-is, second-is)
-              (two-lists-over gs here argument second (args (suc here) ms (f .formula)) (args second ms (g .formula)) second after-args),
+              (two-lists-over gs own argument second (args (suc own) ms (f .formula)) (args second ms (g .formula)) second after-args),
         );
       }
   two-parts (refused number place) ek ea h = record { answer = h .answer; written = tt }
@@ -92,7 +87,12 @@ module _ (left argument : ℕ) (pos : 0 < left) (few : left ≤ 64) (ms ks gs : 
 -- the symbol of a kind and a body
 abbrev symbolFor : (kind body : ℕ) → Symbol
 symbolFor k b =
-    cond (eqb k 2) Truth (cond (eqb k 3) Falsity (cond (eqb k 4) Both (cond (eqb k 5) (Necessity b) (cond (eqb k 6) Max (Variable b)))))
+    cond (eqb k truthKind) Truth
+    (cond (eqb k falsityKind) Falsity
+    (cond (eqb k bothKind) Both
+    (cond (eqb k necessityKind) (Necessity b)
+    (cond (eqb k maxKind) Max
+    (Variable b)))))
 
 symbol-is : (x : Symbol) → symbolFor (kindByte x) (bodyByte x) ≡ x
 symbol-is Truth = refl
@@ -101,16 +101,6 @@ symbol-is Both = refl
 symbol-is (Necessity p) = refl
 symbol-is Max = refl
 symbol-is (Variable d) = refl
-
--- the record of a node that was found
-found-node : (o : Outcome NodeRecord) {node : Record} → NodeRead′.Read node ≡ nodeRead o
-    → (r : NodeRecord) × (o ≡ accepted r) × (node ≡ record { kind = kindByte (r .symbol); body = bodyByte (r .symbol); next = r .next })
-found-node (accepted r) e = (r, refl, cc)
-found-node (refused number place) e = let z : _≡_ {A = ℕ} 0 1 = cc in absurd (omega arith)
-
-not-found : (o : Outcome NodeRecord) {number place : ℕ} → NodeRead′.Refused number place ≡ nodeRead o → o ≡ refused number place
-not-found (accepted r) e = let z : _≡_ {A = ℕ} 0 1 = cc in absurd (omega arith)
-not-found (refused number place) e = cc
 
 -- The node that was found stands in the file, and the formula is that node and its parts.
 pub record Found (s : List ℕ) (n at left : ℕ) (g : Guards) (node : Record) : Type 0 where
@@ -123,10 +113,9 @@ pub record Found (s : List ℕ) (n at left : ℕ) (g : Guards) (node : Record) :
 
 module _ (s : List ℕ) (n at left : ℕ) (g : Guards) (found : NodeRead) (told : found ≡ nodeRead (nodeAt s n at left g)) where
   pub found-is : (node : Record) → found ≡ NodeRead′.Read node → Found s n at left g node
-  found-is node is = go (found-node (nodeAt s n at left g) (sym is ∙ told))
+  found-is node is = go (byCase-accepted node-cases nodeOf (nodeAt s n at left g) node (sym is ∙ told))
     where
-      go : (r : NodeRecord) × (nodeAt s n at left g ≡ accepted r)
-          × (node ≡ record { kind = kindByte (r .symbol); body = bodyByte (r .symbol); next = r .next }) → Found s n at left g node
+      go : (r : NodeRecord) × (nodeAt s n at left g ≡ accepted r) × (node ≡ nodeOf r) → Found s n at left g node
       go (r, e, node-is) =
           let next : node .next ≡ r .next = ap (λ (x : Record). x .next) node-is in
           let read = node-accepts s n at left g r .0 e in record {
@@ -150,10 +139,10 @@ module _ {s : List ℕ} {n at left : ℕ} {g : Guards} {node : Record} (f : Foun
   body-as x e = f .body-is ∙ ap bodyByte (symbol-told ∙ e)
 
 -- the depth of a variable names a max
-pub is-bound : {s : List ℕ} {n at left : ℕ} {g : Guards} {node : Record} → Found s n at left g node → node .kind ≡ 7 → node .body < length g
-is-bound {s} {n} {at} {left} {g} {node} f e = on (f .stands) (sym (f .kind-is) ∙ e) (f .body-is)
+pub variable-in-scope : {s : List ℕ} {n at left : ℕ} {g : Guards} {node : Record} → Found s n at left g node → node .kind ≡ variableKind → node .body < length g
+variable-in-scope {s} {n} {at} {left} {g} {node} f e = on (f .stands) (sym (f .kind-is) ∙ e) (f .body-is)
   where
-    on : {r : NodeRecord} → NodeStands s n at g r → kindByte (r .symbol) ≡ 7 → node .body ≡ bodyByte (r .symbol) → node .body < length g
+    on : {r : NodeRecord} → NodeStands s n at g r → kindByte (r .symbol) ≡ variableKind → node .body ≡ bodyByte (r .symbol) → node .body < length g
     on (bare bare-truth b) k i = absurd (omega arith)
     on (bare bare-falsity b) k i = absurd (omega arith)
     on (bare bare-both b) k i = absurd (omega arith)
@@ -167,37 +156,38 @@ module _ (s : List ℕ) (n at left : ℕ) (g : Guards) (ms ks gs : List ℕ) whe
   abbrev Whole : (ks′ gs′ : List ℕ) → FormulaRead → Type 0
   Whole ks′ gs′ r = Reads (formulaOf s n at left g) left ms ks gs ks′ gs′ r
 
-  whole : {o : Outcome Parsed} {ks′ gs′ : List ℕ} {r : FormulaRead} → formulaOf s n at left g ≡ o → Reads o left ms ks gs ks′ gs′ r → Whole ks′ gs′ r
-  whole e h = rw e h
+  reads-as : {o : Outcome Parsed} {ks′ gs′ : List ℕ} {r : FormulaRead} → formulaOf s n at left g ≡ o → Reads o left ms ks gs ks′ gs′ r → Whole ks′ gs′ r
+  reads-as e h = rw e h
 
   pub node-refused : (found : NodeRead) {number place : ℕ} {r : FormulaRead} {ks′ gs′ : List ℕ} → found ≡ nodeRead (nodeAt s n at left g)
       → found ≡ NodeRead′.Refused number place → r ≡ passedUp found → Whole ks′ gs′ r
   node-refused found {number} {place} told is e =
-      whole {o = refused number place} (formula-step s n at left g ∙ rw (not-found (nodeAt s n at left g) (sym is ∙ told)))
+      reads-as {o = refused number place}
+      (formula-step s n at left g ∙ rw (byCase-refused node-cases nodeOf (nodeAt s n at left g) number place (sym is ∙ told)))
       (record { answer = e ∙ ap passedUp is; written = tt })
 
   module _ (node : Record) (found : Found s n at left g node) where
-    abbrev one-node : FormulaRead
-    one-node = FormulaRead′.Read (record { next = node .next; left = left - 1 })
+    abbrev after-node : FormulaRead
+    after-node = FormulaRead′.Read (record { next = node .next; left = left - 1 })
 
-    pub is-leaf : (node .kind ≡ 4 → ⊥) → (node .kind ≡ 5 → ⊥) → (node .kind ≡ 6 → ⊥) → (node .kind ≡ 7 → ⊥)
-        → Whole (set ks (64 - left) (node .kind)) (set gs (64 - left) (node .body)) one-node
-    is-leaf h4 h5 h6 h7 = on (found .symbol) (found .kind-is) (found .body-is) (found .step)
+    pub reads-leaf : (node .kind ≡ bothKind → ⊥) → (node .kind ≡ necessityKind → ⊥) → (node .kind ≡ maxKind → ⊥) → (node .kind ≡ variableKind → ⊥)
+        → Whole (set ks (64 - left) (node .kind)) (set gs (64 - left) (node .body)) after-node
+    reads-leaf h4 h5 h6 h7 = on (found .symbol) (found .kind-is) (found .body-is) (found .step)
       where
         on : (x : Symbol) → node .kind ≡ kindByte x → node .body ≡ bodyByte x
             → formulaOf s n at left g ≡ partsBy (formulaOf s n) x (node .next) (left - 1) g
-            → Whole (set ks (64 - left) (node .kind)) (set gs (64 - left) (node .body)) one-node
-        on Truth k b e = whole e (record { answer = refl; written = (rw k, rw b) })
-        on Falsity k b e = whole e (record { answer = refl; written = (rw k, rw b) })
+            → Whole (set ks (64 - left) (node .kind)) (set gs (64 - left) (node .body)) after-node
+        on Truth k b e = reads-as e (record { answer = refl; written = (rw k, rw b) })
+        on Falsity k b e = reads-as e (record { answer = refl; written = (rw k, rw b) })
         on Both k b e = absurd (h4 k)
         on (Necessity p) k b e = absurd (h5 k)
         on Max k b e = absurd (h6 k)
         on (Variable d) k b e = absurd (h7 k)
 
-    pub is-variable : node .kind ≡ 7 → (x : ℕ) → x ≡ getD ms (node .body) 0
-        → Whole (set ks (64 - left) (node .kind)) (set (set gs (64 - left) (node .body)) (64 - left) x) one-node
-    is-variable k x e =
-        whole (step-as found (Variable (node .body)) (rw k))
+    pub reads-variable : node .kind ≡ variableKind → (x : ℕ) → x ≡ getD ms (node .body) 0
+        → Whole (set ks (64 - left) (node .kind)) (set (set gs (64 - left) (node .body)) (64 - left) x) after-node
+    reads-variable k x e =
+        reads-as (step-as found (Variable (node .body)) (rw k))
         (record { answer = refl; written = (rw k, set-set gs (64 - left) (node .body) x ∙ rw e) })
 
     -- what a call of `read_formula` found of a part and left, inside the max nodes ms′
@@ -206,40 +196,41 @@ module _ (s : List ℕ) (n at left : ℕ) (g : Guards) (ms ks gs : List ℕ) whe
         Reads (formulaOf s n (node .next) (left - 1) g′) (left - 1) ms′ (set ks (64 - left) (node .kind)) (set gs (64 - left) (node .body)) ks′ gs′ r
 
     module _ (few : left ≤ 64) {ks′ gs′ : List ℕ} {r : FormulaRead} where
-      pub is-necessity : node .kind ≡ 5 → Part ms (guarded g) ks′ gs′ r → Whole ks′ gs′ r
-      is-necessity k h =
-          whole (step-as found (Necessity (node .body)) (rw k))
-          (one-part left (found .one-left) few ms ms ks gs 5 (node .body) (necessity (node .body))
+      pub reads-necessity : node .kind ≡ necessityKind → Part ms (guarded g) ks′ gs′ r → Whole ks′ gs′ r
+      reads-necessity k h =
+          reads-as (step-as found (Necessity (node .body)) (rw k))
+          (one-part left (found .one-left) few ms ms ks gs necessityKind (node .body) (necessity (node .body))
           (formulaOf s n (node .next) (left - 1) (guarded g)) (λ f. refl) (λ f. refl) (rw k at h))
 
-      pub is-max : node .kind ≡ 6 → Part ((64 - left) ∷ ms) (false ∷ g) ks′ gs′ r → Whole ks′ gs′ r
-      is-max k h =
+      pub reads-max : node .kind ≡ maxKind → Part ((64 - left) ∷ ms) (false ∷ g) ks′ gs′ r → Whole ks′ gs′ r
+      reads-max k h =
           let no-body : node .body ≡ 0 = body-as found Max (rw k) in
-          whole (step-as found Max (rw k))
-          (one-part left (found .one-left) few ms ((64 - left) ∷ ms) ks gs 6 0 max
+          reads-as (step-as found Max (rw k))
+          (one-part left (found .one-left) few ms ((64 - left) ∷ ms) ks gs maxKind 0 max
           (formulaOf s n (node .next) (left - 1) (false ∷ g)) (λ f. refl) (λ f. refl) (rw (k, no-body) at h))
 
     -- the first part of a "both", and what `read_formula` found there
-    module _ (k : node .kind ≡ 4) (few : left ≤ 64) {ks′ gs′ : List ℕ} (first : FormulaRead) (h : Part ms g ks′ gs′ first) where
-      abbrev one : Outcome Parsed
-      one = formulaOf s n (node .next) (left - 1) g
+    module _ (k : node .kind ≡ bothKind) (few : left ≤ 64) {ks′ gs′ : List ℕ} (first : FormulaRead) (h : Part ms g ks′ gs′ first) where
+      abbrev first-part : Outcome Parsed
+      first-part = formulaOf s n (node .next) (left - 1) g
 
-      both-step : formulaOf s n at left g ≡ andThen one (λ f. andThen (formulaOf s n (f .next) (f .left) g) (under (both (f .formula))))
+      both-step : formulaOf s n at left g ≡ andThen first-part (λ f. andThen (formulaOf s n (f .next) (f .left) g) (under (both (f .formula))))
       both-step = step-as found Both (rw k)
 
-      pub first-refused : {number place : ℕ} → first ≡ FormulaRead′.Refused number place → Whole ks′ gs′ first
-      first-refused {number} {place} e =
-          whole {o = refused number place} (both-step ∙ rw (not-read one (sym (h .answer) ∙ e))) (record { answer = e; written = tt })
+      pub both-refused : {number place : ℕ} → first ≡ FormulaRead′.Refused number place → Whole ks′ gs′ first
+      both-refused {number} {place} e =
+          reads-as {o = refused number place}
+          (both-step ∙ rw (byCase-refused formula-cases restOf first-part number place (sym e ∙ h .answer))) (record { answer = e; written = tt })
 
-      second-part : (f : Parsed) → one ≡ accepted f → {ks″ gs″ : List ℕ} {r : FormulaRead}
+      second-part : (f : Parsed) → first-part ≡ accepted f → {ks″ gs″ : List ℕ} {r : FormulaRead}
           → Reads (formulaOf s n (f .next) (f .left) g) (f .left) ms ks′ (set gs′ (64 - left) (64 - f .left)) ks″ gs″ r → Whole ks″ gs″ r
       second-part f e h′ =
           let w = rw e at (h .written) in
           let takes = formula-sound s n (node .next) (left - 1) g f e .nodes in
-          whole (both-step ∙ rw e)
+          reads-as (both-step ∙ rw e)
           (two-parts left (node .body) (found .one-left) few ms ks gs f takes (formulaOf s n (f .next) (f .left) g) (w .0 ∙ rw k) (w .1) h′)
 
-      pub is-both : (rest : Rest) → first ≡ FormulaRead′.Read rest → {ks″ gs″ : List ℕ} {r : FormulaRead}
+      pub reads-both : (rest : Rest) → first ≡ FormulaRead′.Read rest → {ks″ gs″ : List ℕ} {r : FormulaRead}
           → Reads (formulaOf s n (rest .next) (rest .left) g) (rest .left) ms ks′ (set gs′ (64 - left) (64 - rest .left)) ks″ gs″ r
           → Whole ks″ gs″ r
-      is-both rest e h′ = let a = was-read one (sym (h .answer) ∙ e) in second-part (a .0) (a .1) (rw (a .2) at h′)
+      reads-both rest e h′ = let a = byCase-accepted formula-cases restOf first-part rest (sym e ∙ h .answer) in second-part (a .0) (a .1) (rw (a .2) at h′)

@@ -20,15 +20,15 @@ getD-lastFirst (suc n) ns (suc d) h =
     let e : suc n - 1 - suc d ≡ n - 1 - d = omega arith in rw e (getD-lastFirst n ns d (omega arith))
 
 -- a store past the first n changes none of them
-past : (n i : ℕ) (ns : List ℕ) (v : ℕ) → n ≤ i → lastFirst n (set ns i v) ≡ lastFirst n ns
+lastFirst-past : (n i : ℕ) (ns : List ℕ) (v : ℕ) → n ≤ i → lastFirst n (set ns i v) ≡ lastFirst n ns
 unfolding lastFirst
-past zero i ns v h = refl
-past (suc n) i ns v h = rw (getD-set-other ns i n v 0 (λ e. omega arith), past n i ns v (omega arith))
+lastFirst-past zero i ns v h = refl
+lastFirst-past (suc n) i ns v h = rw (getD-set-other ns i n v 0 (λ e. omega arith), lastFirst-past n i ns v (omega arith))
 
 -- one more max, at the end of the array, is the innermost
-pub push : (n : ℕ) (ns : List ℕ) (v : ℕ) → n < length ns → lastFirst (n + 1) (set ns n v) ≡ v ∷ lastFirst n ns
+pub lastFirst-push : (n : ℕ) (ns : List ℕ) (v : ℕ) → n < length ns → lastFirst (n + 1) (set ns n v) ≡ v ∷ lastFirst n ns
 unfolding lastFirst
-push n ns v h = rw (add-one n, getD-set-same ns n v 0 h, past n n ns v (omega arith))
+lastFirst-push n ns v h = rw (add-one n, getD-set-same ns n v 0 h, lastFirst-past n n ns v (omega arith))
 
 -- ---- guards
 

@@ -1,4 +1,4 @@
--- Laws of the least number that a test holds of, and of how many numbers it holds of, for any test.
+-- Laws of the least number that a test holds of, and of how many numbers it holds of, for any test, each by recursion over the bound.
 use mathlib.Core.Path.{_≡_, refl, ap}
 use mathlib.Core.Bool.{Bool, true, false, cond, _&&_, and-false}
 use Prim.Native.Nat.{ℕ, zero, suc, _+_, _-_, _*_, _≤_, _<_}

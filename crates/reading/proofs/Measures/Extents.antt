@@ -1,6 +1,5 @@
 -- What a pattern covers: the trailing zeros of its mask give the lowest code, and the ones how many codes.
 use mathlib.Core.Path.{_≡_, refl, sym, _∙_}
-use mathlib.Core.Logic.{_↔_}
 use mathlib.Core.Bool.{true, true≢false, and-eq-true-iff}
 use Prim.Native.Nat.{ℕ, _+_, _-_, _*_, _≤_, _<_}
 use native.Mathlib.Nat.{lt-of-not-le}
@@ -15,6 +14,8 @@ use Rattle.reading.specs.declared.Pattern.{Pattern}
 use Rattle.reading.proofs.Measures.Bits.{isSet, trailing-is-least, trailing-lt, ones-is-count}
 use Rattle.reading.proofs.Measures.Counting.{least-holds, least-below, count-below-le, between, least-between, count-below-between}
 use Rattle.reading.proofs.Measures.Products.{ofBoth, least-of-both, count-below-of-both}
+
+-- ---- what a pattern covers
 
 pub covers-means : CoversMeans
 unfolding covers
@@ -33,6 +34,8 @@ covers-means p code = (
 covers-both : (p : Pattern) → covers p ≡ ofBoth (isSet (p .mask)) (between (p .first) (p .last))
 unfolding covers
 covers-both p = refl
+
+-- ---- its lowest code, and its count
 
 module _ (p : Pattern) (ok : WellFormedPattern p) where
   lowest-kind : trailingZeros 8 (p .mask) < 8

@@ -7,7 +7,8 @@ use native.Mathlib.Decide.{decLe}
 use native.Mathlib.Omega.{arith}
 use Rattle.reading.specs.Pattern.{codeOf, kindOf, slotOf, least, countBelow}
 use Rattle.reading.proofs.Measures.Codes.{kind-of-code, slot-of-code}
-use Rattle.reading.proofs.Measures.Counting.{least-is, least-holds, least-below, count-below-zero, count-below-last, count-below-split, count-below-same, count-below-and}
+use Rattle.reading.proofs.Measures.Counting.{least-is, least-holds, least-below, count-below-zero, count-below-last, count-below-split, count-below-same}
+use Rattle.reading.proofs.Measures.Counting.{count-below-and}
 
 abbrev pub ofBoth : (ℕ → Bool) → (ℕ → Bool) → ℕ → Bool
 ofBoth kinds slots code = kinds (kindOf code) && slots (slotOf code)

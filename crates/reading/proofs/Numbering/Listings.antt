@@ -9,6 +9,8 @@ use lib.Seq.{getD-append-add}
 use Rattle.reading.specs.Rule.{Formula, truth, falsity, both, necessity, max, variable, size}
 use Rattle.reading.specs.Nodes.{EnclosingMax, Node, whole, first, second, after, body, preorder}
 
+-- ---- a list with an element for each node
+
 pub size-positive : (f : Formula) → 0 < size f
 size-positive truth = omega arith
 size-positive falsity = omega arith
@@ -49,16 +51,16 @@ module _ {M A : Type 0} (keep : EnclosingMax → M) (own : ℕ → List M → Fo
     listed-from (after n) i h = ap at (omega arith) ∙ listed-from n (suc i) (omega arith)
     listed-from (body n) i h = ap at (omega arith) ∙ listed-from n (suc i) (omega arith)
 
-    first-is : (k : ℕ) (ms : List M) (f : Formula) → getD (listed k ms f) 0 x ≡ own k ms f
-    first-is k ms truth = refl
-    first-is k ms falsity = refl
-    first-is k ms (both f g) = refl
-    first-is k ms (necessity p f) = refl
-    first-is k ms (max f) = refl
-    first-is k ms (variable d) = refl
+    listed-first : (k : ℕ) (ms : List M) (f : Formula) → getD (listed k ms f) 0 x ≡ own k ms f
+    listed-first k ms truth = refl
+    listed-first k ms falsity = refl
+    listed-first k ms (both f g) = refl
+    listed-first k ms (necessity p f) = refl
+    listed-first k ms (max f) = refl
+    listed-first k ms (variable d) = refl
 
     pub listed-at : {k : ℕ} {ms : List EnclosingMax} {f : Formula} → Node root k ms f → at k ≡ own k (map keep ms) f
-    listed-at {k} {ms} {f} n = ap at (omega arith) ∙ listed-from n 0 (size-positive f) ∙ first-is k (map keep ms) f
+    listed-at {k} {ms} {f} n = ap at (omega arith) ∙ listed-from n 0 (size-positive f) ∙ listed-first k (map keep ms) f
 
 -- ---- a number names one node only
 
@@ -67,12 +69,12 @@ abbrev named : ℕ → List EnclosingMax → Formula → List EnclosingMax × Fo
 named k ms f = (ms, f)
 
 -- the list of the nodes so named has a node at its number
-node-found : {root : Formula} {k : ℕ} {ms : List EnclosingMax} {f : Formula} → Node root k ms f
+named-at : {root : Formula} {k : ℕ} {ms : List EnclosingMax} {f : Formula} → Node root k ms f
     → getD (preorder (λ (m : EnclosingMax). m) named 0 [] root) k (named 0 [] truth) ≡ named k ms f
-node-found {root} {ms = ms} n = rw map-id at (listed-at (λ (m : EnclosingMax). m) named root (named 0 [] truth) n)
+named-at {root} {ms = ms} n = rw map-id at (listed-at (λ (m : EnclosingMax). m) named root (named 0 [] truth) n)
 
 pub node-unique : {root : Formula} {k : ℕ} {ms ms′ : List EnclosingMax} {f f′ : Formula} → Node root k ms f → Node root k ms′ f′
     → (ms ≡ ms′) × (f ≡ f′)
 node-unique {root} {k} {ms} {ms′} {f} {f′} n n′ =
-    let e : _≡_ {A = List EnclosingMax × Formula} (ms, f) (ms′, f′) = sym (node-found n) ∙ node-found n′ in
+    let e : _≡_ {A = List EnclosingMax × Formula} (ms, f) (ms′, f′) = sym (named-at n) ∙ named-at n′ in
     (ap (λ (p : List EnclosingMax × Formula). p .0) e, ap (λ (p : List EnclosingMax × Formula). p .1) e)

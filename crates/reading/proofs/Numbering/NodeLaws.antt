@@ -25,37 +25,37 @@ node-fits (body n) = omega (arith, node-fits n)
 abbrev pub Numbers : (root : Formula) → ℕ → Type 0
 Numbers root k = (ms : List EnclosingMax) × (f : Formula) × Node root k ms f
 
-moved : (root : Formula) {j k : ℕ} → j ≡ k → Numbers root j → Numbers root k
-moved root e h = subst (Numbers root) e h
+numbers-at : (root : Formula) {j k : ℕ} → j ≡ k → Numbers root j → Numbers root k
+numbers-at root e h = subst (Numbers root) e h
 
 -- the first node of a formula is its own, and the others are those of its parts
 node-or-part : {root : Formula} {k : ℕ} {ms : List EnclosingMax} {f : Formula} → Node root k ms f
     → ((i : ℕ) → suc i < size f → Numbers root (suc k + i)) → (i : ℕ) → i < size f → Numbers root (k + i)
-node-or-part {root} {ms = ms} {f = f} n part zero h = moved root (omega arith) (ms, f, n)
-node-or-part {root} n part (suc i) h = moved root (omega arith) (part i h)
+node-or-part {root} {ms = ms} {f = f} n part zero h = numbers-at root (omega arith) (ms, f, n)
+node-or-part {root} n part (suc i) h = numbers-at root (omega arith) (part i h)
 
 -- the nodes of two formulas of sizes a and b, one after the other
-one-or-other : (root : Formula) (k a b : ℕ) → ((i : ℕ) → i < a → Numbers root (suc k + i)) → ((i : ℕ) → i < b → Numbers root (k + suc a + i))
+part-or-part : (root : Formula) (k a b : ℕ) → ((i : ℕ) → i < a → Numbers root (suc k + i)) → ((i : ℕ) → i < b → Numbers root (k + suc a + i))
     → (i : ℕ) → suc i < suc (a + b) → Numbers root (suc k + i)
-one-or-other root k a b one other i h = on (ltb i a) refl
+part-or-part root k a b one other i h = on (ltb i a) refl
   where
     on : (t : Bool) → ltb i a ≡ t → Numbers root (suc k + i)
     on true e = one i (ltb-true i a e)
     on false e =
         let past : a ≤ i = ltb-false i a e in
-        moved root (omega arith) (other (i - a) (omega arith))
+        numbers-at root (omega arith) (other (i - a) (omega arith))
 
 -- node i of the formula of node k is node k + i of the whole
 node-below : {root : Formula} {k : ℕ} {ms : List EnclosingMax} (f : Formula) → Node root k ms f → (i : ℕ) → i < size f → Numbers root (k + i)
 node-below truth n = node-or-part n (λ i h. absurd (omega arith))
 node-below falsity n = node-or-part n (λ i h. absurd (omega arith))
-node-below {root} {k} (both f g) n = node-or-part n (one-or-other root k (size f) (size g) (node-below f (first n)) (node-below g (second n)))
+node-below {root} {k} (both f g) n = node-or-part n (part-or-part root k (size f) (size g) (node-below f (first n)) (node-below g (second n)))
 node-below (necessity p f) n = node-or-part n (λ i h. node-below f (after n) i (omega arith))
 node-below (max f) n = node-or-part n (λ i h. node-below f (body n) i (omega arith))
 node-below (variable d) n = node-or-part n (λ i h. absurd (omega arith))
 
 pub node-exists : (root : Formula) (k : ℕ) → k < size root → Numbers root k
-node-exists root k h = moved root (omega arith) (node-below root whole k h)
+node-exists root k h = numbers-at root (omega arith) (node-below root whole k h)
 
 -- ---- the maxes around a node
 
@@ -64,14 +64,14 @@ pub record Around (root : Formula) (k : ℕ) (ms : List EnclosingMax) (d : ℕ) 
   pub node : Node root (getD ms d noMax .number) (drop (suc d) ms) (max (getD ms d noMax .body))
   pub before : getD ms d noMax .number < k
 
-later : {root : Formula} {k k′ : ℕ} {ms : List EnclosingMax} {d : ℕ} → k < k′ → Around root k ms d → Around root k′ ms d
-later h a = record { node = a .node; before = omega arith }
+around-later : {root : Formula} {k k′ : ℕ} {ms : List EnclosingMax} {d : ℕ} → k < k′ → Around root k ms d → Around root k′ ms d
+around-later h a = record { node = a .node; before = omega arith }
 
 pub max-around : {root : Formula} {k : ℕ} {ms : List EnclosingMax} {f : Formula} → Node root k ms f → (d : ℕ) → d < length ms → Around root k ms d
 max-around whole d h = absurd (omega arith)
-max-around (first n) d h = later (omega arith) (max-around n d h)
-max-around (second n) d h = later (omega arith) (max-around n d h)
-max-around (after n) d h = later (omega arith) (max-around n d h)
+max-around (first n) d h = around-later (omega arith) (max-around n d h)
+max-around (second n) d h = around-later (omega arith) (max-around n d h)
+max-around (after n) d h = around-later (omega arith) (max-around n d h)
 max-around (body n) zero h = record { node = n; before = omega arith }
 max-around (body {k} {ms} {f} n) (suc d) h =
     let a : Around _ k ms d = max-around n d (omega arith) in

@@ -49,20 +49,20 @@ module _ (r : Rule) {k : ℕ} {ms : List EnclosingMax} where
   node-argument n = padded-at 0 64 (args 0 [] (r .formula)) k ∙ listed-at numberOf argument (r .formula) 0 n
 
   -- what the kind and the argument of a node say of it
-  said : (f : Formula) (n : ℕ) → WellFormed n [] (r .formula) → Node (r .formula) k ms f
+  kind-resolves : (f : Formula) (n : ℕ) → WellFormed n [] (r .formula) → Node (r .formula) k ms f
       → Resolves (r .formula) k ms (kind f) (argument k (map numberOf ms) f) f
-  said truth n w m = is-truth
-  said falsity n w m = is-falsity
-  said (both f g) n w m = is-both (first m) (second m)
-  said (necessity p f) n w m = is-necessity (after m)
-  said (max f) n w m = is-max (body m)
-  said (variable d) n w m =
+  kind-resolves truth n w m = is-truth
+  kind-resolves falsity n w m = is-falsity
+  kind-resolves (both f g) n w m = is-both (first m) (second m)
+  kind-resolves (necessity p f) n w m = is-necessity (after m)
+  kind-resolves (max f) n w m = is-max (body m)
+  kind-resolves (variable d) n w m =
       let a : Around (r .formula) k ms d = max-around m d (variable-bound n w m) in
       rw (List·getD-map numberOf ms d noMax) (is-variable refl (a .node) (a .before))
 
   pub node-resolves : {f : Formula} (n : ℕ) → WellFormed n [] (r .formula) → Node (r .formula) k ms f
       → Resolves (r .formula) k ms (getD (numbered r .kinds) k 0) (getD (numbered r .args) k 0) f
-  node-resolves {f} n w m = rw (node-kind m, node-argument m) (said f n w m)
+  node-resolves {f} n w m = rw (node-kind m, node-argument m) (kind-resolves f n w m)
 
 -- ---- patterns
 

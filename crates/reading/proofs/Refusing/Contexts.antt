@@ -7,7 +7,7 @@ use mathlib.Core.List.{List, [], _∷_, _++_, map, append-assoc, append-nil}
 use Prim.Native.Nat.{ℕ, suc, _<_}
 use lib.ListN.{length, getD, length-map}
 use Rattle.reading.specs.Rule.{Formula, truth, falsity, both, necessity, max, variable, Guards, guarded, WellFormed}
-use Rattle.reading.specs.File.{Symbol, Truth, Falsity, Both, Max, Necessity, Variable}
+use Rattle.reading.specs.Rule.{Symbol, Truth, Falsity, Both, Max, Necessity, Variable}
 use Rattle.reading.specs.Faults.{Bound}
 
 -- ---- contexts
@@ -106,8 +106,8 @@ module _ {K : Contexts} {n : ℕ} where
 -- ---- completing
 
 pub data FitAll (K : Contexts) (n : ℕ) : List (K .Context) → List Formula → Type 0 where
-  none : FitAll K n [] []
-  one-more : {c : K .Context} {due : List (K .Context)} {f : Formula} {fs : List Formula} → Fits K n c f → FitAll K n due fs
+  fits-none : FitAll K n [] []
+  fits-more : {c : K .Context} {due : List (K .Context)} {f : Formula} {fs : List Formula} → Fits K n c f → FitAll K n due fs
       → FitAll K n (c ∷ due) (f ∷ fs)
 
 abbrev pub allSymbols : List Formula → List Symbol
@@ -126,47 +126,47 @@ pub record Completed (K : Contexts) (n : ℕ) (due : List (K .Context)) (xs : Li
   pub are : allSymbols formulas ≡ xs ++ truths due′
 
 module _ {K : Contexts} {n : ℕ} where
-  all-true : (due : List (K .Context)) → Completed K n due [] due
-  all-true [] = record { formulas = []; fit = none; are = refl }
-  all-true (c ∷ due) =
-      let h = all-true due in
-      record { formulas = truth ∷ h .formulas; fit = one-more tt (h .fit); are = ap (λ (l : List Symbol). Truth ∷ l) (h .are) }
+  truths-completed : (due : List (K .Context)) → Completed K n due [] due
+  truths-completed [] = record { formulas = []; fit = fits-none; are = refl }
+  truths-completed (c ∷ due) =
+      let h = truths-completed due in
+      record { formulas = truth ∷ h .formulas; fit = fits-more tt (h .fit); are = ap (λ (l : List Symbol). Truth ∷ l) (h .are) }
 
   module _ (c : K .Context) (due due′ : List (K .Context)) (xs : List Symbol) where
     -- formulas for the parts of a symbol, and one for the symbol
     with-parts : (x : Symbol) → Allows K n c x → (fs : List Formula) → FitAll K n (parts K n c x ++ due) fs → allSymbols fs ≡ xs ++ truths due′
         → Completed K n (c ∷ due) (x ∷ xs) due′
     with-parts Truth allows fs fit e =
-        record { formulas = truth ∷ fs; fit = one-more tt fit; are = ap (λ (l : List Symbol). Truth ∷ l) e }
+        record { formulas = truth ∷ fs; fit = fits-more tt fit; are = ap (λ (l : List Symbol). Truth ∷ l) e }
     with-parts Falsity allows fs fit e =
-        record { formulas = falsity ∷ fs; fit = one-more tt fit; are = ap (λ (l : List Symbol). Falsity ∷ l) e }
-    with-parts Both allows (f ∷ (g ∷ fs)) (one-more a (one-more b fit)) e = record {
+        record { formulas = falsity ∷ fs; fit = fits-more tt fit; are = ap (λ (l : List Symbol). Falsity ∷ l) e }
+    with-parts Both allows (f ∷ (g ∷ fs)) (fits-more a (fits-more b fit)) e = record {
       formulas = both f g ∷ fs;
-      fit = one-more {f = both f g} (a, b) fit;
+      fit = fits-more {f = both f g} (a, b) fit;
       are = ap (λ (l : List Symbol). Both ∷ l) (append-assoc (symbols f) (symbols g) (allSymbols fs) ∙ e);
     }
-    with-parts Both allows (f ∷ []) (one-more a b) e = elim b [ ]
-    with-parts (Necessity p) allows (f ∷ fs) (one-more a fit) e =
-        record { formulas = necessity p f ∷ fs; fit = one-more {f = necessity p f} (allows, a) fit; are = ap (λ (l : List Symbol). Necessity p ∷ l) e }
-    with-parts Max allows (f ∷ fs) (one-more a fit) e =
-        record { formulas = max f ∷ fs; fit = one-more a fit; are = ap (λ (l : List Symbol). Max ∷ l) e }
+    with-parts Both allows (f ∷ []) (fits-more a b) e = elim b [ ]
+    with-parts (Necessity p) allows (f ∷ fs) (fits-more a fit) e =
+        record { formulas = necessity p f ∷ fs; fit = fits-more {f = necessity p f} (allows, a) fit; are = ap (λ (l : List Symbol). Necessity p ∷ l) e }
+    with-parts Max allows (f ∷ fs) (fits-more a fit) e =
+        record { formulas = max f ∷ fs; fit = fits-more a fit; are = ap (λ (l : List Symbol). Max ∷ l) e }
     with-parts (Variable d) allows fs fit e =
-        record { formulas = variable d ∷ fs; fit = one-more allows fit; are = ap (λ (l : List Symbol). Variable d ∷ l) e }
+        record { formulas = variable d ∷ fs; fit = fits-more allows fit; are = ap (λ (l : List Symbol). Variable d ∷ l) e }
 
-  completed : {due due′ : List (K .Context)} {xs : List Symbol} → Consumes K n due xs due′ → Completed K n due xs due′
-  completed {due} done = all-true due
-  completed {due′ = due′} (more {c = c} {due = due} {x = x} {xs = xs} allows rest) =
-      let h = completed rest in with-parts c due due′ xs x allows (h .formulas) (h .fit) (h .are)
+  consumes-completed : {due due′ : List (K .Context)} {xs : List Symbol} → Consumes K n due xs due′ → Completed K n due xs due′
+  consumes-completed {due} done = truths-completed due
+  consumes-completed {due′ = due′} (more {c = c} {due = due} {x = x} {xs = xs} allows rest) =
+      let h = consumes-completed rest in with-parts c due due′ xs x allows (h .formulas) (h .fit) (h .are)
 
   -- one formula was due
-  pub completes : {c : K .Context} {due : List (K .Context)} {xs : List Symbol} → Consumes K n (c ∷ []) xs due
+  pub consumes-completes : {c : K .Context} {due : List (K .Context)} {xs : List Symbol} → Consumes K n (c ∷ []) xs due
       → (f : Formula) × Fits K n c f × (symbols f ≡ xs ++ truths due)
-  completes {c} {due} {xs} consumes = let h = completed consumes in on (h .formulas) (h .fit) (h .are)
+  consumes-completes {c} {due} {xs} consumes = let h = consumes-completed consumes in on (h .formulas) (h .fit) (h .are)
     where
       on : (fs : List Formula) → FitAll K n (c ∷ []) fs → allSymbols fs ≡ xs ++ truths due
           → (f : Formula) × Fits K n c f × (symbols f ≡ xs ++ truths due)
-      on (f ∷ []) (one-more fits none) e = (f, fits, rw (append-nil (symbols f)) at e)
-      on (f ∷ (f′ ∷ fs)) (one-more fits others) e = elim others [ ]
+      on (f ∷ []) (fits-more fits fits-none) e = (f, fits, rw (append-nil (symbols f)) at e)
+      on (f ∷ (f′ ∷ fs)) (fits-more fits others) e = elim others [ ]
 
 -- ---- the two kinds of contexts
 

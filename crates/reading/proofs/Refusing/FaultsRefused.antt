@@ -1,6 +1,6 @@
 -- What a clause of `Fault` says is refused so: reading comes to the clause's place, and there the reader's check is the clause's condition. With that,
 -- and with the other direction, a file is refused exactly as a clause says.
-use mathlib.Core.Path.{_≡_, refl, ap, _∙_}
+use mathlib.Core.Path.{_≡_, refl, sym, ap, _∙_}
 use mathlib.Core.Logic.{_↔_, inl, inr}
 use mathlib.Core.Bool.{Bool, true, false}
 use mathlib.Core.List.{List, [], _∷_}
@@ -9,40 +9,34 @@ use native.Mathlib.Omega.{arith}
 use lib.ListN.{length, getD, take}
 use lib.Dec.{ltb, leb, eqb}
 use borrow.Author.Tests.{leb-true, leb-false, lt-ltb, le-ltb, eqb-true}
-use Rattle.reading.specs.Rule.{Guards, Rule, Bytes}
-use Rattle.reading.specs.File.{Outcome, accepted, refused, patternAt, isPattern, NodeRecord, Symbol, necessityAt, variableAt, nodeAt, ruleOf}
+use Rattle.reading.specs.Rule.{Guards, Rule, Bytes, Symbol, patternKind, necessityKind, variableKind}
+use Rattle.reading.specs.File.{Outcome, accepted, refused, isPattern, patternFormat, necessityAt, variableAt, nodeAt, ruleOf}
 use Rattle.reading.specs.Faults.{IsPattern, NoKind, IsNode, HasBody, IsVariable, KindAt, BeginsRule, BeginsBound, IsRule, Fault}
 use Rattle.reading.specs.Faults.{file-ended, pattern-cut, node-cut, no-kind, after-rule, late-pattern, pattern-33, node-65, bad-pattern, names-nothing}
 use Rattle.reading.specs.Faults.{unguarded}
 use Rattle.reading.specs.Numbered.{readingOf}
 use Rattle.reading.specs.Promises.{RefusesAtTheFault, HasOneFault}
-use Rattle.reading.specs.Representations.{patternRead, nodeRead}
+use Rattle.reading.specs.Representations.{recordAt, patternRead, nodeOf, nodeRead}
 use Rattle.reading.specs.declared.Pattern.{Pattern}
 use Rattle.reading.specs.declared.Acceptance.the-variants.{Refused}
 use Rattle.reading.specs.declared.patterns.PatternRead.the-variants as PatternRead
 use Rattle.reading.specs.declared.formulas.NodeRead.the-variants as NodeRead
 use Rattle.reading.proofs.Basics.ByteLaws.{byte-at}
-use Rattle.reading.proofs.Basics.Outcomes.{found, never-refused}
+use Rattle.reading.proofs.Basics.Outcomes.{refuse-refused, never-refused, byCase-refused}
+use Rattle.reading.proofs.Basics.Cases.{pattern-cases, node-cases, acceptanceOf, acceptance-refused}
 use Rattle.reading.proofs.Accepting.Checks as checks
 use Rattle.reading.proofs.Basics.Places.{Byte}
 use Rattle.reading.proofs.Refusing.Contexts.{guards, Consumes, done, consumes-same}
-use Rattle.reading.proofs.Accepting.PatternBytes.{pattern-stands}
+use Rattle.reading.proofs.RecordLists.RecordWays.{record-left, record-accepted}
+use Rattle.reading.proofs.Accepting.PatternBytes.{pattern-stands, other-kind}
 use Rattle.reading.proofs.Refusing.LeftToRight.{dueAt, due-over, headAt, refused-left-to-right}
-use Rattle.reading.proofs.Refusing.ReadTo.{ReadTo, front-read, over-read, next-node, next-pattern, node-bound, bound-begins}
+use Rattle.reading.proofs.Refusing.ReadTo.{ReadTo, read-front, read-over, next-node, next-pattern, node-bound, bound-begins}
 use Rattle.reading.proofs.Refusing.RecordsHere.{necessity-here, variable-here, pattern-stood}
 use Rattle.reading.proofs.Refusing.FaultsFound.{fault-found}
 use Rattle.reading.proofs.Refusing.OneFault.{one-fault}
-use Rattle.reading.proofs.Refusing.GoingOn.{no-pattern, go-to-node, go-to-pattern, read-to-front, read-to-unfinished}
+use Rattle.reading.proofs.Refusing.GoingOn.{headAt-to-node, headAt-to-pattern, read-to-front, read-to-unfinished}
 
--- ---- from what a reader's function finds to its outcome
-
-node-told : (o : Outcome NodeRecord) {number place : ℕ} → NodeRead.Refused number place ≡ nodeRead o → o ≡ refused number place
-node-told (accepted r) e = let z : _≡_ {A = ℕ} 0 1 = cc in absurd (omega arith)
-node-told (refused m at) e = cc
-
-pattern-told : (o : Outcome Pattern) {number place : ℕ} → PatternRead.Refused number place ≡ patternRead o → o ≡ refused number place
-pattern-told (accepted p) e = let z : _≡_ {A = ℕ} 0 1 = cc in absurd (omega arith)
-pattern-told (refused m at) e = cc
+-- ---- where the next record is refused
 
 module _ (s : List ℕ) {number place : ℕ} where
   due-refused : (left n at : ℕ) (g : Guards) (due : List Guards) → nodeAt s n at left g ≡ refused number place
@@ -51,22 +45,18 @@ module _ (s : List ℕ) {number place : ℕ} where
   due-refused zero n at g due e = rw e
   due-refused (suc left) n at g due e = rw e
 
-  head-refused : (left n at : ℕ) → isPattern s at ≡ true → patternAt s at left ≡ refused number place → headAt s left n at ≡ refused number place
+  head-refused : (left n at : ℕ) → isPattern s at ≡ true → recordAt (patternFormat s) left at ≡ refused number place
+      → headAt s left n at ≡ refused number place
   unfolding headAt
   head-refused zero n at is e = rw is cc
-  head-refused (suc left) n at is e = rw (is, e)
-
-pub answer-refused : (o : Outcome Rule) (number place : ℕ) → (o ≡ refused number place) ↔ (readingOf o .answer ≡ Refused number place)
-answer-refused (accepted r) number place =
-    (λ e. let z : _≡_ {A = ℕ} 0 1 = cc in absurd (omega arith), λ e. let z : _≡_ {A = ℕ} 0 1 = cc in absurd (omega arith))
-answer-refused (refused m at) number place = (λ e. cc, λ e. cc)
+  head-refused (suc left) n at is e = rw (is, sym (record-left (patternFormat s) at left) ∙ e)
 
 -- ---- at a node
 
 module _ {s : List ℕ} {at n m : ℕ} {g : Guards} {due : List Guards} (h : ReadTo s at n m (g ∷ due)) where
   node-refused : {number place : ℕ} → (m ≡ 0 → isPattern s at ≡ false) → NodeRead.Refused number place ≡ nodeRead (nodeAt s n at (64 - m) g)
       → headAt s 32 0 0 ≡ refused number place
-  node-refused none e = go-to-node h none ∙ due-refused s (64 - m) n at g due (node-told (nodeAt s n at (64 - m) g) e)
+  node-refused none e = headAt-to-node h none ∙ due-refused s (64 - m) n at g due (byCase-refused node-cases nodeOf (nodeAt s n at (64 - m) g) _ _ e)
 
   ended-refused : at ≡ length s → headAt s 32 0 0 ≡ refused 1 (length s)
   ended-refused e =
@@ -74,9 +64,9 @@ module _ {s : List ℕ} {at n m : ℕ} {g : Guards} {due : List Guards} (h : Rea
 
   kind-refused : KindAt s at NoKind → headAt s 32 0 0 ≡ refused 2 at
   kind-refused (inside, inl is) =
-      node-refused (λ z. no-pattern s at (λ one. omega arith)) (checks.kind-0 s n at (64 - m) g inside is)
+      node-refused (λ z. other-kind s at (λ one. omega arith)) (checks.kind-zero s n at (64 - m) g inside is)
   kind-refused (inside, inr over) =
-      node-refused (λ z. no-pattern s at (λ one. omega arith)) (checks.kind-over s n at (64 - m) g inside (λ z. omega arith) over)
+      node-refused (λ z. other-kind s at (λ one. omega arith)) (checks.kind-over s n at (64 - m) g inside (λ z. omega arith) over)
 
   late-refused : KindAt s at IsPattern → 0 < m → headAt s 32 0 0 ≡ refused 3 at
   late-refused (inside, is) begun =
@@ -89,16 +79,16 @@ module _ {s : List ℕ} {at n m : ℕ} {g : Guards} {due : List Guards} (h : Rea
 
   -- a necessity or a variable, of which its own checks tell
   module _ {number place : ℕ} (few : m < 64) where
-    necessity-refused : KindAt s at (λ k. k ≡ 5) → NodeRead.Refused number place ≡ nodeRead (necessityAt s n at)
+    necessity-refused : KindAt s at (λ k. k ≡ necessityKind) → NodeRead.Refused number place ≡ nodeRead (necessityAt s n at)
         → headAt s 32 0 0 ≡ refused number place
     necessity-refused (inside, is) e =
-        node-refused (λ z. no-pattern s at (λ one. omega arith))
+        node-refused (λ z. other-kind s at (λ one. omega arith))
         (checks.node-necessity s n at (64 - m) g inside (λ z. omega arith) (omega arith) (λ z. omega arith) (λ z. omega arith) is _ e)
 
-    variable-refused : KindAt s at (λ k. k ≡ 7) → NodeRead.Refused number place ≡ nodeRead (variableAt s g at)
+    variable-refused : KindAt s at (λ k. k ≡ variableKind) → NodeRead.Refused number place ≡ nodeRead (variableAt s g at)
         → headAt s 32 0 0 ≡ refused number place
     variable-refused (inside, is) e =
-        node-refused (λ z. no-pattern s at (λ one. omega arith))
+        node-refused (λ z. other-kind s at (λ one. omega arith))
         (checks.node-variable s n at (64 - m) g inside (λ z. omega arith) (omega arith) (λ z. omega arith) (λ z. omega arith) is _ e)
 
   cut-refused : KindAt s at HasBody → m < 64 → length s < at + 2 → headAt s 32 0 0 ≡ refused 1 (length s)
@@ -127,7 +117,7 @@ module _ {s : List ℕ} {at n m : ℕ} {g : Guards} {due : List Guards} (h : Rea
       let here = variable-here s at (record { inside = inside; is = is }) (omega arith) in
       let bound = node-bound h here begins in
       on (getD g (getD s (at + 1) 0) false) refl
-      (variable-refused few (inside, is)) (λ guard. none (front-read (next-node h refl few here (bound, guard)) .begins)) bound
+      (variable-refused few (inside, is)) (λ guard. none (read-front (next-node h refl few here (bound, guard)) .begins)) bound
     where
       on : (c : Bool) → getD g (getD s (at + 1) 0) false ≡ c
           → (NodeRead.Refused 7 at ≡ nodeRead (variableAt s g at) → headAt s 32 0 0 ≡ refused 7 at)
@@ -148,8 +138,8 @@ first-due {n = n} {due = due} h = on (h .nodes) (h .nnodes) (h .consumes)
 after-refused : {s : List ℕ} {at n m : ℕ} {due : List Guards} → ReadTo s at n m due → IsRule (take at s) → at < length s
     → headAt s 32 0 0 ≡ refused 3 at
 after-refused {s} {at} {n} {m} {due} h whole inside =
-    let over : due ≡ [] = over-read h whole in
-    go-to-node h (λ z. absurd (some m z h over))
+    let over : due ≡ [] = read-over h whole in
+    headAt-to-node h (λ z. absurd (some m z h over))
     ∙ (ap (dueAt s (64 - m) n at) over ∙ (due-over s (64 - m) n at ∙ rw (lt-ltb at (length s) inside)))
   where
     some : (m : ℕ) → m ≡ 0 → ReadTo s at n m due → due ≡ [] → ⊥
@@ -162,39 +152,41 @@ abbrev FiveAt : (at number place : ℕ) → Type 0
 FiveAt at number place = (number ≡ 5) × (place ≡ at)
 
 module _ {s : List ℕ} {at n : ℕ} {due : List Guards} (h : ReadTo s at n 0 due) (kind : KindAt s at IsPattern) where
-  pattern-refused : {number place : ℕ} → patternAt s at (32 - n) ≡ refused number place → headAt s 32 0 0 ≡ refused number place
-  pattern-refused e = go-to-pattern h ∙ head-refused s (32 - n) n at (rw (lt-ltb at (length s) (kind .0), kind .1)) e
+  pattern-refused : {number place : ℕ} → recordAt (patternFormat s) (32 - n) at ≡ refused number place → headAt s 32 0 0 ≡ refused number place
+  pattern-refused e = headAt-to-pattern h ∙ head-refused s (32 - n) n at (rw (lt-ltb at (length s) (kind .0), kind .1)) e
 
-  told : {number place : ℕ} → PatternRead.Refused number place ≡ patternRead (patternAt s at (32 - n)) → headAt s 32 0 0 ≡ refused number place
-  told e = pattern-refused (pattern-told (patternAt s at (32 - n)) e)
+  pattern-case-refused : {number place : ℕ} → PatternRead.Refused number place ≡ patternRead (recordAt (patternFormat s) (32 - n) at)
+      → headAt s 32 0 0 ≡ refused number place
+  pattern-case-refused e = pattern-refused (byCase-refused pattern-cases (λ p. p) (recordAt (patternFormat s) (32 - n) at) _ _ e)
 
   pattern-33-refused : n ≡ 32 → headAt s 32 0 0 ≡ refused 4 at
-  pattern-33-refused full = told (checks.no-pattern-left s at (32 - n) (omega arith))
+  pattern-33-refused full = pattern-case-refused (checks.no-pattern-left s at (32 - n) (omega arith))
 
   pattern-cut-refused : n < 32 → length s < at + 4 → headAt s 32 0 0 ≡ refused 1 (length s)
-  pattern-cut-refused few cut = told (checks.pattern-cut s at (32 - n) (λ z. omega arith) (omega arith))
+  pattern-cut-refused few cut = pattern-case-refused (checks.pattern-cut s at (32 - n) (λ z. omega arith) (omega arith))
 
   -- whole and one of the 32, it can be refused with 5 only
-  five : {number place : ℕ} → n < 32 → at + 4 ≤ length s → patternAt s at (32 - n) ≡ refused number place → FiveAt at number place
-  five few whole e =
-      found (FiveAt at) (eqb (32 - n) 0) 4 at _ e (λ t. absurd (omega (arith, eqb-true (32 - n) 0 t))) (λ f e₁.
-      found (FiveAt at) (leb (length s) (at + 3)) 1 (length s) _ e₁ (λ t. absurd (omega (arith, leb-true (length s) (at + 3) t))) (λ f₁ e₂.
-      found (FiveAt at) (eqb (getD s (at + 1) 0) 0) 5 at _ e₂ (λ t. (refl, refl)) (λ f₂ e₃.
-      found (FiveAt at) (ltb 31 (getD s (at + 2) 0)) 5 at _ e₃ (λ t. (refl, refl)) (λ f₃ e₄.
-      found (FiveAt at) (ltb 31 (getD s (at + 3) 0)) 5 at _ e₄ (λ t. (refl, refl)) (λ f₄ e₅.
-      found (FiveAt at) (ltb (getD s (at + 3) 0) (getD s (at + 2) 0)) 5 at _ e₅ (λ t. (refl, refl)) (λ f₅ e₆. absurd (never-refused e₆)))))))
+  unfit-refused-with-5 : {number place : ℕ} → n < 32 → at + 4 ≤ length s
+      → recordAt (patternFormat s) (32 - n) at ≡ refused number place → FiveAt at number place
+  unfit-refused-with-5 few whole e =
+      refuse-refused (FiveAt at) (eqb (32 - n) 0) 4 at _ e (λ t. absurd (omega (arith, eqb-true (32 - n) 0 t))) (λ f e₁.
+      refuse-refused (FiveAt at) (leb (length s) (at + 3)) 1 (length s) _ e₁ (λ t. absurd (omega (arith, leb-true (length s) (at + 3) t))) (λ f₁ e₂.
+      refuse-refused (FiveAt at) (eqb (getD s (at + 1) 0) 0) 5 at _ e₂ (λ t. (refl, refl)) (λ f₂ e₃.
+      refuse-refused (FiveAt at) (ltb 31 (getD s (at + 2) 0)) 5 at _ e₃ (λ t. (refl, refl)) (λ f₃ e₄.
+      refuse-refused (FiveAt at) (ltb 31 (getD s (at + 3) 0)) 5 at _ e₄ (λ t. (refl, refl)) (λ f₄ e₅.
+      refuse-refused (FiveAt at) (ltb (getD s (at + 3) 0) (getD s (at + 2) 0)) 5 at _ e₅ (λ t. (refl, refl)) (λ f₅ e₆. absurd (never-refused e₆)))))))
 
   bad-refused : Bytes s → n < 32 → at + 4 ≤ length s → (BeginsRule (take (at + 4) s) → ⊥) → headAt s 32 0 0 ≡ refused 5 at
-  bad-refused bytes few whole none = on (patternAt s at (32 - n)) refl (λ number place e. pattern-refused e)
+  bad-refused bytes few whole none = on (recordAt (patternFormat s) (32 - n) at) refl (λ number place e. pattern-refused e)
     where
-      on : (o : Outcome Pattern) → patternAt s at (32 - n) ≡ o
-          → ((number place : ℕ) → patternAt s at (32 - n) ≡ refused number place → headAt s 32 0 0 ≡ refused number place)
+      on : (o : Outcome Pattern) → recordAt (patternFormat s) (32 - n) at ≡ o
+          → ((number place : ℕ) → recordAt (patternFormat s) (32 - n) at ≡ refused number place → headAt s 32 0 0 ≡ refused number place)
           → headAt s 32 0 0 ≡ refused 5 at
       on (accepted p) e say =
-          let stands = pattern-stands s at (32 - n) p (byte-at s bytes (at + 1)) e in
-          let b : Byte s at 1 = record { inside = kind .0; is = kind .1 } in
-          absurd (none (front-read (next-pattern h few (pattern-stood s at b stands) (stands .well-formed)) .begins))
-      on (refused number place) e say = let (is, here) = five few whole e in say 5 at (e ∙ rw (is, here))
+          let stands = pattern-stands s at p (byte-at s bytes (at + 1)) (record-accepted (patternFormat s) at (32 - n) e .1) in
+          let b : Byte s at patternKind = record { inside = kind .0; is = kind .1 } in
+          absurd (none (read-front (next-pattern h few (pattern-stood s at b stands) (stands .well-formed)) .begins))
+      on (refused number place) e say = let (is, here) = unfit-refused-with-5 few whole e in say 5 at (e ∙ rw (is, here))
 
 -- ---- every clause
 
@@ -211,6 +203,13 @@ fault-refused s bytes (bad-pattern u kind few whole none) = let (g, due, h) = re
 fault-refused s bytes (names-nothing u kind few whole none) = let (g, due, h) = read-to-unfinished u in nothing-refused h kind few whole none
 fault-refused s bytes (unguarded u kind few whole none begins) =
     let (g, due, h) = read-to-unfinished u in unguarded-refused h kind few whole none begins
+
+answer-is : (o : Outcome Rule) → readingOf o .answer ≡ acceptanceOf o
+answer-is (accepted r) = refl
+answer-is (refused number place) = refl
+
+pub answer-refused : (o : Outcome Rule) (number place : ℕ) → (o ≡ refused number place) ↔ (readingOf o .answer ≡ Refused number place)
+answer-refused o number place = rw (answer-is o) (acceptance-refused o number place)
 
 pub refuses-at-the-fault : RefusesAtTheFault
 refuses-at-the-fault s bytes number place =

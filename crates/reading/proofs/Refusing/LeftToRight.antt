@@ -8,11 +8,11 @@ use Prim.Native.Nat.{ℕ, zero, suc, _+_, _-_, _<_}
 use native.Mathlib.Omega.{arith}
 use lib.ListN.{length}
 use lib.Dec.{ltb}
-use Rattle.reading.specs.Rule.{Guards, guarded, Rule}
-use Rattle.reading.specs.File.{Outcome, accepted, refused, refuse, andThen, patternAt, isPattern, Patterns, withPattern, patternsAt}
-use Rattle.reading.specs.File.{Symbol, Truth, Falsity, Both, Max, Necessity, Variable, nodeAt, Parsed, partsBy, formulaOf, endOfFile, ruleOf}
+use Rattle.reading.specs.Rule.{Guards, guarded, Rule, Symbol, Truth, Falsity, Both, Max, Necessity, Variable}
+use Rattle.reading.specs.File.{Outcome, accepted, refused, refuse, andThen, byCase, Records, withRecord, recordsAt, patternAt, isPattern, patternsAt}
+use Rattle.reading.specs.File.{nodeAt, Parsed, partsBy, formulaOf, endOfFile, ruleOf}
 use Rattle.reading.specs.declared.Pattern.{Pattern}
-use Rattle.reading.proofs.Basics.Outcomes.{then-agree}
+use Rattle.reading.proofs.Basics.Outcomes.{accepted-is, never-refused, andThen-agree, Distinct, byCase-refused}
 use Rattle.reading.proofs.Accepting.NodeBytes.{node-accepts}
 use Rattle.reading.proofs.Accepting.Steps.{formula-step, formula-sound}
 use Rattle.reading.proofs.Refusing.Contexts.{guards, parts}
@@ -20,22 +20,26 @@ use Rattle.reading.proofs.Refusing.Contexts.{guards, parts}
 -- ---- outcomes without their values
 
 abbrev pub refusal : {A : Type 0} → Outcome A → Outcome Unit
-refusal (accepted a) = accepted tt
-refusal (refused number place) = refused number place
+refusal = byCase (λ a. accepted tt) refused
 
-refused-alike : {A : Type 0} (o : Outcome A) (number place : ℕ) → (o ≡ refused number place) ↔ (refusal o ≡ refused number place)
-refused-alike (accepted a) number place =
-    (λ e. let z : _≡_ {A = ℕ} 0 1 = cc in absurd (omega arith), λ e. let z : _≡_ {A = ℕ} 0 1 = cc in absurd (omega arith))
-refused-alike (refused m at) number place = (λ e. cc, λ e. cc)
+outcome-cases : Distinct {B = Unit {0}} accepted refused
+outcome-cases = record {
+  value-same = λ a b e. accepted-is e;
+  refusal-same = λ number place number′ place′ e. (cc, cc);
+  apart = λ a number place e. never-refused e;
+}
+
+refusal-refused : {A : Type 0} (o : Outcome A) (number place : ℕ) → (o ≡ refused number place) ↔ (refusal o ≡ refused number place)
+refusal-refused o number place = (λ e. ap refusal e, λ e. byCase-refused outcome-cases (λ a. tt) o number place (sym e))
 
 module _ {A B : Type 0} where
-  refusal-then : (o : Outcome A) (f : A → Outcome B) → refusal (andThen o f) ≡ andThen o (λ a. refusal (f a))
-  refusal-then (accepted a) f = refl
-  refusal-then (refused number place) f = refl
+  refusal-andThen : (o : Outcome A) (f : A → Outcome B) → refusal (andThen o f) ≡ andThen o (λ a. refusal (f a))
+  refusal-andThen (accepted a) f = refl
+  refusal-andThen (refused number place) f = refl
 
-  then-then : {C : Type 0} (o : Outcome A) (f : A → Outcome B) (g : B → Outcome C) → andThen (andThen o f) g ≡ andThen o (λ a. andThen (f a) g)
-  then-then (accepted a) f g = refl
-  then-then (refused number place) f g = refl
+  pub andThen-assoc : {C : Type 0} (o : Outcome A) (f : A → Outcome B) (g : B → Outcome C) → andThen (andThen o f) g ≡ andThen o (λ a. andThen (f a) g)
+  andThen-assoc (accepted a) f g = refl
+  andThen-assoc (refused number place) f g = refl
 
 module _ (s : List ℕ) where
   -- ---- the formulas that are due
@@ -68,93 +72,91 @@ module _ (s : List ℕ) where
       parts-due Truth next left g due h = refl
       parts-due Falsity next left g due h = refl
       parts-due Both next left g due h =
-          then-then (formulaOf s n next left g) _ (then-due due)
-          ∙ (then-agree (formulaOf s n next left g) _ (then-due (g ∷ due)) (λ f e.
+          andThen-assoc (formulaOf s n next left g) _ (then-due due)
+          ∙ (andThen-agree (formulaOf s n next left g) _ (then-due (g ∷ due)) (λ f e.
           let stands = formula-sound s n next left g f e in
-          then-then (formulaOf s n (f .next) (f .left) g) _ (then-due due)
+          andThen-assoc (formulaOf s n (f .next) (f .left) g) _ (then-due due)
           ∙ one-due (f .next) (f .left) g due (omega (arith, stands .nodes)))
           ∙ one-due next left g (g ∷ due) h)
       parts-due (Necessity p) next left g due h =
-          then-then (formulaOf s n next left (guarded g)) _ (then-due due) ∙ one-due next left (guarded g) due h
+          andThen-assoc (formulaOf s n next left (guarded g)) _ (then-due due) ∙ one-due next left (guarded g) due h
       parts-due Max next left g due h =
-          then-then (formulaOf s n next left (false ∷ g)) _ (then-due due) ∙ one-due next left (false ∷ g) due h
+          andThen-assoc (formulaOf s n next left (false ∷ g)) _ (then-due due) ∙ one-due next left (false ∷ g) due h
       parts-due (Variable d) next left g due h = refl
 
       node-due : (at left : ℕ) (g : Guards) (due : List Guards) → left < suc bound
           → andThen (nodeAt s n at left g) (λ r. andThen (partsBy (formulaOf s n) (r .symbol) (r .next) (left - 1) g) (then-due due))
           ≡ dueAt left n at (g ∷ due)
       unfolding dueAt
-      node-due at zero g due h = then-agree (nodeAt s n at zero g) _ _ (λ r e. absurd (omega (arith, node-accepts s n at zero g r .0 e .0)))
+      node-due at zero g due h = andThen-agree (nodeAt s n at zero g) _ _ (λ r e. absurd (omega (arith, node-accepts s n at zero g r .0 e .0)))
       node-due at (suc left) g due h =
           let others : suc left - 1 ≡ left = omega arith in
-          then-agree (nodeAt s n at (suc left) g) _ _ (λ r e. rw others (parts-due (r .symbol) (r .next) left g due (omega arith)))
+          andThen-agree (nodeAt s n at (suc left) g) _ _ (λ r e. rw others (parts-due (r .symbol) (r .next) left g due (omega arith)))
 
     formula-due : (bound at left : ℕ) (g : Guards) (due : List Guards) → left < bound
         → andThen (formulaOf s n at left g) (then-due due) ≡ dueAt left n at (g ∷ due)
     formula-due zero at left g due h = absurd (omega arith)
     formula-due (suc bound) at left g due h =
         ap (λ (o : Outcome Parsed). andThen o (then-due due)) (formula-step s n at left g)
-        ∙ (then-then (nodeAt s n at left g) _ (then-due due)
+        ∙ (andThen-assoc (nodeAt s n at left g) _ (then-due due)
         ∙ node-due bound (formula-due bound) at left g due h)
 
   -- ---- the patterns, and then the formula
 
   -- n patterns were read, and `left` of the 32 are left
   unfoldable pub headAt : (left n at : ℕ) → Outcome Unit
-  headAt zero n at = cond (isPattern s at) (andThen (patternAt s at zero) (λ p. refused 4 at)) (dueAt 64 n at ([] ∷ []))
+  headAt zero n at = cond (isPattern s at) (refused 4 at) (dueAt 64 n at ([] ∷ []))
   headAt (suc left) n at =
-      cond (isPattern s at) (andThen (patternAt s at (suc left)) (λ p. headAt left (suc n) (at + 4))) (dueAt 64 n at ([] ∷ []))
+      cond (isPattern s at) (andThen (patternAt s at) (λ p. headAt left (suc n) (at + 4))) (dueAt 64 n at ([] ∷ []))
 
-  abbrev then-formula : ℕ → Patterns → Outcome Unit
+  abbrev pub then-formula : ℕ → Records Pattern → Outcome Unit
   then-formula n ps = dueAt 64 (n + length (ps .list)) (ps .next) ([] ∷ [])
 
-  patterns-head : (left n at : ℕ) → andThen (patternsAt left s at) (then-formula n) ≡ headAt left n at
-  unfolding patternsAt headAt
+  pub patterns-head : (left n at : ℕ) → andThen (patternsAt left s at) (then-formula n) ≡ headAt left n at
+  unfolding recordsAt headAt
   patterns-head zero n at = on (isPattern s at)
     where
-      on : (b : Bool)
-          → andThen (cond b (andThen (patternAt s at zero) (λ p. accepted (record { list = p ∷ []; next = at }))) (accepted (record { list = []; next = at })))
-          (then-formula n)
-          ≡ cond b (andThen (patternAt s at zero) (λ p. refused 4 at)) (dueAt 64 n at ([] ∷ []))
+      on : (b : Bool) → andThen (cond b (refused 4 at) (accepted (record { list = []; next = at }))) (then-formula n)
+          ≡ cond b (refused 4 at) (dueAt 64 n at ([] ∷ []))
       on true = refl
       on false = ap (λ (k : ℕ). dueAt 64 k at ([] ∷ [])) (omega arith)
   patterns-head (suc left) n at = on (isPattern s at) (patterns-head left (suc n) (at + 4))
     where
       on : (b : Bool) → andThen (patternsAt left s (at + 4)) (then-formula (suc n)) ≡ headAt left (suc n) (at + 4)
-          → andThen (cond b (andThen (patternAt s at (suc left)) (λ p. andThen (patternsAt left s (at + 4)) (withPattern p)))
+          → andThen (cond b (andThen (patternAt s at) (λ p. andThen (patternsAt left s (at + 4)) (withRecord p)))
           (accepted (record { list = []; next = at }))) (then-formula n)
-          ≡ cond b (andThen (patternAt s at (suc left)) (λ p. headAt left (suc n) (at + 4))) (dueAt 64 n at ([] ∷ []))
+          ≡ cond b (andThen (patternAt s at) (λ p. headAt left (suc n) (at + 4))) (dueAt 64 n at ([] ∷ []))
       on true e =
-          then-then (patternAt s at (suc left)) _ (then-formula n)
-          ∙ then-agree (patternAt s at (suc left)) _ _ (λ p q.
-          then-then (patternsAt left s (at + 4)) (withPattern p) (then-formula n)
-          ∙ (then-agree (patternsAt left s (at + 4)) _ (then-formula (suc n)) (λ ps q′.
+          andThen-assoc (patternAt s at) _ (then-formula n)
+          ∙ andThen-agree (patternAt s at) _ _ (λ p q.
+          andThen-assoc (patternsAt left s (at + 4)) (withRecord p) (then-formula n)
+          ∙ (andThen-agree (patternsAt left s (at + 4)) _ (then-formula (suc n)) (λ ps q′.
           ap (λ (k : ℕ). dueAt 64 k (ps .next) ([] ∷ [])) (omega arith))
           ∙ e))
       on false e = ap (λ (k : ℕ). dueAt 64 k at ([] ∷ [])) (omega arith)
 
   -- ---- the whole file
 
-  ends-alike : (b : Bool) (at : ℕ) (r : Rule) → refusal (refuse b 3 at (accepted r)) ≡ refuse b 3 at (accepted tt)
-  ends-alike true at r = refl
-  ends-alike false at r = refl
+  refusal-end : (b : Bool) (at : ℕ) (r : Rule) → refusal (refuse b 3 at (accepted r)) ≡ refuse b 3 at (accepted tt)
+  refusal-end true at r = refl
+  refusal-end false at r = refl
 
   formula-ends : (ps : List Pattern) (n at : ℕ) → refusal (andThen (formulaOf s n at 64 []) (endOfFile s ps)) ≡ dueAt 64 n at ([] ∷ [])
   formula-ends ps n at =
-      refusal-then (formulaOf s n at 64 []) (endOfFile s ps)
-      ∙ (then-agree (formulaOf s n at 64 []) _ (then-due n []) (λ f e.
-      ends-alike (ltb (f .next) (length s)) (f .next) _ ∙ sym (due-over (f .left) n (f .next)))
+      refusal-andThen (formulaOf s n at 64 []) (endOfFile s ps)
+      ∙ (andThen-agree (formulaOf s n at 64 []) _ (then-due n []) (λ f e.
+      refusal-end (ltb (f .next) (length s)) (f .next) _ ∙ sym (due-over (f .left) n (f .next)))
       ∙ formula-due n 65 at 64 [] [] (omega arith))
 
   left-to-right : refusal (ruleOf s) ≡ headAt 32 0 0
   unfolding ruleOf
   left-to-right =
-      refusal-then (patternsAt 32 s 0) _
-      ∙ (then-agree (patternsAt 32 s 0) _ (then-formula 0) (λ ps e.
+      refusal-andThen (patternsAt 32 s 0) _
+      ∙ (andThen-agree (patternsAt 32 s 0) _ (then-formula 0) (λ ps e.
       formula-ends (ps .list) (length (ps .list)) (ps .next) ∙ ap (λ (k : ℕ). dueAt 64 k (ps .next) ([] ∷ [])) (omega arith))
       ∙ patterns-head 32 0 0)
 
   pub refused-left-to-right : (number place : ℕ) → (ruleOf s ≡ refused number place) ↔ (headAt 32 0 0 ≡ refused number place)
   refused-left-to-right number place =
-      let (forth, back) = refused-alike (ruleOf s) number place in
+      let (forth, back) = refusal-refused (ruleOf s) number place in
       (λ e. sym left-to-right ∙ forth e, λ e. back (left-to-right ∙ e))

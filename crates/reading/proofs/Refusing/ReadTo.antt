@@ -7,14 +7,15 @@ use native.Mathlib.Omega.{arith}
 use lib.ListN.{length, take, drop, length-append}
 use lib.Seq.{take-add, take-append-seam}
 use Rattle.reading.specs.Pattern.{WellFormedPattern}
-use Rattle.reading.specs.Rule.{Guards, All}
-use Rattle.reading.specs.File.{Symbol}
+use Rattle.reading.specs.Rule.{Guards, All, Symbol}
 use Rattle.reading.specs.Faults.{Record, pattern, node, recordBytes, recordsBytes, BeginsRule, BeginsBound, IsRule, Front, Unfinished}
 use Rattle.reading.specs.declared.Pattern.{Pattern}
 use Rattle.reading.proofs.Basics.AllLaws.{all-append, all-last}
-use Rattle.reading.proofs.Refusing.Contexts.{Contexts, guards, depths, Allows, parts, Consumes, done, more, consumes-same, consumes-split, consumes-join, consumes-unguarded}
-use Rattle.reading.proofs.Refusing.Records.{records, bytes-of-both, patterns-in, nodes-in, more-nodes, one-more-pattern, one-shape}
-use Rattle.reading.proofs.Refusing.Beginnings.{Shape, rule-shape, shape-begins, bound-shape, shape-bound, whole-rule, rule-over}
+use Rattle.reading.proofs.Refusing.Contexts.{Contexts, guards, depths, Allows, parts, Consumes, done, more, consumes-same, consumes-split, consumes-join}
+use Rattle.reading.proofs.Refusing.Contexts.{consumes-unguarded}
+use Rattle.reading.proofs.Refusing.Records.{records, records-bytes-append, patterns-in, nodes-in, records-append-nodes, records-append-pattern}
+use Rattle.reading.proofs.Refusing.Records.{records-same}
+use Rattle.reading.proofs.Refusing.Beginnings.{Shape, rule-shape, shape-begins, bound-shape, shape-bound, shape-rule, rule-nothing-due}
 
 pub record ReadTo (s : List ℕ) (at n m : ℕ) (due : List Guards) : Type 0 where
   pub inside : at ≤ length s
@@ -39,8 +40,8 @@ module _ {s : List ℕ} {at n m : ℕ} {due : List Guards} (h : ReadTo s at n m 
     consumes = rw (h .npatterns) (h .consumes);
   }
 
-  pub front-read : Front s at n m
-  front-read = record {
+  pub read-front : Front s at n m
+  read-front = record {
     inside = h .inside;
     records = records (h .patterns) (h .nodes);
     are = h .are;
@@ -51,18 +52,18 @@ module _ {s : List ℕ} {at n m : ℕ} {due : List Guards} (h : ReadTo s at n m 
     begins = subst BeginsRule (sym (h .are)) (shape-begins shape);
   }
 
-  pub rule-read-to : due ≡ [] → IsRule (take at s)
+  pub read-rule : due ≡ [] → IsRule (take at s)
   unfolding shape
-  rule-read-to over = subst IsRule (sym (h .are)) (whole-rule shape over)
+  read-rule over = subst IsRule (sym (h .are)) (shape-rule shape over)
 
-  pub over-read : IsRule (take at s) → due ≡ []
+  pub read-over : IsRule (take at s) → due ≡ []
   unfolding shape
-  over-read whole = rule-over shape (subst IsRule (h .are) whole)
+  read-over whole = rule-nothing-due shape (subst IsRule (h .are) whole)
 
-pub still-due : {s : List ℕ} {at n m : ℕ} {g : Guards} {due : List Guards} → ReadTo s at n m (g ∷ due) → Unfinished s at n m
-still-due h = record {
-  front = front-read h;
-  unfinished = λ whole. let e = over-read h whole in let z : _≡_ {A = ℕ} 0 1 = cc in omega arith;
+pub read-unfinished : {s : List ℕ} {at n m : ℕ} {g : Guards} {due : List Guards} → ReadTo s at n m (g ∷ due) → Unfinished s at n m
+read-unfinished h = record {
+  front = read-front h;
+  unfinished = λ whole. let e = read-over h whole in let z : _≡_ {A = ℕ} 0 1 = cc in omega arith;
 }
 
 -- ---- one more record
@@ -74,18 +75,18 @@ pub record Stands (s : List ℕ) (at next : ℕ) (x : Record) : Type 0 where
   pub inside : next ≤ length s
 
 module _ {s : List ℕ} {at next : ℕ} {x : Record} (b : Stands s at next x) where
-  with-record : (xs : List Record) → take at s ≡ recordsBytes xs → take next s ≡ recordsBytes (xs ++ x ∷ [])
-  with-record xs are =
+  take-with-record : (xs : List Record) → take at s ≡ recordsBytes xs → take next s ≡ recordsBytes (xs ++ x ∷ [])
+  take-with-record xs are =
       let here : take (length (recordBytes x)) (drop at s) ≡ recordBytes x =
       ap (take (length (recordBytes x))) (b .bytes) ∙ take-append-seam (recordBytes x) (drop next s) in
       ap (λ (k : ℕ). take k s) (b .ends)
       ∙ (take-add at (length (recordBytes x)) s
-      ∙ (rw (here, are, ← append-nil (recordBytes x)) (sym (bytes-of-both xs (x ∷ [])))))
+      ∙ (rw (here, are, ← append-nil (recordBytes x)) (sym (records-bytes-append xs (x ∷ [])))))
 
 module _ {s : List ℕ} {at n m : ℕ} {due : List Guards} (h : ReadTo s at n m due) {next : ℕ} where
-  pub node-on : {x : Symbol} → Stands s at next (node x) → take next s ≡ recordsBytes (records (h .patterns) (h .nodes ++ x ∷ []))
-  node-on {x} b =
-      with-record b (records (h .patterns) (h .nodes)) (h .are) ∙ ap recordsBytes (sym (more-nodes (h .patterns) (h .nodes) (x ∷ [])))
+  pub take-with-node : {x : Symbol} → Stands s at next (node x) → take next s ≡ recordsBytes (records (h .patterns) (h .nodes ++ x ∷ []))
+  take-with-node {x} b =
+      take-with-record b (records (h .patterns) (h .nodes)) (h .are) ∙ ap recordsBytes (sym (records-append-nodes (h .patterns) (h .nodes) (x ∷ [])))
 
   pub next-node : {g : Guards} {others : List Guards} → due ≡ g ∷ others → m < 64 → {x : Symbol} → Stands s at next (node x) → Allows guards n g x
       → ReadTo s next n (suc m) (parts guards n g x ++ others)
@@ -93,7 +94,7 @@ module _ {s : List ℕ} {at n m : ℕ} {due : List Guards} (h : ReadTo s at n m 
     inside = b .inside;
     patterns = h .patterns;
     nodes = h .nodes ++ x ∷ [];
-    are = node-on b;
+    are = take-with-node b;
     npatterns = h .npatterns;
     nnodes = length-append (h .nodes) (x ∷ []) ∙ omega (arith, h .nnodes);
     few-patterns = h .few-patterns;
@@ -111,16 +112,16 @@ module _ {s : List ℕ} {at n : ℕ} {due : List Guards} (h : ReadTo s at n 0 du
       on [] e = refl
       on (x ∷ l) e = absurd (omega arith)
 
-  pub pattern-on : {next : ℕ} {p : Pattern} → Stands s at next (pattern p) → take next s ≡ recordsBytes (records (h .patterns ++ p ∷ []) [])
-  pattern-on {p = p} b =
-      with-record b (records (h .patterns) []) (rw no-nodes at (h .are)) ∙ ap recordsBytes (sym (one-more-pattern (h .patterns) p))
+  pub take-with-pattern : {next : ℕ} {p : Pattern} → Stands s at next (pattern p) → take next s ≡ recordsBytes (records (h .patterns ++ p ∷ []) [])
+  take-with-pattern {p = p} b =
+      take-with-record b (records (h .patterns) []) (rw no-nodes at (h .are)) ∙ ap recordsBytes (sym (records-append-pattern (h .patterns) p))
 
   pub next-pattern : {next : ℕ} {p : Pattern} → n < 32 → Stands s at next (pattern p) → WellFormedPattern p → ReadTo s next (suc n) 0 ([] ∷ [])
   next-pattern {p = p} few b w = record {
     inside = b .inside;
     patterns = h .patterns ++ p ∷ [];
     nodes = [];
-    are = pattern-on b;
+    are = take-with-pattern b;
     npatterns = length-append (h .patterns) (p ∷ []) ∙ omega (arith, h .npatterns);
     nnodes = refl;
     few-patterns = omega arith;
@@ -131,10 +132,10 @@ module _ {s : List ℕ} {at n : ℕ} {due : List Guards} (h : ReadTo s at n 0 du
 
   -- ---- what the next record must be like
 
-  pub pattern-needed : {next : ℕ} {p : Pattern} → Stands s at next (pattern p) → BeginsRule (take next s) → WellFormedPattern p
-  pattern-needed {p = p} b begins =
-      let after = rule-shape (records (h .patterns ++ p ∷ []) []) (subst BeginsRule (pattern-on b) begins) in
-      let (same, none) = one-shape (h .patterns ++ p ∷ []) (after .patterns) [] (after .nodes) (after .are) in
+  pub pattern-well-formed : {next : ℕ} {p : Pattern} → Stands s at next (pattern p) → BeginsRule (take next s) → WellFormedPattern p
+  pattern-well-formed {p = p} b begins =
+      let after = rule-shape (records (h .patterns ++ p ∷ []) []) (subst BeginsRule (take-with-pattern b) begins) in
+      let (same, none) = records-same (h .patterns ++ p ∷ []) (after .patterns) [] (after .nodes) (after .are) in
       all-last WellFormedPattern (h .patterns) p (rw (← same) at (after .well-formed))
 
 last-allowed : {K : Contexts} {n : ℕ} {start due due′ : List (K .Context)} {c : K .Context} (xs : List Symbol) (x : Symbol)
@@ -148,16 +149,16 @@ last-allowed {K} {n} {due = due} {c = c} xs x known consumes =
 module _ {s : List ℕ} {at n m next : ℕ} {g : Guards} {due : List Guards} {x : Symbol} (h : ReadTo s at n m (g ∷ due))
     (b : Stands s at next (node x)) where
   -- with guards, and without
-  pub node-needed : BeginsRule (take next s) → Allows guards n g x
-  node-needed begins =
-      let after = rule-shape (records (h .patterns) (h .nodes ++ x ∷ [])) (subst BeginsRule (node-on h b) begins) in
-      let (same, nodes) = one-shape (h .patterns) (after .patterns) (h .nodes ++ x ∷ []) (after .nodes) (after .are) in
+  pub node-allowed : BeginsRule (take next s) → Allows guards n g x
+  node-allowed begins =
+      let after = rule-shape (records (h .patterns) (h .nodes ++ x ∷ [])) (subst BeginsRule (take-with-node h b) begins) in
+      let (same, nodes) = records-same (h .patterns) (after .patterns) (h .nodes ++ x ∷ []) (after .nodes) (after .are) in
       last-allowed (h .nodes) x (h .consumes) (rw (← same, ← nodes, h .npatterns) at (after .consumes))
 
   pub node-bound : BeginsBound (take next s) → Allows depths n (length g) x
   node-bound begins =
-      let after = bound-shape (records (h .patterns) (h .nodes ++ x ∷ [])) (subst BeginsBound (node-on h b) begins) in
-      let (same, nodes) = one-shape (h .patterns) (after .patterns) (h .nodes ++ x ∷ []) (after .nodes) (after .are) in
+      let after = bound-shape (records (h .patterns) (h .nodes ++ x ∷ [])) (subst BeginsBound (take-with-node h b) begins) in
+      let (same, nodes) = records-same (h .patterns) (after .patterns) (h .nodes ++ x ∷ []) (after .nodes) (after .are) in
       last-allowed (h .nodes) x (consumes-unguarded (h .consumes)) (rw (← same, ← nodes, h .npatterns) at (after .consumes))
 
   pub bound-begins : Allows depths n (length g) x → BeginsBound (take next s)
@@ -170,4 +171,4 @@ module _ {s : List ℕ} {at n m next : ℕ} {g : Guards} {due : List Guards} {x 
         due = parts depths n (length g) x ++ map length due;
         consumes = rw (h .npatterns) (consumes-join (consumes-unguarded (h .consumes)) (more allows done));
       } in
-      subst BeginsBound (sym (node-on h b)) (shape-bound after)
+      subst BeginsBound (sym (take-with-node h b)) (shape-bound after)

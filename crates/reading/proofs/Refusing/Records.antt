@@ -3,15 +3,17 @@
 use mathlib.Core.Path.{_≡_, refl, sym, ap, _∙_}
 use mathlib.Core.Logic.{_⊎_, inl, inr}
 use mathlib.Core.Bool.{cond}
-use mathlib.Core.List.{List, [], _∷_, _++_, map, map-append, append-assoc, append-nil}
+use mathlib.Core.List.{List, [], _∷_, _++_, map, map-append, append-assoc}
 use Prim.Native.Nat.{ℕ, suc, _≤_}
 use native.Mathlib.Omega.{arith}
 use lib.Dec.{eqb}
-use lib.ListN.{length, getD, drop, length-append}
+use lib.ListN.{length, getD, drop}
 use Rattle.reading.specs.Rule.{Formula, truth, falsity, both, necessity, max, variable, Rule, encodePatterns, encodeFormula, encode}
-use Rattle.reading.specs.File.{Symbol, Truth, Falsity, Both, Max, Necessity, Variable}
+use Rattle.reading.specs.Rule.{Symbol, Truth, Falsity, Both, Max, Necessity, Variable}
+use Rattle.reading.specs.Rule.{patternKind, truthKind, falsityKind, bothKind, necessityKind, maxKind}
 use Rattle.reading.specs.Faults.{Record, pattern, node, recordBytes, recordsBytes, patternsIn, nodesIn}
 use Rattle.reading.specs.declared.Pattern.{Pattern}
+use Rattle.reading.proofs.Basics.EncodeLaws.{encodeEach-append, encodeEach-front, encodeEach-same}
 use Rattle.reading.proofs.Refusing.Contexts.{symbols}
 
 -- ---- the first record
@@ -20,12 +22,12 @@ use Rattle.reading.proofs.Refusing.Contexts.{symbols}
 firstRecord : List ℕ → Record × List ℕ
 firstRecord s =
     let k = getD s 0 0 in
-    cond (eqb k 1) (pattern (record { mask = getD s 1 0; first = getD s 2 0; last = getD s 3 0 }), drop 4 s)
-    (cond (eqb k 2) (node Truth, drop 1 s)
-    (cond (eqb k 3) (node Falsity, drop 1 s)
-    (cond (eqb k 4) (node Both, drop 1 s)
-    (cond (eqb k 5) (node (Necessity (getD s 1 0)), drop 2 s)
-    (cond (eqb k 6) (node Max, drop 1 s)
+    cond (eqb k patternKind) (pattern (record { mask = getD s 1 0; first = getD s 2 0; last = getD s 3 0 }), drop 4 s)
+    (cond (eqb k truthKind) (node Truth, drop 1 s)
+    (cond (eqb k falsityKind) (node Falsity, drop 1 s)
+    (cond (eqb k bothKind) (node Both, drop 1 s)
+    (cond (eqb k necessityKind) (node (Necessity (getD s 1 0)), drop 2 s)
+    (cond (eqb k maxKind) (node Max, drop 1 s)
     (node (Variable (getD s 1 0)), drop 2 s))))))
 
 first-record : (x : Record) (rest : List ℕ) → firstRecord (recordBytes x ++ rest) ≡ (x, rest)
@@ -38,56 +40,38 @@ first-record (node Max) rest = refl
 first-record (node (Necessity p)) rest = refl
 first-record (node (Variable d)) rest = refl
 
-pub record-some : (x : Record) → 1 ≤ length (recordBytes x)
-record-some (pattern p) = omega arith
-record-some (node Truth) = omega arith
-record-some (node Falsity) = omega arith
-record-some (node Both) = omega arith
-record-some (node Max) = omega arith
-record-some (node (Necessity p)) = omega arith
-record-some (node (Variable d)) = omega arith
+pub recordBytes-some : (x : Record) → 1 ≤ length (recordBytes x)
+recordBytes-some (pattern p) = omega arith
+recordBytes-some (node Truth) = omega arith
+recordBytes-some (node Falsity) = omega arith
+recordBytes-some (node Both) = omega arith
+recordBytes-some (node Max) = omega arith
+recordBytes-some (node (Necessity p)) = omega arith
+recordBytes-some (node (Variable d)) = omega arith
 
 -- ---- lists of records
 
-pub bytes-of-both : (xs ys : List Record) → recordsBytes (xs ++ ys) ≡ recordsBytes xs ++ recordsBytes ys
-bytes-of-both [] ys = refl
-bytes-of-both (x ∷ xs) ys =
-    ap (λ (l : List ℕ). recordBytes x ++ l) (bytes-of-both xs ys) ∙ sym (append-assoc (recordBytes x) (recordsBytes xs) (recordsBytes ys))
+pub records-bytes-append : (xs ys : List Record) → recordsBytes (xs ++ ys) ≡ recordsBytes xs ++ recordsBytes ys
+records-bytes-append = encodeEach-append recordBytes
 
-pub front-of-records : (xs ys : List Record) (rest : List ℕ) → recordsBytes xs ++ rest ≡ recordsBytes ys
+record-told : (x y : Record) (p q : List ℕ) → recordBytes x ++ p ≡ recordBytes y ++ q → (x ≡ y) × (p ≡ q)
+record-told x y p q e =
+    let same : _≡_ {A = Record × List ℕ} (x, p) (y, q) = sym (first-record x p) ∙ (ap firstRecord e ∙ first-record y q) in
+    (ap (λ (z : Record × List ℕ). z .0) same, ap (λ (z : Record × List ℕ). z .1) same)
+
+pub records-front : (xs ys : List Record) (rest : List ℕ) → recordsBytes xs ++ rest ≡ recordsBytes ys
     → (zs : List Record) × (ys ≡ xs ++ zs) × (rest ≡ recordsBytes zs)
-front-of-records [] ys rest e = (ys, refl, e)
-front-of-records (x ∷ xs) [] rest e =
-    absurd (omega (
-      arith,
-      ap length e,
-      length-append (recordBytes x ++ recordsBytes xs) rest,
-      length-append (recordBytes x) (recordsBytes xs),
-      record-some x,
-    ))
-front-of-records (x ∷ xs) (y ∷ ys) rest e =
-    let same : _≡_ {A = Record × List ℕ} (x, recordsBytes xs ++ rest) (y, recordsBytes ys) =
-    sym (first-record x (recordsBytes xs ++ rest))
-    ∙ (ap firstRecord (sym (append-assoc (recordBytes x) (recordsBytes xs) rest) ∙ e)
-    ∙ first-record y (recordsBytes ys)) in
-    let (zs, are, left) = front-of-records xs ys rest (ap (λ (z : Record × List ℕ). z .1) same) in
-    let head : x ≡ y = ap (λ (z : Record × List ℕ). z .0) same in
-    (zs, cc, left)
+records-front = encodeEach-front recordBytes recordBytes-some record-told
 
-pub same-records : (xs ys : List Record) → recordsBytes xs ≡ recordsBytes ys → xs ≡ ys
-same-records xs ys e =
-    let (zs, are, left) = front-of-records xs ys [] (append-nil (recordsBytes xs) ∙ e) in on zs are left
-  where
-    on : (zs : List Record) → ys ≡ xs ++ zs → [] ≡ recordsBytes zs → xs ≡ ys
-    on [] are left = sym (are ∙ append-nil xs)
-    on (z ∷ zs) are left = absurd (omega (arith, ap length left, length-append (recordBytes z) (recordsBytes zs), record-some z))
+pub records-bytes-same : (xs ys : List Record) → recordsBytes xs ≡ recordsBytes ys → xs ≡ ys
+records-bytes-same = encodeEach-same recordBytes recordBytes-some record-told
 
 -- ---- the records of a rule
 
 abbrev pub records : List Pattern → List Symbol → List Record
 records ps xs = map pattern ps ++ map node xs
 
-pattern-bytes : (ps : List Pattern) → recordsBytes (map pattern ps) ≡ encodePatterns ps
+pub pattern-bytes : (ps : List Pattern) → recordsBytes (map pattern ps) ≡ encodePatterns ps
 pattern-bytes [] = refl
 pattern-bytes (p ∷ ps) = ap (λ (l : List ℕ). recordBytes (pattern p) ++ l) (pattern-bytes ps)
 
@@ -95,16 +79,16 @@ formula-bytes : (f : Formula) → recordsBytes (map node (symbols f)) ≡ encode
 formula-bytes truth = refl
 formula-bytes falsity = refl
 formula-bytes (both f g) =
-    ap (λ (l : List ℕ). 4 ∷ l)
+    ap (λ (l : List ℕ). bothKind ∷ l)
     (ap recordsBytes (map-append node (symbols f) (symbols g))
-    ∙ (bytes-of-both (map node (symbols f)) (map node (symbols g)) ∙ rw (formula-bytes f, formula-bytes g)))
-formula-bytes (necessity p f) = ap (λ (l : List ℕ). 5 ∷ p ∷ l) (formula-bytes f)
-formula-bytes (max f) = ap (λ (l : List ℕ). 6 ∷ l) (formula-bytes f)
+    ∙ (records-bytes-append (map node (symbols f)) (map node (symbols g)) ∙ rw (formula-bytes f, formula-bytes g)))
+formula-bytes (necessity p f) = ap (λ (l : List ℕ). necessityKind ∷ p ∷ l) (formula-bytes f)
+formula-bytes (max f) = ap (λ (l : List ℕ). maxKind ∷ l) (formula-bytes f)
 formula-bytes (variable d) = refl
 
 pub rule-bytes : (r : Rule) → recordsBytes (records (r .patterns) (symbols (r .formula))) ≡ encode r
 rule-bytes r =
-    bytes-of-both (map pattern (r .patterns)) (map node (symbols (r .formula))) ∙ rw (pattern-bytes (r .patterns), formula-bytes (r .formula))
+    records-bytes-append (map pattern (r .patterns)) (map node (symbols (r .formula))) ∙ rw (pattern-bytes (r .patterns), formula-bytes (r .formula))
 
 pub patterns-in : (ps : List Pattern) (xs : List Symbol) → patternsIn (records ps xs) ≡ length ps
 patterns-in [] [] = refl
@@ -116,25 +100,25 @@ nodes-in [] [] = refl
 nodes-in [] (x ∷ xs) = ap suc (nodes-in [] xs)
 nodes-in (p ∷ ps) xs = nodes-in ps xs
 
-pub more-nodes : (ps : List Pattern) (xs ys : List Symbol) → records ps (xs ++ ys) ≡ records ps xs ++ map node ys
-more-nodes ps xs ys =
+pub records-append-nodes : (ps : List Pattern) (xs ys : List Symbol) → records ps (xs ++ ys) ≡ records ps xs ++ map node ys
+records-append-nodes ps xs ys =
     ap (λ (l : List Record). map pattern ps ++ l) (map-append node xs ys) ∙ sym (append-assoc (map pattern ps) (map node xs) (map node ys))
 
-pub one-more-pattern : (ps : List Pattern) (p : Pattern) → records (ps ++ p ∷ []) [] ≡ records ps [] ++ pattern p ∷ []
-one-more-pattern [] p = refl
-one-more-pattern (q ∷ ps) p = ap (λ (l : List Record). pattern q ∷ l) (one-more-pattern ps p)
+pub records-append-pattern : (ps : List Pattern) (p : Pattern) → records (ps ++ p ∷ []) [] ≡ records ps [] ++ pattern p ∷ []
+records-append-pattern [] p = refl
+records-append-pattern (q ∷ ps) p = ap (λ (l : List Record). pattern q ∷ l) (records-append-pattern ps p)
 
 -- patterns and symbols follow from the records
-pub one-shape : (ps qs : List Pattern) (xs ys : List Symbol) → records ps xs ≡ records qs ys → (ps ≡ qs) × (xs ≡ ys)
-one-shape [] [] [] [] e = (refl, refl)
-one-shape [] [] [] (y ∷ ys) e = let z : _≡_ {A = ℕ} 0 1 = cc in absurd (omega arith)
-one-shape [] [] (x ∷ xs) [] e = let z : _≡_ {A = ℕ} 0 1 = cc in absurd (omega arith)
-one-shape [] [] (x ∷ xs) (y ∷ ys) e = let (p, q) = one-shape [] [] xs ys cc in (refl, cc)
-one-shape [] (q ∷ qs) [] ys e = let z : _≡_ {A = ℕ} 0 1 = cc in absurd (omega arith)
-one-shape [] (q ∷ qs) (x ∷ xs) ys e = let z : _≡_ {A = ℕ} 0 1 = cc in absurd (omega arith)
-one-shape (p ∷ ps) [] xs [] e = let z : _≡_ {A = ℕ} 0 1 = cc in absurd (omega arith)
-one-shape (p ∷ ps) [] xs (y ∷ ys) e = let z : _≡_ {A = ℕ} 0 1 = cc in absurd (omega arith)
-one-shape (p ∷ ps) (q ∷ qs) xs ys e = let (r, same) = one-shape ps qs xs ys cc in (cc, same)
+pub records-same : (ps qs : List Pattern) (xs ys : List Symbol) → records ps xs ≡ records qs ys → (ps ≡ qs) × (xs ≡ ys)
+records-same [] [] [] [] e = (refl, refl)
+records-same [] [] [] (y ∷ ys) e = let z : _≡_ {A = ℕ} 0 1 = cc in absurd (omega arith)
+records-same [] [] (x ∷ xs) [] e = let z : _≡_ {A = ℕ} 0 1 = cc in absurd (omega arith)
+records-same [] [] (x ∷ xs) (y ∷ ys) e = let (p, q) = records-same [] [] xs ys cc in (refl, cc)
+records-same [] (q ∷ qs) [] ys e = let z : _≡_ {A = ℕ} 0 1 = cc in absurd (omega arith)
+records-same [] (q ∷ qs) (x ∷ xs) ys e = let z : _≡_ {A = ℕ} 0 1 = cc in absurd (omega arith)
+records-same (p ∷ ps) [] xs [] e = let z : _≡_ {A = ℕ} 0 1 = cc in absurd (omega arith)
+records-same (p ∷ ps) [] xs (y ∷ ys) e = let z : _≡_ {A = ℕ} 0 1 = cc in absurd (omega arith)
+records-same (p ∷ ps) (q ∷ qs) xs ys e = let (r, same) = records-same ps qs xs ys cc in (cc, same)
 
 -- A front of a rule's records has some of the patterns and no symbol, or all patterns and some of the symbols.
 abbrev pub FrontOf : List Pattern → List Symbol → List Record → Type 0

@@ -1,51 +1,47 @@
--- Whole records from the bytes that stand at a place.
-use mathlib.Core.Path.{_≡_, refl, subst, ap, _∙_}
+-- Whole records from the bytes that stand at a place, one byte after the other.
+use mathlib.Core.Path.{refl, subst, ap, _∙_}
 use mathlib.Core.List.{List, _∷_}
 use Prim.Native.Nat.{ℕ, _+_, _<_}
 use native.Mathlib.Omega.{arith}
-use lib.ListN.{length, getD, drop}
-use Rattle.reading.specs.Rule.{Guards}
-use Rattle.reading.specs.File.{NodeRecord, Necessity, Variable}
+use lib.ListN.{length, getD}
+use Rattle.reading.specs.Rule.{Guards, Necessity, Variable, patternKind, necessityKind, variableKind}
+use Rattle.reading.specs.File.{NodeRecord}
 use Rattle.reading.specs.Faults.{pattern, node}
 use Rattle.reading.specs.declared.Pattern.{Pattern}
-use Rattle.reading.proofs.Basics.Places.{Byte, from-byte}
+use Rattle.reading.proofs.Basics.Places.{Byte, from-byte, from-place}
 use Rattle.reading.proofs.Accepting.NodeBytes.{NodeStands, bare, of-necessity, of-variable, bare-truth, bare-falsity, bare-both, bare-max}
-use Rattle.reading.proofs.Accepting.PatternBytes.{PatternStands}
+use Rattle.reading.proofs.Accepting.PatternBytes.{PatternStands, pattern-bytes}
 use Rattle.reading.proofs.Refusing.Contexts.{guards, Allows}
 use Rattle.reading.proofs.Refusing.ReadTo.{Stands}
 
 module _ (s : List ℕ) (at : ℕ) where
-  -- the byte i places on
-  from-place : (i place next : ℕ) → at + i ≡ place → place + 1 ≡ next → place < length s → drop place s ≡ getD s place 0 ∷ drop next s
-  from-place i place next e e′ h = from-byte {s = s} {at = place} next (record { inside = h; is = refl }) e′
-
-  pub necessity-here : Byte s at 5 → at + 1 < length s → Stands s at (at + 2) (node (Necessity (getD s (at + 1) 0)))
+  pub necessity-here : Byte s at necessityKind → at + 1 < length s → Stands s at (at + 2) (node (Necessity (getD s (at + 1) 0)))
   necessity-here b h = record {
-    bytes = from-byte (at + 1) b refl ∙ ap (λ (l : List ℕ). 5 ∷ l) (from-place 1 (at + 1) (at + 2) refl (omega arith) h);
+    bytes = from-byte (at + 1) b refl ∙ ap (λ (l : List ℕ). necessityKind ∷ l) (from-place s (at + 1) (at + 2) h (omega arith));
     ends = refl;
     inside = omega arith;
   }
 
-  pub variable-here : Byte s at 7 → at + 1 < length s → Stands s at (at + 2) (node (Variable (getD s (at + 1) 0)))
+  pub variable-here : Byte s at variableKind → at + 1 < length s → Stands s at (at + 2) (node (Variable (getD s (at + 1) 0)))
   variable-here b h = record {
-    bytes = from-byte (at + 1) b refl ∙ ap (λ (l : List ℕ). 7 ∷ l) (from-place 1 (at + 1) (at + 2) refl (omega arith) h);
+    bytes = from-byte (at + 1) b refl ∙ ap (λ (l : List ℕ). variableKind ∷ l) (from-place s (at + 1) (at + 2) h (omega arith));
     ends = refl;
     inside = omega arith;
   }
 
-  pub pattern-here : Byte s at 1 → at + 3 < length s
+  pub pattern-here : Byte s at patternKind → at + 3 < length s
       → Stands s at (at + 4) (pattern (record { mask = getD s (at + 1) 0; first = getD s (at + 2) 0; last = getD s (at + 3) 0 }))
   pattern-here b h = record {
     bytes = from-byte (at + 1) b refl
-        ∙ ap (λ (l : List ℕ). 1 ∷ l) (from-place 1 (at + 1) (at + 2) refl (omega arith) (omega arith)
-        ∙ ap (λ (l : List ℕ). getD s (at + 1) 0 ∷ l) (from-place 2 (at + 2) (at + 3) refl (omega arith) (omega arith)
-        ∙ ap (λ (l : List ℕ). getD s (at + 2) 0 ∷ l) (from-place 3 (at + 3) (at + 4) refl (omega arith) h)));
+        ∙ ap (λ (l : List ℕ). patternKind ∷ l) (from-place s (at + 1) (at + 2) (omega arith) (omega arith)
+        ∙ ap (λ (l : List ℕ). getD s (at + 1) 0 ∷ l) (from-place s (at + 2) (at + 3) (omega arith) (omega arith)
+        ∙ ap (λ (l : List ℕ). getD s (at + 2) 0 ∷ l) (from-place s (at + 3) (at + 4) h (omega arith))));
     ends = refl;
     inside = omega arith;
   }
 
-  pub pattern-stood : {left : ℕ} {p : Pattern} → Byte s at 1 → PatternStands s at left p → Stands s at (at + 4) (pattern p)
-  pattern-stood {p = p} b h = rw (h .mask .is, h .first .is, h .last .is) at (pattern-here b (h .last .inside))
+  pub pattern-stood : {p : Pattern} → Byte s at patternKind → PatternStands s at p → Stands s at (at + 4) (pattern p)
+  pattern-stood {p} b h = record { bytes = pattern-bytes s at p b h; ends = refl; inside = omega (arith, h .last .inside) }
 
   pub node-here : {n : ℕ} {g : Guards} {r : NodeRecord} → NodeStands s n at g r → Stands s at (r .next) (node (r .symbol)) × Allows guards n g (r .symbol)
   node-here (bare bare-truth b) = (record { bytes = from-byte (at + 1) b refl; ends = refl; inside = omega (arith, b .inside) }, tt)

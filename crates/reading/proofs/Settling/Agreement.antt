@@ -1,4 +1,4 @@
--- Files whose first bytes are the same, and what is settled by so many bytes.
+-- Files whose first bytes are the same, and what is settled by so many bytes: a file and its front agree in these, or they are one.
 use mathlib.Core.Path.{_≡_, refl}
 use mathlib.Core.Bool.{Bool, true, false}
 use mathlib.Core.List.{List}

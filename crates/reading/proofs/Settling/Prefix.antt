@@ -1,19 +1,20 @@
--- Two files that agree in 257 bytes say the same, and 256 aren't enough.
-use mathlib.Core.Path.{_≡_, refl, ap}
-use mathlib.Core.Bool.{Bool, true, false, cond}
+-- Two files that agree in 257 bytes say the same, for 32 patterns and 64 nodes end before byte 256, and the byte there is a kind at most. And 256 bytes
+-- aren't enough.
+use mathlib.Core.Path.{_≡_, refl}
 use mathlib.Core.List.{List, [], _∷_, _++_}
 use Prim.Native.Nat.{ℕ, zero, suc, _+_, _-_, _*_, _≤_, _<_}
 use native.Mathlib.Omega.{arith}
 use lib.ListN.{length}
 use borrow.Author.Tests.{lt-ltb}
-use Rattle.reading.specs.Rule.{Guards, Bytes}
-use Rattle.reading.specs.File.{Outcome, accepted, andThen, patternAt, isPattern, Patterns, patternsAt}
+use Rattle.reading.specs.Rule.{Guards, Bytes, patternKind, nodeBytes, Necessity, Truth}
+use Rattle.reading.specs.File.{accepted, andThen, recordsAt, patternAt, isPattern, patternFormat, patternsAt}
 use Rattle.reading.specs.File.{NodeRecord, necessityAt, variableAt, nodeAt, Parsed, formulaAt, formulaOf, endOfFile, ruleOf}
 use Rattle.reading.specs.Promises.{SettledByFirstBytes, NotByFewer}
 use Rattle.reading.specs.declared.Pattern.{Pattern}
 use Rattle.reading.proofs.Settling.Agreement.{Agree, inside, settled}
-use Rattle.reading.proofs.Basics.Outcomes.{accepted-is, never-accepted, accepted-by, both-agree}
+use Rattle.reading.proofs.Basics.Outcomes.{andThen-agree-both}
 use Rattle.reading.proofs.Basics.ByteLaws.{bytes-append}
+use Rattle.reading.proofs.RecordLists.RecordsAgree.{FormatsAgree, records-agree, records-next}
 use Rattle.reading.proofs.Accepting.Encoding.{length-formula}
 use Rattle.reading.proofs.Accepting.NodeBytes.{NodeStands, bare, of-necessity, of-variable, node-accepts}
 use Rattle.reading.proofs.Accepting.Sound.{FormulaStands}
@@ -21,50 +22,35 @@ use Rattle.reading.proofs.Accepting.Steps.{parts-same, formula-step, fo
 
 -- ---- how far a file is read
 
--- at the end of the patterns, or after one more
-or-ended : (b : Bool) (o : Outcome Patterns) (at : ℕ) (ps : Patterns) → cond b o (accepted (record { list = []; next = at })) ≡ accepted ps
-    → (o ≡ accepted ps → ps .next ≤ 128) → at ≤ 128 → ps .next ≤ 128
-or-ended true o at ps e more h = more e
-or-ended false o at ps e more h = omega (arith, ap (λ (x : Patterns). x .next) (accepted-is e))
-
--- a pattern has four bytes
-patterns-next : (left : ℕ) (s : List ℕ) (at : ℕ) (ps : Patterns) → at + 4 * left ≤ 128 → patternsAt left s at ≡ accepted ps
-    → ps .next ≤ 128
-unfolding patternsAt
-patterns-next zero s at ps h e = or-ended (isPattern s at) _ at ps e (λ z. absurd (never-accepted z)) (omega arith)
-patterns-next (suc left) s at ps h e =
-    or-ended (isPattern s at) _ at ps e (λ z.
-    let (p, first, rest) = accepted-by (patternAt s at (suc left)) _ z in
-    let (qs, others, whole) = accepted-by (patternsAt left s (at + 4)) _ rest in
-    omega (arith, patterns-next left s (at + 4) qs (omega arith) others, ap (λ (x : Patterns). x .next) (accepted-is whole))) (omega arith)
-
 -- fewer than `bound` nodes are left, each with room for its two bytes before byte 256
 abbrev Room : (bound at left : ℕ) → Type 0
 Room bound at left = (left < bound) × (at + 2 * left ≤ 256)
 
 -- after a node there is room for its parts, and after a formula for the next one
 module _ (bound : ℕ) (s : List ℕ) (n at left : ℕ) (g : Guards) where
-  node-next : {r : NodeRecord} → NodeStands s n at g r → r .next ≤ at + 2
-  node-next (bare k b) = omega arith
-  node-next (of-necessity h b a) = omega arith
-  node-next (of-variable h k b a) = omega arith
+  node-width : {r : NodeRecord} → NodeStands s n at g r → r .next ≤ at + 2
+  node-width (bare k b) = omega arith
+  node-width (of-necessity h b a) = omega arith
+  node-width (of-variable h k b a) = omega arith
 
-  after-node : (r : NodeRecord) → Room (suc bound) at left → nodeAt s n at left g ≡ accepted r
+  room-after-node : (r : NodeRecord) → Room (suc bound) at left → nodeAt s n at left g ≡ accepted r
       → NodeStands s n at g r × Room bound (r .next) (left - 1)
-  after-node r h e =
+  room-after-node r h e =
       let node = node-accepts s n at left g r .0 e in
-      let two : r .next ≤ at + 2 = node-next (node .1) in
+      let two : r .next ≤ at + 2 = node-width (node .1) in
       (node .1, (omega (arith, node .0), omega (arith, node .0)))
 
-  after-formula : (f : Parsed) → Room bound at left → FormulaStands s n at left g f → Room bound (f .next) (f .left)
-  after-formula f h stands = (
+  room-after-formula : (f : Parsed) → Room bound at left → FormulaStands s n at left g f → Room bound (f .next) (f .left)
+  room-after-formula f h stands = (
     omega (arith, stands .nodes),
     omega (arith, stands .nodes, stands .ends, length-formula (f .formula)),
   )
 
+-- ---- files that agree
+
 module _ (s t : List ℕ) (a : Agree 257 s t) where
-  pattern-agrees : (at left : ℕ) → at + 3 < 257 → patternAt s at left ≡ patternAt t at left
-  pattern-agrees at left h =
+  pattern-agrees : (at : ℕ) → at + 3 < 257 → patternAt s at ≡ patternAt t at
+  pattern-agrees at h =
       let last = inside 257 s t a (at + 3) h in
       rw (last .0, last .1, a .same (at + 1) (omega arith), a .same (at + 2) (omega arith), a .same (at + 3) h)
 
@@ -89,16 +75,19 @@ module _ (s t : List ℕ) (a : Agree 257 s t) where
   formula-agrees zero n at left g h = absurd (omega arith)
   formula-agrees (suc bound) n at left g h =
       rw (formula-step s n at left g, formula-step t n at left g)
-      (both-agree (nodeAt s n at left g) (nodeAt t n at left g) _ _ (node-agrees n at left g (h .1)) (λ r e.
-      let (stands, room) = after-node bound s n at left g r h e in
-      parts-same s n (Room bound) (after-formula bound s n) (formulaOf s n) (formulaOf t n) (formula-sound s n) (formula-agrees bound n)
+      (andThen-agree-both (nodeAt s n at left g) (nodeAt t n at left g) _ _ (node-agrees n at left g (h .1)) (λ r e.
+      let (stands, room) = room-after-node bound s n at left g r h e in
+      parts-same s n (Room bound) (room-after-formula bound s n) (formulaOf s n) (formulaOf t n) (formula-sound s n) (formula-agrees bound n)
       at (left - 1) g stands room))
 
-  patterns-agree : (left at : ℕ) → at + 4 * left ≤ 128 → patternsAt left s at ≡ patternsAt left t at
-  unfolding patternsAt
-  patterns-agree zero at h = rw (is-pattern-agrees at (omega arith))
-  patterns-agree (suc left) at h =
-      rw (is-pattern-agrees at (omega arith), pattern-agrees at (suc left) (omega arith), patterns-agree left (at + 4) (omega arith))
+  formats-agree : FormatsAgree (patternFormat s) (patternFormat t) 4 257
+  formats-agree = record {
+    more = is-pattern-agrees;
+    one = λ at h. pattern-agrees at (omega arith);
+    tooMany = λ at h. refl;
+    width = λ p. refl;
+    narrow = λ p. omega arith;
+  }
 
   end-of-file-agrees : (ps : List Pattern) (f : Parsed) → f .next < 257 → endOfFile s ps f ≡ endOfFile t ps f
   end-of-file-agrees ps f h = rw (lt-ltb (f .next) (length s) (omega (arith, a .long)), lt-ltb (f .next) (length t) (omega (arith, a .long′)))
@@ -107,15 +96,15 @@ module _ (s t : List ℕ) (a : Agree 257 s t) where
       → andThen (formulaOf s n at 64 []) (endOfFile s ps) ≡ andThen (formulaOf t n at 64 []) (endOfFile t ps)
   formula-ends ps n at h =
       let room : Room 65 at 64 = (omega arith, omega arith) in
-      both-agree (formulaOf s n at 64 []) (formulaOf t n at 64 []) _ _ (formula-agrees 65 n at 64 [] room) (λ f e.
-      let (fewer, fits) = after-formula 65 s n at 64 [] f room (formula-sound s n at 64 [] f e) in
+      andThen-agree-both (formulaOf s n at 64 []) (formulaOf t n at 64 []) _ _ (formula-agrees 65 n at 64 [] room) (λ f e.
+      let (fewer, fits) = room-after-formula 65 s n at 64 [] f room (formula-sound s n at 64 [] f e) in
       end-of-file-agrees ps f (omega arith))
 
   rule-agrees : ruleOf s ≡ ruleOf t
   unfolding ruleOf
   rule-agrees =
-      both-agree (patternsAt 32 s 0) (patternsAt 32 t 0) _ _ (patterns-agree 32 0 (omega arith)) (λ ps e.
-      formula-ends (ps .list) (length (ps .list)) (ps .next) (patterns-next 32 s 0 ps (omega arith) e))
+      andThen-agree-both (patternsAt 32 s 0) (patternsAt 32 t 0) _ _ (records-agree _ _ 4 257 formats-agree 32 0 (omega arith)) (λ ps e.
+      formula-ends (ps .list) (length (ps .list)) (ps .next) (records-next (patternFormat s) 4 (λ p. omega arith) 32 0 ps e))
 
 pub first-bytes : SettledByFirstBytes
 first-bytes = settled ruleOf 257 rule-agrees
@@ -129,7 +118,7 @@ times (suc n) bytes rest = bytes ++ times n bytes rest
 
 -- 32 patterns, a formula of 64 nodes that is not whole, and one more node
 longest : List ℕ
-longest = times 32 (1 ∷ 1 ∷ 0 ∷ 0 ∷ []) (times 64 (5 ∷ 0 ∷ []) (2 ∷ []))
+longest = times 32 (patternKind ∷ 1 ∷ 0 ∷ 0 ∷ []) (times 64 (nodeBytes (Necessity 0)) (nodeBytes Truth))
 
 times-bytes : (n : ℕ) (bytes rest : List ℕ) → Bytes bytes → Bytes rest → Bytes (times n bytes rest)
 unfolding times
@@ -141,5 +130,5 @@ unfolding longest
 longest-bytes = times-bytes 32 _ _ (search arith) (times-bytes 64 _ _ (search arith) (search arith))
 
 pub no-fewer : NotByFewer
-unfolding longest times ruleOf patternsAt formulaOf formulaAt
+unfolding longest times ruleOf recordsAt formulaOf formulaAt
 no-fewer = (longest, longest-bytes, refl, refl)

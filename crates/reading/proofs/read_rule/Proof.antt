@@ -1,8 +1,10 @@
 -- `read_rule` meets its contract: each return is the reading of what the file says.
 use borrow.Author.Needs.{needs}
-use Rattle.reading.proofs.Functions.Ways.{head-refused, formula-refused, AfterFormula, after-formula, few-left, bytes-follow, file-accepted}
+use Rattle.reading.proofs.Functions.Ways.{head-refused, formula-refused, AfterFormula, after-formula, rest-few, end-refused, end-accepted}
 use Rattle.reading.proofs.read_rule.Statement.{statement}
 use Rattle.reading.proofs.read_rule.Tie as tie
+
+-- ---- what is known after the formula
 
 -- after the patterns and a formula
 formula-read : (c : tie.After-known-told) → AfterFormula
@@ -16,6 +18,8 @@ formula-read c =
     let o = r .before .before .before in
     after-formula _ _ (o .before .before .before .read-patterns .ensures) (o .before .enum-told .given .1) _ (o .outermost .ensures) _ _ _
     (r .read-formula .ensures) _ (c .before .found .given .1)
+
+-- ---- each obligation
 
 read-patterns-requires : tie.Need-read-patterns-requires
 read-patterns-requires c κs = search needs
@@ -63,13 +67,13 @@ refused-requires-3 : tie.Need-refused-requires-3
 refused-requires-3 c κs = search needs
 
 returns-3 : tie.Need-returns-3
-returns-3 c = bytes-follow (formula-read (c .before .before)) (c .before .if1 .taken) _ (c .refused3 .ensures)
+returns-3 c = end-refused (formula-read (c .before .before)) (c .before .if1 .taken) _ (c .refused3 .ensures)
 
 sub-t19 : tie.Need-sub-t19
-sub-t19 c = few-left (formula-read (c .before .before .before))
+sub-t19 c = rest-few (formula-read (c .before .before .before))
 
 returns-4 : tie.Need-returns-4
-returns-4 c = file-accepted (formula-read (c .before .before .before)) (c .before .before .if1 .left)
+returns-4 c = end-accepted (formula-read (c .before .before .before)) (c .before .before .if1 .left)
 
 pub read-rule-spec : {M : Type 1} → statement M
 read-rule-spec =

@@ -9,7 +9,7 @@ use lib.ListN.{length}
 use borrow.Author.Tests.{ltb-true, ltb-false, lt-ltb, le-ltb}
 use Rattle.reading.specs.Rule.{Rule}
 use Rattle.reading.specs.File.{Outcome, accepted, refused, refuse, ruleOf}
-use Rattle.reading.proofs.Basics.Outcomes.{accepted-is, passes, accepted-by}
+use Rattle.reading.proofs.Basics.Outcomes.{accepted-is, refuse-accepted, andThen-accepted}
 use Rattle.synthesis.specs.Answering.{unsatisfiable}
 use Rattle.synthesis.specs.Building.{equationsOf, Synthesis, synthesisOfRule, synthesisOf, buildingOf, countedOf}
 use Rattle.synthesis.specs.declared.Counted.the-variants.{Equations, Refused}
@@ -24,10 +24,10 @@ pub synthesis-accepts : (limit : ℕ) (s : List ℕ) (P : Synthesis → Type 0)
     → (y : Synthesis) → synthesisOf limit s ≡ accepted y → P y
 unfolding synthesisOf
 synthesis-accepts limit s P holds y e =
-    let read = accepted-by (ruleOf s) (synthesisOfRule limit) e in
+    let read = andThen-accepted (ruleOf s) (synthesisOfRule limit) e in
     let r = read .0 in
-    let eight = passes (unsatisfiable r) 8 0 _ (read .2) in
-    let nine = passes (ltb limit (length (equationsOf limit r))) 9 0 _ (eight .1) in
+    let eight = refuse-accepted (unsatisfiable r) 8 0 _ (read .2) in
+    let nine = refuse-accepted (ltb limit (length (equationsOf limit r))) 9 0 _ (eight .1) in
     subst P (accepted-is (nine .1)) (holds r (read .1) (eight .0) (ltb-false limit (length (equationsOf limit r)) (nine .0)))
 
 -- ---- a table for the rows
@@ -45,7 +45,7 @@ pub building-accepts : (limit : ℕ) (s : List ℕ) (capacity : ℕ) (y : Synthe
     → (256 * limit ≤ capacity) × (synthesisOf limit s ≡ accepted y)
 unfolding buildingOf
 building-accepts limit s capacity y e =
-    let ten = passes (ltb capacity (256 * limit)) 10 0 (synthesisOf limit s) e in
+    let ten = refuse-accepted (ltb capacity (256 * limit)) 10 0 (synthesisOf limit s) e in
     (ltb-false capacity (256 * limit) (ten .0), ten .1)
 
 -- ---- a file that is a rule: accepted, or one of two refusals

@@ -5,12 +5,19 @@ use lib.ListN.{length}
 use native.Mathlib.Omega.{arith}
 use borrow.Author.Needs.{needs}
 use Rattle.reading.specs.File.{Outcome, accepted}
-use Rattle.models.specs.Phone.{stepAt, recordLength}
+use Rattle.reading.specs.Representations.{recordAt}
+use Rattle.reading.proofs.Basics.ByteLaws.{slice-bytes}
+use Rattle.reading.proofs.Basics.Outcomes.{byCase-value}
+use Rattle.reading.proofs.RecordLists.RecordWays.{record-accepted}
+use Rattle.models.specs.Phone.{recordLength, stepFormat}
 use Rattle.models.specs.declared.Step.{Step}
-use Rattle.models.proofs.Files.FileWays.{step-found, all-read, step-refused, step-read}
-use Rattle.models.proofs.Files.StepBytes.{step-fits}
+use Rattle.models.proofs.Files.Cases.{step-cases}
+use Rattle.models.proofs.Files.FileWays.{next-at-end, next-refused, next-read}
+use Rattle.models.proofs.Files.StepBytes.{step-inside}
 use Rattle.models.proofs.loading.next_step.Statement.{statement}
 use Rattle.models.proofs.loading.next_step.Tie as tie
+
+-- ---- what is known of the step
 
 -- the step that was read
 module _ (c : tie.After-record-length) where
@@ -18,7 +25,7 @@ module _ (c : tie.After-record-length) where
   start = c .before .before .before .before .before .before .before
 
   abbrev found : Outcome Step
-  found = stepAt (start .args .bytes .now) (start .args .states) (start .args .at) (512 - start .args .n)
+  found = recordAt (stepFormat (start .args .bytes .now) (start .args .states)) (512 - start .args .n) (start .args .at)
 
   abbrev step : Step
   step = c .before .before .found .given .0 .0
@@ -27,19 +34,22 @@ module _ (c : tie.After-record-length) where
   inside = c .before .before .before .before .before .if1 .left
 
   is-read : found ≡ accepted step
-  is-read = step-found found (sym (c .before .before .found .given .1) ∙ c .before .before .before .before .read-step .ensures)
+  is-read = byCase-value step-cases found _ (sym (c .before .before .found .given .1) ∙ c .before .before .before .before .read-step .ensures)
 
   ends : start .args .at + recordLength step ≤ length (start .args .bytes .now)
   ends =
-      step-fits (start .args .bytes .now) (start .args .states) (start .args .at) (512 - start .args .n) step
-      (start .pre .1 .are-bytes) inside is-read
-      .whole
+      let bytes = start .args .bytes .now in
+      step-inside bytes (start .args .states) (start .args .at) step
+      (slice-bytes bytes (c .before .before .before .before .before .before .shared-slice-known .given)) inside
+      (record-accepted (stepFormat bytes (start .args .states)) (start .args .at) (512 - start .args .n) is-read .1)
+
+-- ---- each obligation
 
 no-more-requires : tie.Need-no-more-requires
 no-more-requires c κs = search needs
 
 returns : tie.Need-returns
-returns c steps b = all-read b (c .before .if1 .taken) _ (c .no-more .ensures)
+returns c steps b = next-at-end b (c .before .if1 .taken) _ (c .no-more .ensures)
 
 sub-read-step : tie.Need-sub-read-step
 sub-read-step c = search needs
@@ -62,7 +72,7 @@ no-more-requires-2 c κs = search needs
 returns-2 : tie.Need-returns-2
 returns-2 c steps b =
     let r = c .before .before .before .before in
-    step-refused b (r .before .if1 .left) _ (r .read-step .ensures) (c .before .before .enum-told .given .1) _ (c .before .step-answer .ensures) _
+    next-refused b (r .before .if1 .left) _ (r .read-step .ensures) (c .before .before .enum-told .given .1) _ (c .before .step-answer .ensures) _
     (c .no-more2 .ensures)
 
 record-length-requires : tie.Need-record-length-requires
@@ -72,7 +82,7 @@ add-t8 : tie.Need-add-t8
 add-t8 c = omega (arith, ends c, c .record-length .ensures)
 
 returns-3 : tie.Need-returns-3
-returns-3 c steps b = rw (c .record-length .ensures) (step-read b (step c) (inside c) (is-read c))
+returns-3 c steps b = rw (c .record-length .ensures) (next-read b (step c) (inside c) (is-read c))
 
 pub next-step-spec : {M : Type 1} → statement M
 next-step-spec =

@@ -21,8 +21,7 @@ use types.Kit.{Given, ‵, raw, _⊛_, ⋆, some, given, later, _$_, _∵_, !, q
 use types.Kit.{move, keep, drop, use1, use2, use3, split, join, pick, learn, rewrite, fsplit, fjoin, frame}
 use types.Tokens.{lft-new, lft-end}
 use types.Part.{agg}
-use types.Run.{look, init, stop, from, lit, of-opd, addr, and-then, no-more, land, returns}
-use types.Run.{enter, alloc1, alloc0, params1, pass1, pass0, free0}
+use types.Run.{look, init, stop, from, lit, of-opd, addr, and-then, no-more, land, returns, enter, alloc1, alloc0, params1, pass1, pass0, free0}
 use sound.WpLaws.{FmC, fmOf}
 use denote.RattleType.{owns}
 use denote.Laws.{Is}
@@ -66,6 +65,8 @@ use Rattle.models.proofs.loading.read_array.Proof.Called.{ReadSteps, Re
 mod Result
 mod LentArray
 mod Called
+
+-- ---- the walk
 
 abbrev stayed : Stays (read-array.ended .signature .params) (read-array.ended .kept)
 stayed = (stay-none-slice (0 ∷ []) tt (plain (λ _. u8)) yes, (stay-none (λ _. usize) yes, (stay-none (λ _. AR) yes, tt)))
@@ -149,6 +150,8 @@ module _ {M : Type 1} (𝓤 : URA M) (H : Heap 𝓤) (A : Atoms 𝓤) (W : Given
         returns ! (look ! 19 refl) $ frees-cell ! 19 19 refl refl $ frees-cell ! 17 17 refl refl $ frees-cell ! 15 15 refl refl $
         frees-cell ! 13 13 refl refl $ frees-cell ! 0 11 refl refl $ frees-cell ! 9 9 refl refl $ frees-cell ! 7 7 refl refl $
         frees-cell ! 5 5 refl refl $ frees-cell ! 3 3 refl refl $ free0 ! $ keep ! (0 ∷ 1 ∷ []) $ by ! (exits x zs is (got .2)))))))))))))))))
+
+-- ---- the contract
 
 pub read-array-spec : {M : Type 1} → stated.statement M
 unfolding code.routine tablesOf

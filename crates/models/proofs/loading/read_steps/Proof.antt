@@ -18,8 +18,7 @@ use contract.Monad.{Fun}
 use contract.Running.{givenOf, tables, tablesOf}
 use types.Kit.{Given, Item, ‵, raw, _⊛_, ⋆, some, given, later, Sq, runs, atRet, _$_, _∵_, !, qed, by, suffices, await, done}
 use types.Kit.{move, keep, drop, use1, use2, split, join, pick, learn, fsplit, fjoin, frame}
-use types.Run.{look, stop, from, lit, of-opd, and-then, no-more, land, returns}
-use types.Run.{enter, exec, alloc1, alloc0, params1, pass0, free0}
+use types.Run.{look, stop, from, lit, of-opd, and-then, no-more, land, returns, enter, exec, alloc1, alloc0, params1, pass0, free0}
 use sound.WpLaws.{fmOf}
 use denote.RattleType.{owns}
 use denote.Laws.{Is}
@@ -33,8 +32,7 @@ use denote.Triple.Statement.{Triple}
 use denote.Triple.Call.{calls-at}
 use denote.Triple.Entry.{Vals, onEntry}
 use denote.Triple.Table.{cited}
-use denote.Triple.Walked.{says, needs, Stays, stay-none-slice, stay-none, stay-slice, walkOf, ends-at}
-use denote.Triple.Walked.{goes-none-slice, goes-none, goes-slice}
+use denote.Triple.Walked.{says, needs, Stays, stay-none-slice, stay-none, stay-slice, walkOf, ends-at, goes-none-slice, goes-none, goes-slice}
 use denote.Exit.{yes}
 use Rattle.models.specs.Phone.{stepsAt}
 use Rattle.models.specs.Loading.{StepsBegun, LoadedAs}
@@ -65,6 +63,8 @@ use Rattle.models.proofs.loading.read_steps.Proof.Calls.{NextStep, PutS
 use Rattle.models.proofs.loading.read_steps.Proof.Iteration.{State, state, left, Locals, Inv, iteration}
 mod Calls
 mod Iteration
+
+-- ---- the walk
 
 abbrev stayed : Stays (read-steps.ended .signature .params) (read-steps.ended .kept)
 stayed = (stay-none-slice (0 ∷ []) tt (plain (λ _. u8)) yes, (stay-none (λ _. usize) yes, (stay-slice (1 ∷ []) tt (plain (λ _. R)), tt)))
@@ -159,6 +159,8 @@ module _ {M : Type 1} (𝓤 : URA M) (H : Heap 𝓤) (A : Atoms 𝓤) (W : Given
         where
           first-ask : NextStep 𝓤 H A mem run .Ghost
           first-ask = to-next κ b o γ f states 0 2 𝓤 H A W mem run q
+
+-- ---- the contract
 
 pub read-steps-spec : {M : Type 1} → stated.statement M
 unfolding code.routine tablesOf

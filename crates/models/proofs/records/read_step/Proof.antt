@@ -1,13 +1,13 @@
 -- `records::read_step` meets its contract: a record of another kind or one too many is refused, and else the kind's own reader answers.
 use mathlib.Core.Path.{_≡_}
-use mathlib.Core.Bool.{true, _||_}
+use mathlib.Core.Bool.{true}
 use mathlib.Core.Logic.{inl, inr, ⊎-elim}
 use Prim.Native.Nat.{ℕ}
-use lib.Dec.{eqb}
 use lib.ListN.{getD}
 use borrow.Author.Tests.{eqb-true, eqb-false, not-true, not-false}
 use borrow.Author.Needs.{needs}
-use Rattle.models.proofs.Files.StepLaws.{a-step}
+use Rattle.models.specs.Phone.{silentStepKind, isStep}
+use Rattle.models.proofs.Files.StepLaws.{step-tested}
 use Rattle.models.proofs.Files.RecordChecks.{no-step, no-step-left, code-step, silent-step}
 use Rattle.models.proofs.records.read_step.Statement.{statement}
 use Rattle.models.proofs.records.read_step.Tie as tie
@@ -17,8 +17,8 @@ module _ (c : tie.Joined1) where
   abbrev kind : ℕ
   kind = getD (c .before .before .before .args .bytes .now) (c .before .before .before .args .at) 0
 
-  is-step : (eqb kind 17 || eqb kind 18) ≡ true
-  is-step = a-step kind (⊎-elim (λ w. inr (eqb-true kind 18 (not-false _ (w .1 .left)))) (λ w. inl (w .left)) (c .if1 .came))
+  is-step : isStep kind ≡ true
+  is-step = step-tested kind (⊎-elim (λ w. inr (eqb-true kind silentStepKind (not-false _ (w .1 .left)))) (λ w. inl (w .left)) (c .if1 .came))
 
 shared-slice-read-kind : tie.Need-shared-slice-read-kind
 shared-slice-read-kind c = search needs
@@ -26,7 +26,7 @@ shared-slice-read-kind c = search needs
 returns : tie.Need-returns
 returns c =
     let a = c .before .before .before .before .args in
-    no-step (a .bytes .now) (a .states) (a .at) (a .left) (c .before .if1 .taken) (eqb-false _ 18 (not-true _ (c .if2 .taken)))
+    no-step (a .bytes .now) (a .states) (a .at) (a .left) (c .before .if1 .taken) (eqb-false _ silentStepKind (not-true _ (c .if2 .taken)))
 
 returns-2 : tie.Need-returns-2
 returns-2 c = search (no-step-left, is-step (c .before))

@@ -6,8 +6,8 @@ use borrow.Fn.Kinds.{In}
 use borrow.Fn.PlainCycle.{Measures, is, falls, and}
 use Rattle.reading.specs.Representations.{guardsOf}
 use Rattle.reading.proofs.Functions.Scopes.{guards-length}
-use Rattle.reading.proofs.Functions.Parts.{Found, found-is, rest-left, node-refused, is-leaf, is-variable, is-bound}
-use Rattle.reading.proofs.Functions.Parts.{is-necessity, is-max, first-refused, is-both}
+use Rattle.reading.proofs.Functions.Parts.{Found, found-is, part-leaves, node-refused, reads-leaf, reads-variable, variable-in-scope}
+use Rattle.reading.proofs.Functions.Parts.{reads-necessity, reads-max, both-refused, reads-both}
 use Rattle.reading.proofs.formulas.read_formula.Reads as reads
 use Rattle.reading.proofs.formulas.read_formula.Kinds as kinds
 use Rattle.reading.proofs.formulas.+read_formula.Lts-read_formula as lts
@@ -18,6 +18,8 @@ use Rattle.reading.proofs.formulas.passed_up.Reads as passed-up-reads
 use Rattle.reading.proofs.formulas.read_node.Reads as read-node-reads
 use Rattle.reading.proofs.formulas.+read_formula.{statement}
 use Rattle.reading.proofs.formulas.+read_formula.Tie.{close}
+
+-- ---- the measure and the claims
 
 abbrev μ : Measures 3 kinds.ps ℕ
 μ κs a = a .1 .1 .1 .0
@@ -45,6 +47,8 @@ claims t = (
   max-of-reads.Learnt,
 )
 
+-- ---- what is known of the node
+
 module _ (t : ℕ) where
   -- what was found of the node, where one was read
   found : (c : lts.After-known-told (claims t) (at t) reads.Post) →
@@ -60,6 +64,8 @@ module _ (t : ℕ) where
 
   few : (c : lts.After-known-told (claims t) (at t) reads.Post) → c .before .before .before .before .before .args .left ≤ 64
   few c = omega (arith, c .before .before .before .before .before .pre)
+
+  -- ---- each obligation
 
   read-node-requires : lts.Need-read-node-requires (claims t) (at t) reads.Post
   read-node-requires c κs = search needs
@@ -101,11 +107,11 @@ module _ (t : ℕ) where
   returns-2 c =
       let r = c .before .before in
       let a = r .before .before .before .before in
-      first-refused _ _ _ _ _ _ _ _ _ (found a) (r .before .before .before .if1 .taken) (few a) _
+      both-refused _ _ _ _ _ _ _ _ _ (found a) (r .before .before .before .if1 .taken) (few a) _
       (r .read-formula .ensures) (c .enum-told2 .given .1)
 
   sub-args : lts.Need-sub-args (claims t) (at t) reads.Post
-  sub-args c = omega (arith, rest-left _ _ _ _ _ _ _ (c .before .before .before .read-formula .ensures) (c .before .first .given .1))
+  sub-args c = omega (arith, part-leaves _ _ _ _ _ _ _ (c .before .before .before .read-formula .ensures) (c .before .first .given .1))
 
   cast-args : lts.Need-cast-args (claims t) (at t) reads.Post
   cast-args c = search needs
@@ -119,14 +125,14 @@ module _ (t : ℕ) where
       let r = k .before .before in
       let a = r .before .before .before .before in
       let start = a .before .before .before .before .before in
-      omega (arith, rest-left _ _ _ _ _ _ _ (r .read-formula .ensures) (k .first .given .1), positive a, start .pre)
+      omega (arith, part-leaves _ _ _ _ _ _ _ (r .read-formula .ensures) (k .first .given .1), positive a, start .pre)
 
   returns-3 : lts.Need-returns-3 (claims t) (at t) reads.Post
   returns-3 c =
       let k = c .before .before .before in
       let r = k .before .before .before in
       let a = r .before .before .before .before in
-      is-both _ _ _ _ _ _ _ _ _ (found a) (r .before .before .before .if1 .taken) (few a) _ (r .read-formula .ensures) _
+      reads-both _ _ _ _ _ _ _ _ _ (found a) (r .before .before .before .if1 .taken) (few a) _ (r .read-formula .ensures) _
       (k .before .first .given .1) (c .read-formula2 .ensures)
 
   guarded-requires : lts.Need-guarded-requires (claims t) (at t) reads.Post
@@ -140,7 +146,7 @@ module _ (t : ℕ) where
       let g = c .before .before .before in
       let a = g .before .before .before in
       let i = g .guarded .ensures in
-      is-necessity _ _ _ _ _ _ _ _ _ (found a) (few a) (g .before .if2 .taken) (rw (i .numbers, i .guards) at (c .read-formula3 .ensures))
+      reads-necessity _ _ _ _ _ _ _ _ _ (found a) (few a) (g .before .if2 .taken) (rw (i .numbers, i .guards) at (c .read-formula3 .ensures))
 
   cast-inside-max : lts.Need-cast-inside-max (claims t) (at t) reads.Post
   cast-inside-max c = search needs
@@ -156,13 +162,13 @@ module _ (t : ℕ) where
       let m = c .before .before .before in
       let a = m .before .before .before .before in
       let i = m .inside-max .ensures in
-      is-max _ _ _ _ _ _ _ _ _ (found a) (few a) (m .before .if3 .taken) (rw (i .numbers, i .guards) at (c .read-formula4 .ensures))
+      reads-max _ _ _ _ _ _ _ _ _ (found a) (few a) (m .before .if3 .taken) (rw (i .numbers, i .guards) at (c .read-formula4 .ensures))
 
   max-of-requires : lts.Need-max-of-requires (claims t) (at t) reads.Post
   max-of-requires c κs =
       let a = c .before .before .before .before in
       let order = a .before .before .before .before .before .pre .1 .order in
-      omega (arith, positive a, is-bound (found a) (c .if4 .taken), guards-length _ _ order)
+      omega (arith, positive a, variable-in-scope (found a) (c .if4 .taken), guards-length _ _ order)
 
   element-write-args-3 : lts.Need-element-write-args-3 (claims t) (at t) reads.Post
   element-write-args-3 c = omega (arith, positive (c .before .before .before .before .before))
@@ -170,12 +176,12 @@ module _ (t : ℕ) where
   returns-6 : lts.Need-returns-6 (claims t) (at t) reads.Post
   returns-6 c =
       let a = c .before .before .before .before .before in
-      is-variable _ _ _ _ _ _ _ _ _ (found a) (c .before .if4 .taken) (c .max-of .result) (c .max-of .ensures)
+      reads-variable _ _ _ _ _ _ _ _ _ (found a) (c .before .if4 .taken) (c .max-of .result) (c .max-of .ensures)
 
   returns-7 : lts.Need-returns-7 (claims t) (at t) reads.Post
   returns-7 c =
       let a = c .before .before .before .before in
-      is-leaf _ _ _ _ _ _ _ _ _ (found a) (c .before .before .before .if1 .left) (c .before .before .if2 .left) (c .before .if3 .left) (c .if4 .left)
+      reads-leaf _ _ _ _ _ _ _ _ _ (found a) (c .before .before .before .if1 .left) (c .before .before .if2 .left) (c .before .if3 .left) (c .if4 .left)
 
 pub +read-formula-spec : {M : Type 1} → statement M
 +read-formula-spec =

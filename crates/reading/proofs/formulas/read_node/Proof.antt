@@ -1,5 +1,5 @@
 -- `formulas::read_node` meets its contract: each return is a row of the table.
-use Rattle.reading.proofs.Accepting.Checks.{file-ended, kind-0, kind-over, late-pattern, no-node-left, node-necessity, node-variable}
+use Rattle.reading.proofs.Accepting.Checks.{file-ended, kind-zero, kind-over, late-pattern, no-node-left, node-necessity, node-variable}
 use Rattle.reading.proofs.Accepting.NodeBytes.{node-bare}
 use borrow.Author.Needs.{needs}
 use Rattle.reading.proofs.formulas.read_node.Statement.{statement}
@@ -12,7 +12,7 @@ shared-slice-read-kind : tie.Need-shared-slice-read-kind
 shared-slice-read-kind c = search needs
 
 returns-2 : tie.Need-returns-2
-returns-2 c = search kind-0
+returns-2 c = search kind-zero
 
 returns-3 : tie.Need-returns-3
 returns-3 c = search kind-over

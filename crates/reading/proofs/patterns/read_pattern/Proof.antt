@@ -4,6 +4,8 @@ use borrow.Author.Needs.{needs}
 use Rattle.reading.proofs.patterns.read_pattern.Statement.{statement}
 use Rattle.reading.proofs.patterns.read_pattern.Tie as tie
 
+-- ---- each obligation
+
 returns : tie.Need-returns
 returns c = search no-pattern-left
 
@@ -45,6 +47,8 @@ returns-6 c = search first-past-last
 
 returns-7 : tie.Need-returns-7
 returns-7 c = search pattern-read
+
+-- ---- all of them
 
 pub read-pattern-spec : {M : Type 1} → statement M
 read-pattern-spec =

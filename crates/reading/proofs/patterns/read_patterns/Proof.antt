@@ -2,16 +2,21 @@
 use mathlib.Core.Path.{_≡_, sym, ap, _∙_, subst}
 use mathlib.Core.Bool.{true}
 use mathlib.Core.List.{List}
-use Prim.Native.Nat.{ℕ, _+_, _-_}
+use Prim.Native.Nat.{ℕ, _+_, _-_, _<_}
 use native.Mathlib.Omega.{arith}
 use borrow.Author.Needs.{needs}
-use Rattle.reading.specs.File.{accepted, isPattern, patternAt}
-use Rattle.reading.specs.Representations.{patternAnswer}
+use Rattle.reading.specs.File.{accepted, isPattern, patternFormat}
+use Rattle.reading.specs.Representations.{recordAt, patternAnswer}
 use Rattle.reading.specs.declared.NumberedRule.{NumberedRule}
-use Rattle.reading.proofs.Functions.Heads.{PatternsBegun, none-begun, one-begun, all-begun, begun-refused, found-pattern, no-pattern-found}
-use Rattle.reading.proofs.Accepting.PatternBytes.{PatternStands, pattern-stands, one-stands}
+use Rattle.reading.proofs.Functions.Heads.{PatternsBegun, patterns-begun-none, patterns-begun-one, patterns-begun-all, patterns-begun-refused}
+use Rattle.reading.proofs.Basics.Outcomes.{byCase-refused, byCase-value}
+use Rattle.reading.proofs.Basics.Cases.{pattern-cases}
+use Rattle.reading.proofs.RecordLists.RecordWays.{record-accepted}
+use Rattle.reading.proofs.Accepting.PatternBytes.{PatternStands, pattern-stands, pattern-kind}
 use Rattle.reading.proofs.patterns.read_patterns.Statement.{statement}
 use Rattle.reading.proofs.patterns.read_patterns.Tie as tie
+
+-- ---- the loop, and what is known in it
 
 abbrev Inv-loop : tie.InvT-loop
 Inv-loop bytes list₀ extents₀ at₀ n₀ list extents at n = PatternsBegun bytes list extents at n
@@ -36,13 +41,20 @@ module _ (c : tie.After-known-told Inv-loop μ-loop) where
   abbrev left : ℕ
   left = 32 - c .before .before .before .before .before .before .loop .n
 
-  is-read : patternAt s place left ≡ accepted (c .before .found .given .0 .0)
-  is-read = found-pattern (patternAt s place left) (sym (c .before .found .given .1) ∙ c .before .before .before .read-pattern .ensures)
+  is-read : recordAt (patternFormat s) left place ≡ accepted (c .before .found .given .0 .0)
+  is-read =
+      byCase-value pattern-cases (recordAt (patternFormat s) left place) _
+      (sym (c .before .found .given .1) ∙ c .before .before .before .read-pattern .ensures)
 
-  stands : PatternStands s place left (c .before .found .given .0 .0)
+  some-left : 0 < left
+  some-left = record-accepted (patternFormat s) place left is-read .0
+
+  stands : PatternStands s place (c .before .found .given .0 .0)
   stands =
       let file = c .before .before .before .before .before .before .before .before .before .before in
-      pattern-stands s place left _ (omega (arith, file .shared-slice-known .given (place + 1))) is-read
+      pattern-stands s place _ (omega (arith, file .shared-slice-known .given (place + 1))) (record-accepted (patternFormat s) place left is-read .1)
+
+-- ---- each obligation
 
 blank-rule-requires : tie.Need-blank-rule-requires Inv-loop μ-loop
 blank-rule-requires c κs = search needs
@@ -50,18 +62,18 @@ blank-rule-requires c κs = search needs
 loop-holds : tie.Need-loop-holds Inv-loop μ-loop
 loop-holds c =
     let file = c .before .before .before .before .args .bytes .now in
-    subst (λ (b : NumberedRule). PatternsBegun file (b .patterns) (b .extents) 0 0) (sym (c .before .before .blank-rule .ensures)) (none-begun file)
+    subst (λ (b : NumberedRule). PatternsBegun file (b .patterns) (b .extents) 0 0) (sym (c .before .before .blank-rule .ensures)) (patterns-begun-none file)
 
 is-pattern-requires : tie.Need-is-pattern-requires Inv-loop μ-loop
 is-pattern-requires c κs = search needs
 
 sub-read-pattern : tie.Need-sub-read-pattern Inv-loop μ-loop
-sub-read-pattern c = omega (arith, c .before .before .loop .inv .few)
+sub-read-pattern c = omega (arith, c .before .before .loop .inv .begun .few)
 
 read-pattern-requires : tie.Need-read-pattern-requires Inv-loop μ-loop
 read-pattern-requires c κs =
     let l = c .before .before in
-    one-stands (l .before .before .before .before .before .args .bytes .now) (l .loop .at) (begins c) .inside
+    pattern-kind (l .before .before .before .before .before .args .bytes .now) (l .loop .at) (begins c) .inside
 
 enum-known-found : tie.Need-enum-known-found Inv-loop μ-loop
 enum-known-found c = search needs
@@ -76,40 +88,40 @@ returns : tie.Need-returns Inv-loop μ-loop
 returns c =
     let r = c .before .before .before in
     let told = c .before .enum-told .given .1 in
-    begun-refused _ _ _ _ _ (r .before .before .before .loop .inv) _ _ _ (begins (r .before))
-    (no-pattern-found _ (sym told ∙ r .read-pattern .ensures)) (c .answer .ensures ∙ ap patternAnswer told)
+    patterns-begun-refused _ _ _ _ _ (r .before .before .before .loop .inv) _ _ _ (begins (r .before))
+    (byCase-refused pattern-cases (λ p. p) _ _ _ (sym told ∙ r .read-pattern .ensures)) (c .answer .ensures ∙ ap patternAnswer told)
 
 mul-list : tie.Need-mul-list Inv-loop μ-loop
-mul-list c = omega (arith, stands c .some-left)
+mul-list c = omega (arith, some-left c)
 
 array-set-from-list : tie.Need-array-set-from-list Inv-loop μ-loop
-array-set-from-list c = omega (arith, stands c .some-left)
+array-set-from-list c = omega (arith, some-left c)
 
 extent-requires : tie.Need-extent-requires Inv-loop μ-loop
 extent-requires c κs = stands c .well-formed
 
 mul-extents : tie.Need-mul-extents Inv-loop μ-loop
-mul-extents c = omega (arith, stands (c .before) .some-left)
+mul-extents c = omega (arith, some-left (c .before))
 
 array-set-from-extents : tie.Need-array-set-from-extents Inv-loop μ-loop
-array-set-from-extents c = omega (arith, stands (c .before) .some-left)
+array-set-from-extents c = omega (arith, some-left (c .before))
 
 add-n : tie.Need-add-n Inv-loop μ-loop
-add-n c = omega (arith, stands (c .before) .some-left)
+add-n c = omega (arith, some-left (c .before))
 
 add-at : tie.Need-add-at Inv-loop μ-loop
 add-at c = omega (arith, stands (c .before) .last .inside)
 
 loop-less : tie.Need-loop-less Inv-loop μ-loop
-loop-less c = omega (arith, stands (c .before) .some-left)
+loop-less c = omega (arith, some-left (c .before))
 
 loop-again : tie.Need-loop-again Inv-loop μ-loop
 loop-again c =
-    rw (c .extent .ensures) (one-begun _ _ _ _ _ (c .before .before .before .before .before .before .before .loop .inv) _
-    (begins (c .before .before .before .before .before)) (stands (c .before) .some-left) (is-read (c .before)))
+    rw (c .extent .ensures) (patterns-begun-one _ _ _ _ _ (c .before .before .before .before .before .before .before .loop .inv) _
+    (begins (c .before .before .before .before .before)) (is-read (c .before)))
 
 returns-2 : tie.Need-returns-2 Inv-loop μ-loop
-returns-2 c = all-begun _ _ _ _ _ (c .before .before .loop .inv) (sym (c .before .is-pattern .ensures) ∙ c .if1 .left)
+returns-2 c = patterns-begun-all _ _ _ _ _ (c .before .before .loop .inv) (sym (c .before .is-pattern .ensures) ∙ c .if1 .left)
 
 pub read-patterns-spec : {M : Type 1} → statement M
 read-patterns-spec =

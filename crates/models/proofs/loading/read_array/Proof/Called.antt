@@ -42,6 +42,8 @@ module _ {M : Type 1} (𝓤 : URA M) (H : Heap 𝓤) (A : Atoms 𝓤) (mem : Mem
   abbrev pub ReadSteps : Contract 𝓤
   ReadSteps = tripleOf 𝓤 H A read-steps.signature (read-steps.spec 𝓤 H A mem run)
 
+-- ---- the call of `read_steps`
+
 module _ (κ ν : Lft) (b o : ℕ) (γ : GName) (f : List ℕ) (states : ℕ) (b′ : ℕ) (δ : GName) (xs : List Step) where
   -- the arguments
   abbrev a : RefT (List ℕ) × (ℕ × (RefT (List Step) × Unit {0}))

@@ -18,8 +18,7 @@ use ghost.Atoms.{Atoms}
 use contract.Monad.{Fun}
 use types.Kit.{Given, Item, ‵, raw, _⊛_, some, given, later, Sq, runs, anyQ, atRet, _$_, !, move, use1, use2, use3, split, pick, learn, await}
 use types.Tokens.{lft-new, lft-end}
-use types.Run.{forget, stop, from, lit, of-opd, bin, and-then, no-more}
-use types.Run.{land, land-last, exec, again, Below}
+use types.Run.{forget, stop, from, lit, of-opd, bin, and-then, no-more, land, land-last, exec, again, Below}
 use borrow.Author.Tests.{not-true}
 use sound.WpLaws.{FmC, fmOf}
 use denote.Floats.{is-true}
@@ -39,14 +38,15 @@ use Rattle.models.proofs.Compiled.ReaderSlices.{file-val, File, Records
 use Rattle.models.proofs.Compiled.LentAgain.{OnLoan, lends-again-at, comes-back-at}
 use Rattle.models.proofs.Compiled.Loop.{tests, Less, AfterLoop}
 use Rattle.models.proofs.Compiled.Landing.{init-as, store-as}
-use Rattle.models.proofs.Files.FileWays.{begun-length}
+use Rattle.reading.proofs.RecordLists.RecordsRead.{begun-length}
 use Rattle.models.proofs.loading.next_step.Symbol.{name as #next-step}
 use Rattle.models.proofs.steps.put_step.Symbol.{name as #put-step}
 use Rattle.models.proofs.loading.read_steps.Code.Mir as body
-use Rattle.models.proofs.loading.read_steps.Proof.Calls.{NextStep, Answered, to-next, asks-next, next-told}
-use Rattle.models.proofs.loading.read_steps.Proof.Calls.{PutStep, to-put, asks-put, put-told}
+use Rattle.models.proofs.loading.read_steps.Proof.Calls.{NextStep, Answered, to-next, asks-next, next-told, PutStep, to-put, asks-put, put-told}
 
 -- what is read before a turn: what comes next, and the records so far
+-- ---- what is read, and how many records are left
+
 module _ (f : List ℕ) (states count : ℕ) where
   pub record State : Type 0 where
     pub next : Next
@@ -62,6 +62,8 @@ module _ (f : List ℕ) (states count : ℕ) where
   -- how many records are left
   abbrev pub left : State → ℕ
   left t = 512 - t .next .n
+
+-- ---- the locals, and one turn
 
 abbrev fileTy : Ty
 fileTy = sliceTy (tyRef (named 0) imm (tyInt w8))
@@ -119,7 +121,7 @@ module _ {M : Type 1} (𝓤 : URA M) (H : Heap 𝓤) (A : Atoms 𝓤) (W : Given
           sets-local ! (of-opd ! (reads-field ! 0 0 refl refl refl)) 5 refl (tt, tt) $
           tests ! (reads-local ! 5 refl)
           (λ h.
-          let begun = t .read .one-more (is-true (x .more) h) in
+          let begun = t .read .begun (is-true (x .more) h) in
           let inside : x .n < length ys = omega (arith, begun .few, begun-length begun, same) in
           let one-fits : x .n + 1 < 2 ^ 64 = omega (arith, begun .few) in
           -- the slice is lent again, for a lifetime of its own

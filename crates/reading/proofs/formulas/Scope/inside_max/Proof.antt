@@ -2,7 +2,7 @@
 use mathlib.Core.Path.{refl, _∙_}
 use native.Mathlib.Omega.{arith}
 use lib.ListN.{length-set}
-use Rattle.reading.proofs.Functions.Scopes.{push, guards-max}
+use Rattle.reading.proofs.Functions.Scopes.{lastFirst-push, guards-max}
 use borrow.Author.Needs.{needs}
 use Rattle.reading.proofs.formulas.Scope.inside_max.Statement.{statement}
 use Rattle.reading.proofs.formulas.Scope.inside_max.Tie as tie
@@ -20,7 +20,7 @@ returns : tie.Need-returns
 returns c =
     let sc = c .args .t1 in record {
       counted = refl;
-      numbers = push (sc .count) (sc .nodes) (c .args .k) (omega arith);
+      numbers = lastFirst-push (sc .count) (sc .nodes) (c .args .k) (omega arith);
       guards = guards-max (sc .count) (sc .unguarded);
       order = omega arith;
       room = length-set (sc .nodes) (sc .count) (c .args .k) ∙ c .pre .2;
