@@ -7,9 +7,10 @@ use native.Mathlib.Omega.{arith}
 use lib.ListN.{length}
 use Rattle.reading.specs.Rule.{Bytes}
 use Rattle.reading.specs.File.{Outcome}
+use Rattle.synthesis.specs.Table.{WellFormedTable}
 use Rattle.synthesis.specs.Building.{Synthesis, countedOf, tableAfter}
 use Rattle.synthesis.specs.declared.Counted.the-variants.{Equations}
-use Rattle.running.specs.Running.{WellFormedTable, runOf, resultOf}
+use Rattle.running.specs.Running.{runOf, resultOf}
 use Rattle.running.specs.Calls.{Call, History, withCall, Calls, none, call, OnTableOrRefused}
 use Rattle.running.specs.declared.State.{State}
 use Rattle.running.proofs.Refusals.{runs-on-tables}
@@ -50,12 +51,13 @@ under-rule outcome table n same e (h, calls, ends) =
     (h, calls-weaken 128 255 (λ h c may. record { count = n; answered = e; fit-on = rw (← same) may }) h calls, ends)
 
 pub sifts-by-rule : SiftsByRule
-sifts-by-rule s table r n bytes read e h calls =
-    drops-exactly 128 255 s table r n (omega arith) bytes read e h
+sifts-by-rule s table r n left b h calls =
+    let counted = b .counted in
+    drops-exactly 128 255 s table r n left b h
     (calls-weaken 128 255
     (λ h c under.
     let k : under .count ≡ n = cc (under .answered) in
-    inl (record { same-rows = rw (← k) (under .fit-on .on .same-rows); same-count = under .fit-on .on .same-count ∙ k })) h calls)
+    inl (record { same-rows = rw (b .left-is, ← k) (under .fit-on .on .same-rows); same-count = under .fit-on .on .same-count ∙ k })) h calls)
 
 pub no-calls-refused : NoCallsRefused
 no-calls-refused s table number place e h none = refl

@@ -21,6 +21,7 @@ use Rattle.synthesis.proofs.Tables.Synthesized.{building-enough, building-short
 use Rattle.synthesis.proofs.Tables.Equations.{refuses-too-many}
 use Rattle.enforcement.specs.Model.{Model, Finite, Satisfies}
 use Rattle.models.proofs.Verdicts.Acceptance.{satisfiable, refuses-unsatisfiable}
+use Rattle.demands.specs.Outcomes.{counting, Exactly}
 use Rattle.demands.specs.Refusals.{CountRefused, in-file, unsatisfiable as no-model, too-many, BuildRefused, short-table, in-rule}
 
 module _ (s : List ℕ) (bytes : Bytes s) where
@@ -64,7 +65,7 @@ module _ (s : List ℕ) (bytes : Bytes s) where
       let read = reading-accepts s bytes r .1 (w, is) in
       refuses-too-many 128 s r read (λ e. eight r read .0 e m finite satisfies) .1 over
 
-  pub count-refused : (number place : ℕ) → (countedOf (synthesisOf 128 s) ≡ Counted.Refused number place) ↔ CountRefused s number place
+  pub count-refused : Exactly (countedOf (counting s)) Counted.Refused (CountRefused s)
   count-refused number place = (count-found number place, count-refuses)
 
   -- ---- building
@@ -88,5 +89,5 @@ module _ (s : List ℕ) (bytes : Bytes s) where
     build-refuses (short-table short) = rw (building-short 128 s capacity short)
     build-refuses (in-rule long fault) = rw (building-enough 128 s capacity long) (count-refuses fault)
 
-    pub build-refused : (number place : ℕ) → (countedOf (buildingOf 128 s capacity) ≡ Counted.Refused number place) ↔ BuildRefused s capacity number place
+    pub build-refused : Exactly (countedOf (buildingOf 128 s capacity)) Counted.Refused (BuildRefused s capacity)
     build-refused number place = (build-found number place, build-refuses)

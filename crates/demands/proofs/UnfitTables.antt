@@ -2,7 +2,7 @@
 -- order, some byte of the rows isn't in range, and its place says which entry it is.
 use Prim.Native.Nat.{ℕ, _+_, _*_, _/_, _%_, _≤_, _<_}
 use mathlib.Core.Path.{_≡_, refl}
-use mathlib.Core.Logic.{_⊎_, inl, inr}
+use mathlib.Core.Logic.{inl, inr}
 use mathlib.Core.Bool.{Bool, true, false}
 use mathlib.Core.List.{List}
 use native.Mathlib.Decide.{decLt, decLe}
@@ -12,7 +12,9 @@ use lib.Dec.{eqb, ltb}
 use lib.ListN.{length, getD}
 use borrow.Author.Tests.{eqb-false, ltb-false}
 use Rattle.reading.proofs.Basics.Outcomes.{neither}
-use Rattle.running.specs.Running.{inRange, WellFormedTable}
+use Rattle.synthesis.specs.Table.{InRange, WellFormedTable}
+use Rattle.synthesis.proofs.Tables.WellFormedTables.{well-formed-room, well-formed-entry, well-formed-by-bytes}
+use Rattle.running.specs.Running.{inRange}
 use Rattle.running.specs.declared.State.{State}
 use Rattle.running.proofs.Tables.{in-range}
 use Rattle.models.proofs.Phones.BoundedTests.{every, every-fails, every-is}
@@ -27,10 +29,10 @@ module _ {table : List ℕ} {count : ℕ} {s : State} where
   unfit-not-well (no-equations none) (wf, under) = omega arith
   unfit-not-well (many-equations many) (wf, under) = omega (arith, wf .few)
   unfit-not-well (no-such-equation over) (wf, under) = omega arith
-  unfit-not-well (short-rows short) (wf, under) = omega (arith, wf .room)
-  unfit-not-well (bad-entry k c h b room over other) (wf, under) = on (wf .range k c h b)
+  unfit-not-well (short-rows short) (wf, under) = omega (arith, well-formed-room wf)
+  unfit-not-well (bad-entry k c h b room over other) (wf, under) = on (well-formed-entry wf k c h b)
     where
-      on : (getD table (256 * k + c) 0 ≡ 255) ⊎ (getD table (256 * k + c) 0 < count) → ⊥
+      on : InRange 255 count (getD table (256 * k + c) 0) → ⊥
       on (inl e) = other e
       on (inr less) = omega arith
 
@@ -48,10 +50,12 @@ module _ (table : List ℕ) (count : ℕ) (s : State) (bad : Fits table count s 
   rows-unfit : 1 ≤ count → count ≤ 128 → s .equation < count → 256 * count ≤ length table
       → (b : Bool) → every (256 * count) test ≡ b → Unfit table count s
   rows-unfit some few under room false q = let (i, h, e) = every-fails (256 * count) test q in entry-unfit room i h e
-  rows-unfit some few under room true q = absurd (bad (record { some = some; few = few; room = room; range = range }, under))
-    where
-      range : (k c : ℕ) → k < count → c < 256 → (getD table (256 * k + c) 0 ≡ 255) ⊎ (getD table (256 * k + c) 0 < count)
-      range k c h b = in-range 255 count (getD table (256 * k + c) 0) .0 (every-is (256 * count) test .0 q (256 * k + c) (omega arith))
+  rows-unfit some few under room true q =
+      absurd (bad (
+        well-formed-by-bytes 128 255 count table some few room
+            (λ i h. in-range 255 count (getD table i 0) .0 (every-is (256 * count) test .0 q i h)),
+        under,
+      ))
 
   pub found-unfit : Unfit table count s
   found-unfit = on (decLe 1 count) (decLe count 128) (decLt (s .equation) count) (decLe (256 * count) (length table))

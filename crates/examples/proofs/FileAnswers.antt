@@ -1,20 +1,20 @@
 -- What is said of a file, from what reading says of it; and the row of a rule whose equations are known.
 use Prim.Native.Nat.{ℕ, _≤_, _<_}
-use mathlib.Core.Path.{_≡_}
+use mathlib.Core.Path.{_≡_, refl}
 use mathlib.Core.Bool.{true, false}
 use mathlib.Core.List.{List}
 use native.Mathlib.Omega.{arith}
 use lib.ListN.{length, getD}
-use Rattle.reading.specs.Rule.{Rule}
+use Rattle.reading.specs.Rule.{Rule, Bytes}
 use Rattle.reading.specs.File.{accepted, refused, ruleOf}
 use Rattle.synthesis.specs.Answering.{answerOf, unsatisfiable}
 use Rattle.synthesis.specs.Monitor.{rowOf}
 use Rattle.synthesis.specs.Table.{entriesOf}
-use Rattle.synthesis.specs.Building.{equationsOf, synthesisOf, countedOf}
+use Rattle.synthesis.specs.Building.{equationsOf, withEquations, synthesisOf, countedOf, Builds}
 use Rattle.synthesis.specs.declared.Counted.{Counted}
 use Rattle.synthesis.specs.declared.Counted.the-variants.{Equations, Refused}
-use Rattle.synthesis.proofs.Tables.Rows.{filled-row}
-use Rattle.synthesis.proofs.Tables.Synthesized.{withEquations, accepts-with-equations, refuses-eight, building-enough}
+use Rattle.synthesis.proofs.Tables.FilledTables.{filled-row}
+use Rattle.synthesis.proofs.Tables.Synthesized.{accepts-with-equations, refuses-eight, building-enough}
 use Rattle.examples.specs.Examples.{tableLeft, Answers, Refuses, Reads}
 
 module _ (s : List ℕ) where
@@ -42,3 +42,9 @@ module _ (s : List ℕ) where
       row-left table room k h =
           rw (building-enough 128 s (length table) room, synthesis, equations)
           (filled-row 255 (answerOf r) l 256 table (omega arith) k h)
+
+-- a file that is read and counted builds
+pub reads-builds : (s : List ℕ) (r : Rule) (n : ℕ) → Reads s r (Equations n) → Bytes s → (table : List ℕ) → 32768 ≤ length table
+    → Builds 128 255 s table r n (tableLeft s table)
+reads-builds s r n file bytes table room =
+    record { below = omega arith; bytes = bytes; read = file .reading; counted = file .answers .building table room; left-is = refl }

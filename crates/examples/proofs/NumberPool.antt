@@ -11,14 +11,14 @@ use Rattle.synthesis.specs.Answering.{firstOf, answerOf, unsatisfiable}
 use Rattle.synthesis.specs.Search.{explored, found}
 use Rattle.synthesis.specs.Monitor.{rowOf}
 use Rattle.synthesis.specs.Table.{entriesOf}
-use Rattle.synthesis.specs.Building.{equationsOf}
+use Rattle.synthesis.specs.Building.{equationsOf, Builds}
 use Rattle.running.specs.Running.{start, Run, runFrom, runOf, occurrences}
 use Rattle.running.proofs.Refusals.{runs-on-tables}
 use Rattle.listing.specs.Text.{decimalIn, decimal}
 use Rattle.listing.specs.Lines.{rowLines, listing}
 use Rattle.examples.specs.Examples.{tableLeft, poolFile, poolRule, NumberPool, poolListing, PoolRows, PoolTable}
 use Rattle.examples.specs.Examples.{poolScans, poolRun, RunsPool, PoolScans}
-use Rattle.examples.proofs.FileAnswers.{reads, row-left}
+use Rattle.examples.proofs.FileAnswers.{reads, row-left, reads-builds}
 use Rattle.examples.proofs.RunAnswers.{run-left}
 
 -- ---- its equations
@@ -48,6 +48,9 @@ number-pool = record {
 
 -- ---- its table
 
+pub pool-builds : (table : List ℕ) → 32768 ≤ length table → Builds 128 255 poolFile table poolRule 3 (tableLeft poolFile table)
+pool-builds = reads-builds poolFile poolRule 3 (number-pool .file) (search arith)
+
 pool-rows : (table : List ℕ) → 32768 ≤ length table → PoolRows (tableLeft poolFile table)
 unfolding entriesOf answerOf bit covers
 pool-rows table room = record { row-0 = row 0 (omega arith); row-1 = row 1 (omega arith); row-2 = row 2 (omega arith) }
@@ -71,12 +74,12 @@ pool-followed table rows = rw (rows .row-0, rows .row-2, rows .row-0, rows .row-
 
 runs-pool : (outcome : Outcome Run) → outcome ≡ accepted poolRun → RunsPool outcome
 unfolding occurrences
-runs-pool outcome e = record { accepts = e; ran = rw e; output = λ bytes. rw e; verdicts = λ bytes. rw e }
+runs-pool outcome e = record { accepts = e; handed-back = rw e; output = λ bytes. rw e; verdicts = λ bytes. rw e }
 
 pub pool-scans : (table : List ℕ) → 32768 ≤ length table → PoolScans (tableLeft poolFile table)
 pool-scans table room = record {
   enough = λ output verdicts h k. runs-pool (runOf 128 255 (tableLeft poolFile table) 3 start poolScans output verdicts)
-      (run-left poolFile poolRule 3 (number-pool .file) table room poolScans poolRun followed-so output verdicts h k);
+      (run-left (pool-builds table room) poolScans poolRun followed-so output verdicts h k);
   short = λ output verdicts. runs-on-tables 128 255 (tableLeft poolFile table) 3 start poolScans output verdicts .short .1;
 }
   where

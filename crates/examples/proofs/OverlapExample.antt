@@ -16,7 +16,7 @@ use Rattle.listing.specs.Text.{decimalIn, decimal}
 use Rattle.examples.specs.Examples.{tableLeft}
 use Rattle.examples.specs.NumberingExamples.{Numbers}
 use Rattle.examples.specs.OverlapExample.{overlapFile, overlapRule, overlapSets, overlapListing, overlapScans, overlapRun, OverlapExample}
-use Rattle.examples.proofs.FileAnswers.{row-left}
+use Rattle.examples.proofs.FileAnswers.{row-left, reads-builds}
 use Rattle.examples.proofs.Listed.{numbers}
 use Rattle.examples.proofs.RunAnswers.{run-left}
 
@@ -50,5 +50,6 @@ pub overlap-example : OverlapExample
 overlap-example = record {
   numbers = overlap-numbers;
   run = λ table room.
-      run-left overlapFile overlapRule 3 (overlap-numbers .file) table room overlapScans overlapRun (overlap-followed table room);
+      run-left (reads-builds overlapFile overlapRule 3 (overlap-numbers .file) (search arith) table room) overlapScans overlapRun
+      (overlap-followed table room);
 }

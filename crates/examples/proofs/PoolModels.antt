@@ -25,7 +25,7 @@ use Rattle.models.proofs.Verdicts.JudgingLaws.{judging-case}
 use Rattle.examples.specs.Examples.{tableLeft, poolFile, poolRule}
 use Rattle.examples.specs.ModelExamples.{behind, JudgesPool, breakingFile, breakingPhone, Breaking}
 use Rattle.examples.specs.ModelExamples.{meetingFile, meetingPhone, Meeting, ModelExamples}
-use Rattle.examples.proofs.NumberPool.{number-pool, pool-table}
+use Rattle.examples.proofs.NumberPool.{pool-builds, pool-table}
 use Rattle.examples.proofs.PhoneSteps.{step-at, every-step}
 use Rattle.examples.proofs.DrawnModel.{drawn-bisimilar}
 use Rattle.examples.proofs.Shortening.{shortening}
@@ -37,13 +37,11 @@ module _ (f : List ℕ) (y : Phone) (read : phoneOf f ≡ accepted y) where
   pool-enforces : Bytes f → (table : List ℕ) → 32768 ≤ length table
       → Enforces poolRule (suppressing (lookup 256 255 (tableLeft poolFile table))) 0 (modelOf y)
   pool-enforces bytes table room =
-      tables-enforce 128 255 poolFile table f poolRule 3 y (omega arith) (search arith) bytes (number-pool .file .reading)
-      (number-pool .file .answers .building table room) read .0
+      tables-enforce 128 255 poolFile table poolRule 3 (tableLeft poolFile table) (pool-builds table room) f y bytes read .0
 
   pool-judging : (table : List ℕ) → 32768 ≤ length table
       → judgingOf 128 poolFile (length table) f ≡ accepted (record { rule = poolRule; phone = y })
-  pool-judging table room =
-      judging-case 128 poolFile f (length table) poolRule 3 y (number-pool .file .reading) (number-pool .file .answers .building table room) read
+  pool-judging table room = judging-case (pool-builds table room) f y read
 
   judges-met : SatisfiesDecided (modelOf y) poolRule → JudgesPool f Meets
   judges-met sat table room r = rw (pool-judging table room) (on, λ e. inl (e, sat))

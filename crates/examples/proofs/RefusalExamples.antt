@@ -3,21 +3,20 @@ use Prim.Native.Nat.{ℕ}
 use mathlib.Core.Path.{_≡_, refl}
 use mathlib.Core.List.{List, [], _∷_}
 use native.Mathlib.Omega.{arith}
-use lib.ListN.{length}
 use Rattle.reading.specs.Pattern.{bit, covers}
 use Rattle.reading.specs.Rule.{necessity, max, variable, Rule}
 use Rattle.reading.specs.File.{refused, patternsAt, formulaAt, formulaOf, ruleOf}
 use Rattle.synthesis.specs.Answering.{firstOf, answerOf, unsatisfiable}
 use Rattle.synthesis.specs.Search.{explored, found}
-use Rattle.synthesis.specs.Building.{equationsOf, buildingOf}
+use Rattle.synthesis.specs.Building.{equationsOf}
 use Rattle.synthesis.specs.declared.Counted.the-variants.{Equations}
-use Rattle.synthesis.proofs.Tables.Synthesized.{counted-accepts}
+use Rattle.synthesis.proofs.Tables.Built.{builds-outcome}
 use Rattle.models.specs.Phone.{statesOf, stepsAt, phoneOf}
 use Rattle.models.specs.Judging.{judgingOf}
-use Rattle.examples.specs.Examples.{pattern, rule, Reads, poolFile}
+use Rattle.examples.specs.Examples.{pattern, rule, Reads}
 use Rattle.examples.specs.RefusalExamples.{times, RuleRefusals, RefusesModel, ModelRefusals, RefusalExamples}
 use Rattle.examples.proofs.FileAnswers.{refuses, reads}
-use Rattle.examples.proofs.NumberPool.{number-pool}
+use Rattle.examples.proofs.NumberPool.{pool-builds}
 use Rattle.examples.proofs.FullModel.{step-513, silent-513, kind-19-late}
 
 below-both : Rule
@@ -75,9 +74,7 @@ refuses-model : (f : List ℕ) (number place : ℕ) → phoneOf f ≡ refused nu
 unfolding judgingOf
 refuses-model f number place read = record {
   reading = read;
-  judged = λ table room r.
-      let (z, built, long) = counted-accepts (buildingOf 128 poolFile (length table)) 3 (number-pool .file .answers .building table room) in
-      rw (built, read) (λ e. e, λ e. e);
+  judged = λ table room r. rw (builds-outcome (pool-builds table room), read) (λ e. e, λ e. e);
 }
 
 model-refusals : ModelRefusals

@@ -15,7 +15,7 @@ use Rattle.synthesis.specs.Monitor.{rowOf}
 use Rattle.synthesis.specs.Building.{synthesisOf, buildingOf, countedOf, tableAfter}
 use Rattle.synthesis.specs.declared.Counted.{Counted}
 use Rattle.synthesis.specs.declared.Counted.the-variants.{Equations, Refused}
-use Rattle.running.specs.Running.{start, Run, runOf, checkedOf, resultOf, outputAfter, verdictsAfter}
+use Rattle.running.specs.Running.{start, moved, Run, runOf, checkedOf, resultOf, outputAfter, verdictsAfter}
 use Rattle.running.specs.declared.Checked.the-variants.{Fit, Refused as Unfit}
 use Rattle.listing.specs.Text.{text, decimal}
 use Rattle.listing.specs.Lines.{refusalLine, judgmentLine, listing}
@@ -167,7 +167,7 @@ poolScans = 37 ∷ 5 ∷ 128 ∷ 5 ∷ 37 ∷ 5 ∷ []
 
 abbrev pub poolRun : Run
 poolRun = record {
-  state = record { equation = 1 };
+  state = moved start 1;
   kept = 37 ∷ 128 ∷ 5 ∷ 37 ∷ 5 ∷ [];
   verdicts = 0 ∷ 1 ∷ 0 ∷ 0 ∷ 0 ∷ 0 ∷ [];
 }
@@ -175,7 +175,7 @@ poolRun = record {
 -- The outcome is this run: what it hands back, and what it leaves in an output and in verdicts.
 pub record RunsPool (outcome : Outcome Run) : Type 0 where
   pub accepts : outcome ≡ accepted poolRun
-  pub ran : resultOf start outcome ≡ record { checked = Fit; state = record { equation = 1 }; kept = 5; dropped = 1 }
+  pub handed-back : resultOf start outcome ≡ record { checked = Fit; state = moved start 1; kept = 5; dropped = 1 }
   pub output : (bytes : List ℕ) → outputAfter outcome bytes ≡ 37 ∷ 128 ∷ 5 ∷ 37 ∷ 5 ∷ drop 5 bytes
   pub verdicts : (bytes : List ℕ) → verdictsAfter outcome bytes ≡ 0 ∷ 1 ∷ 0 ∷ 0 ∷ 0 ∷ 0 ∷ drop 6 bytes
 

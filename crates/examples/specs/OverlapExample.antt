@@ -9,7 +9,7 @@ use mathlib.Core.List.{List, [], _∷_, _++_}
 use lib.ListN.{length}
 use Rattle.reading.specs.Rule.{falsity, both, necessity, max, variable, Rule}
 use Rattle.reading.specs.File.{accepted}
-use Rattle.running.specs.Running.{start, Run, runOf}
+use Rattle.running.specs.Running.{start, moved, Run, runOf}
 use Rattle.listing.specs.Text.{text}
 use Rattle.examples.specs.Examples.{pattern, rule, tableLeft}
 use Rattle.examples.specs.NumberingExamples.{Numbers}
@@ -48,7 +48,7 @@ overlapScans = 5 ∷ 5 ∷ 101 ∷ 5 ∷ 5 ∷ 101 ∷ 101 ∷ 5 ∷ 5 ∷ []
 
 abbrev pub overlapRun : Run
 overlapRun = record {
-  state = record { equation = 1 };
+  state = moved start 1;
   kept = 5 ∷ 101 ∷ 5 ∷ 101 ∷ 101 ∷ 5 ∷ 5 ∷ [];
   verdicts = 0 ∷ 1 ∷ 0 ∷ 0 ∷ 1 ∷ 0 ∷ 0 ∷ 0 ∷ 0 ∷ [];
 }

@@ -10,9 +10,10 @@ use Rattle.reading.specs.File.{accepted, refused}
 use Rattle.reading.proofs.Basics.ByteLaws.{bytes-append}
 use Rattle.reading.proofs.Basics.Outcomes.{never-accepted}
 use Rattle.synthesis.specs.Monitor.{kept, verdicts, ended}
+use Rattle.synthesis.specs.Table.{WellFormedTable}
 use Rattle.synthesis.proofs.Monitors.Renaming.{Renames, renamed-runs}
 use Rattle.synthesis.proofs.Monitors.Runs.{kept-append, verdicts-append, ended-append, verdicts-length}
-use Rattle.running.specs.Running.{start, answerIn, WellFormedTable, Run, runFrom}
+use Rattle.running.specs.Running.{start, answerIn, Run, runFrom}
 use Rattle.running.specs.Calls.{Call, History, noCalls, outcomeOf, withOutcome, withCall, Calls, none, call, OnTable, OnTableOrRefused}
 use Rattle.running.specs.declared.State.{State}
 use Rattle.running.proofs.RunCases.{run-cases}
@@ -45,7 +46,7 @@ with-fit mark h c =
 -- What holds before the first call, and after each run that may be made, holds after any number of calls.
 pub calls-induction : (limit mark : ℕ) (May : History → Call → Type 0) (P : History → Type 0) → P noCalls
     → ((h : History) (c : Call) → P h → Bytes (c .scans) → May h c
-    → outcomeOf limit mark h c ≡ accepted (runFrom mark (c .table) (h .state) (c .scans)) → P (withRun mark h c))
+    → outcomeOf limit mark (h .state) c ≡ accepted (runFrom mark (c .table) (h .state) (c .scans)) → P (withRun mark h c))
     → (h : History) → Calls limit mark May h → P h
 calls-induction limit mark May P first more h none = first
 calls-induction limit mark May P first more h (call before c calls bytes may) =
@@ -54,7 +55,7 @@ calls-induction limit mark May P first more h (call before c calls bytes may) =
     step : P before → P (withCall limit mark before c)
     step p =
         run-cases limit mark (c .table) (c .count) (before .state) (c .scans) (length (c .output)) (length (c .verdicts))
-        (λ o. outcomeOf limit mark before c ≡ o → P (withOutcome before c o))
+        (λ o. outcomeOf limit mark (before .state) c ≡ o → P (withOutcome before c o))
         (λ r e. subst P (sym (with-refused before c 15 0)) p)
         (λ r f e. subst P (sym (with-refused before c 16 0)) p)
         (λ r f e. subst P (sym (with-fit mark before c)) (more before c p bytes may e))
@@ -83,8 +84,8 @@ module _ (limit mark count : ℕ) (table : List ℕ) (wf : WellFormedTable limit
       → Renames 256 (λ s. s .equation < count) (answerIn mark table) (answerIn mark t) (λ s. s)
   renames t same = record {
     stays = λ s s′ c inside b q. next-inside limit mark count table wf s s′ c inside q;
-    drops = λ s c inside b q. same-answer-in limit mark count table wf t same s c inside b ∙ q;
-    follows = λ s s′ c inside b q. same-answer-in limit mark count table wf t same s c inside b ∙ q;
+    drops = λ s c inside b q. same-answer-in wf t same s c inside ∙ q;
+    follows = λ s s′ c inside b q. same-answer-in wf t same s c inside ∙ q;
   }
 
   one-more : (h : History) (c : Call) → OneRun mark table count h → Bytes (c .scans) → OnTable table count c
@@ -110,7 +111,7 @@ module _ (limit mark count : ℕ) (table : List ℕ) (wf : WellFormedTable limit
       (record { bytes = tt; state = refl; kept = refl; verdicts = refl; inside = wf .some })
       (λ h c before bytes may e. one-more h c before bytes (taken h c may e))
     where
-      taken : (h : History) (c : Call) {y : Run} → OnTableOrRefused limit mark table count h c → outcomeOf limit mark h c ≡ accepted y
+      taken : (h : History) (c : Call) {y : Run} → OnTableOrRefused limit mark table count h c → outcomeOf limit mark (h .state) c ≡ accepted y
           → OnTable table count c
       taken h c (inl on) e = on
       taken h c (inr refusal) e = absurd (never-accepted (sym (refusal .2) ∙ e))

@@ -23,7 +23,7 @@ followed-together mark table s v w =
     let e = ended F s v in
     record {
       checked = refl;
-      ran = rw (
+      handed-back = rw (
         ended-append F s v w,
         kept-append F s v w,
         verdicts-append F s v w,
@@ -56,4 +56,4 @@ two-calls limit mark table count s v w o₁ v₁ o₂ v₂ o₃ v₃ r₁ r₂ r
           run-unfit limit mark table count s w o₂ v₂ r₂ f,
           run-unfit limit mark table count s (v ++ w) o₃ v₃ r₃ f,
         )
-        (record { checked = refl; ran = refl; kept = refl; verdicts = refl })
+        (record { checked = refl; handed-back = refl; kept = refl; verdicts = refl })

@@ -9,7 +9,8 @@ use lib.Dec.{leb}
 use lib.ListN.{length}
 use borrow.Author.Tests.{leb-true, leb-false, le-leb, lt-leb}
 use Rattle.reading.specs.File.{refused}
-use Rattle.running.specs.Running.{WellFormedTable, hasRoom, fits, runOf, checkedOf}
+use Rattle.synthesis.specs.Table.{WellFormedTable}
+use Rattle.running.specs.Running.{hasRoom, fits, runOf, checkedOf}
 use Rattle.running.specs.Promises.{RunsOnTables}
 use Rattle.running.specs.declared.Checked.the-variants.{Refused}
 use Rattle.running.proofs.RunCases.{run-short, run-unfit, run-fit, run-cases}

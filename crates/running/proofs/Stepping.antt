@@ -11,7 +11,7 @@ use lib.ListN.{length, getD, take, set, length-append, length-set}
 use lib.Seq.{take-all, take-suc, length-take-le, set-getD}
 use Rattle.synthesis.specs.Monitor.{dropped, next, kept, verdicts, ended, rowOf}
 use Rattle.synthesis.proofs.Monitors.Runs.{kept-last, ended-last, verdicts-last, kept-drop, ended-drop, verdicts-drop, verdicts-length}
-use Rattle.running.specs.Running.{answerIn, runFrom, overlay}
+use Rattle.running.specs.Running.{start, moved, answerIn, runFrom, overlay}
 use Rattle.running.specs.declared.State.{State}
 use Rattle.running.proofs.Overlays.{overlay-set}
 
@@ -19,7 +19,7 @@ use Rattle.running.proofs.Overlays.{overlay-set}
 
 -- what the table answers, from the entry
 answers : (mark : ℕ) (table : List ℕ) (s : State) (c entry : ℕ) → entry ≡ getD (rowOf 256 table (s .equation)) c mark → (b : Bool)
-    → eqb entry mark ≡ b → answerIn mark table s c ≡ cond b dropped (next (record { equation = entry }))
+    → eqb entry mark ≡ b → answerIn mark table s c ≡ cond b dropped (next (moved s entry))
 answers mark table s c entry h true q = rw (← h, q)
 answers mark table s c entry h false q = rw (← h, q)
 
@@ -45,7 +45,7 @@ module _ (mark : ℕ) (table : List ℕ) (s : State) (output₀ judged₀ : List
     module _ (entry : ℕ) (is : entry ≡ getD (rowOf 256 table (from / 256)) c mark) where
       -- the table's answer where the run stands
       answer-is : (b : Bool) → eqb entry mark ≡ b
-          → answerIn mark table (ended (answerIn mark table) s w) c ≡ cond b dropped (next (record { equation = entry }))
+          → answerIn mark table (ended (answerIn mark table) s w) c ≡ cond b dropped (next (moved (ended (answerIn mark table) s w) entry))
       answer-is =
           let k = ended (answerIn mark table) s w .equation in
           let e : from / 256 ≡ k = rw (h .from-is) (mul-div-right k (omega arith)) in
@@ -115,11 +115,15 @@ module _ (mark : ℕ) (table : List ℕ) (s : State) (output₀ judged₀ : List
 
 -- ---- where the loop begins and ends
 
+-- the state of a run that stands where a row begins
+abbrev pub stateAt : (from : ℕ) → State
+stateAt from = moved start (from / 256)
+
 -- what the function hands back after all scans
 abbrev Ends : (mark : ℕ) → (table : List ℕ) → State → (output₀ judged₀ scans output judged : List ℕ) → (from keeps : ℕ) → Type 0
 Ends mark table s output₀ judged₀ scans output judged from keeps =
     let run = runFrom mark table s scans in
-    (_≡_ {A = State} (record { equation = from / 256 }) (run .state))
+    (stateAt from ≡ run .state)
     × ((keeps ≡ length (run .kept)) × ((output ≡ overlay (run .kept) output₀) × (judged ≡ overlay (run .verdicts) judged₀)))
 
 module _ (mark : ℕ) (table : List ℕ) (s : State) (output₀ judged₀ scans : List ℕ) where
@@ -128,7 +132,7 @@ module _ (mark : ℕ) (table : List ℕ) (s : State) (output₀ judged₀ scans 
   row-begin = mul-div-right (s .equation) (omega arith)
 
   pub begins : s .equation < 256
-      → After mark table (record { equation = 256 * s .equation / 256 }) output₀ judged₀ scans output₀ judged₀ (256 * s .equation) 0 0
+      → After mark table (stateAt (256 * s .equation)) output₀ judged₀ scans output₀ judged₀ (256 * s .equation) 0 0
   begins r = record {
     inside = omega arith;
     few = omega arith;
@@ -139,10 +143,10 @@ module _ (mark : ℕ) (table : List ℕ) (s : State) (output₀ judged₀ scans 
   }
 
   pub ends : (output judged : List ℕ) (from keeps i : ℕ)
-      → After mark table (record { equation = 256 * s .equation / 256 }) output₀ judged₀ scans output judged from keeps i → length scans ≤ i
+      → After mark table (stateAt (256 * s .equation)) output₀ judged₀ scans output judged from keeps i → length scans ≤ i
       → Ends mark table s output₀ judged₀ scans output judged from keeps
   ends output judged from keeps i h r =
       let all = take-all i scans r in
       let e = rw (row-begin, all) at (h .has) in
       let row : from / 256 ≡ ended (answerIn mark table) s scans .equation = rw (e .from-is) (mul-div-right _ (omega arith)) in
-      (ap (λ (n : ℕ). record { equation = n }) row, (e .keeps-is, (e .output-is, e .judged-is)))
+      (ap (moved start) row, (e .keeps-is, (e .output-is, e .judged-is)))

@@ -9,7 +9,7 @@ use native.Mathlib.Omega.{arith}
 use lib.ListN.{getD, replicate}
 use Rattle.reading.proofs.Numbering.NumberedLaws.{repeated-at}
 use Rattle.synthesis.specs.Monitor.{lookup}
-use Rattle.running.specs.Running.{WellFormedTable}
+use Rattle.synthesis.specs.Table.{WellFormedTable}
 use Rattle.enforcement.specs.Model.{Label}
 use Rattle.models.specs.Phone.{Phone, noStep, labelOf, StepIn, modelOf, WellFormedStep}
 use Rattle.models.specs.Exploring.{PairReached, begin, silently, keeping, NeverDrops}
@@ -18,7 +18,7 @@ use Rattle.models.specs.Searching.{OfPhone, rowAt, NumberReached, Comple
 use Rattle.models.specs.declared.Step.{Step}
 use Rattle.models.specs.declared.links.Links.{Links}
 use Rattle.models.proofs.Pairs.Chains.{no-chain, step-of, of-step}
-use Rattle.models.proofs.Pairs.Leading.{leads-inside, row-in-range, stepsTo, stays, follows, is-dropped, reached-on, drops-one}
+use Rattle.models.proofs.Pairs.Leading.{leads-inside, stepsTo, stays, follows, is-dropped, reached-on, drops-one}
 
 module _ (steps : List Step) (l : Links) (table : List ℕ) (steps-range : (i : ℕ) → WellFormedStep 64 (getD steps i noStep)) where
   -- a step that goes from a pair is one of the phone model
@@ -39,7 +39,7 @@ module _ (steps : List Step) (l : Links) (table : List ℕ) (steps-range : (i : 
     next-inside count wf inside p h =
         rw (leads-to p h .1)
         (leads-inside (rowAt table pair) (pair / 64) (getD steps (h .step) noStep .label) count
-        (row-in-range 128 count table wf (pair / 64) inside count (omega arith)) inside (steps-range (h .step) .label) (h .kept))
+        (wf .row (pair / 64) inside) inside (steps-range (h .step) .label) (h .kept))
 
     next-reached : (y : Phone) → OfPhone steps l y → NumberReached table y pair
         → (p : ℕ) → LeadsOn steps l (rowAt table pair) pair p → NumberReached table y p

@@ -13,7 +13,7 @@ use Rattle.synthesis.specs.Plans.{Fills, CanFill, IsPlan}
 use Rattle.synthesis.specs.declared.Counted.{Counted}
 use Rattle.synthesis.specs.declared.Counted.the-variants.{Equations, Refused}
 use Rattle.synthesis.specs.declared.Plan.{Plan}
-use Rattle.synthesis.proofs.Tables.Rows.{filled-cong}
+use Rattle.synthesis.proofs.Tables.FilledTables.{filled-cong}
 use Rattle.synthesis.proofs.Tables.Synthesized.{building-enough, building-short}
 use Rattle.synthesis.proofs.Functions.GraphLaws.{graph-answers}
 

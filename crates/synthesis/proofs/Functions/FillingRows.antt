@@ -9,7 +9,7 @@ use lib.Seq.{length-front, length-take-le, drop-cons, drop-drop, set-at, take-at
 use borrow.Rule.Slice.PartMut.{putMid}
 use Rattle.synthesis.specs.Monitor.{Answer}
 use Rattle.synthesis.specs.Table.{entryOf, entriesOf, rows, filled}
-use Rattle.synthesis.proofs.Tables.Rows.{entries-length, rows-length}
+use Rattle.synthesis.proofs.Tables.FilledTables.{entries-length, rows-length}
 
 -- ---- a list d whose first n elements are overwritten by p
 

@@ -18,7 +18,7 @@ use Rattle.synthesis.specs.Opening.{Opens, falsity-itself, necessity-its
 use Rattle.synthesis.specs.Opening.{IsFalsity, Leads, leads, Answers}
 use Rattle.synthesis.specs.Answering.{firstOf, answerOf, unsatisfiable}
 use Rattle.synthesis.specs.Search.{indexOf, found}
-use Rattle.synthesis.specs.Building.{equationsOf, Synthesis, synthesisOf, countedOf}
+use Rattle.synthesis.specs.Building.{equationsOf, Synthesis, withEquations, synthesisOf, countedOf}
 use Rattle.synthesis.specs.Promises.{WellFormedFormula, Counts, AnswersCount, ChecksTable, Closed, RefusesTooMany, Reachable, ReachesEquations}
 use Rattle.synthesis.specs.declared.Counted.the-variants.{Refused}
 use Rattle.synthesis.proofs.Numberings.Indices.{Member, index-is, index-first, member-at, Distinct, distinct-indices, distinct-fits}
@@ -27,7 +27,7 @@ use Rattle.synthesis.proofs.Numberings.Finding.{found-first, found-dist
 use Rattle.synthesis.proofs.Unfolding.AnsweringLaws.{answers-as-defined}
 use Rattle.synthesis.proofs.Unfolding.EquationLaws.{tracks-violation}
 use Rattle.synthesis.proofs.Monitors.RuleMonitor.{unsatisfiable-iff}
-use Rattle.synthesis.proofs.Tables.Synthesized.{withEquations, synthesis-accepts, building-short, building-enough, refused-nine, refuses-eight, refuses-nine}
+use Rattle.synthesis.proofs.Tables.Synthesized.{synthesis-accepts, building-short, building-enough, refused-nine, refuses-eight, refuses-nine}
 use Rattle.synthesis.proofs.Tables.Synthesized.{counted-accepts, counted-refuses, accepts-as}
 
 -- a file that is read is a rule with a well-formed formula

@@ -11,12 +11,8 @@ use Rattle.reading.specs.Rule.{Rule}
 use Rattle.reading.specs.File.{Outcome, accepted, refused, refuse, ruleOf}
 use Rattle.reading.proofs.Basics.Outcomes.{accepted-is, passes, accepted-by}
 use Rattle.synthesis.specs.Answering.{unsatisfiable}
-use Rattle.synthesis.specs.Building.{equationsOf, Synthesis, synthesisOfRule, synthesisOf, buildingOf, countedOf}
+use Rattle.synthesis.specs.Building.{equationsOf, Synthesis, withEquations, synthesisOfRule, synthesisOf, buildingOf, countedOf}
 use Rattle.synthesis.specs.declared.Counted.the-variants.{Equations, Refused}
-
--- the synthesis of a rule that is accepted
-abbrev pub withEquations : (limit : ℕ) → Rule → Synthesis
-withEquations limit r = record { rule = r; equations = equationsOf limit r }
 
 -- What holds of the synthesis of each rule that no check refuses, holds of what is accepted.
 pub synthesis-accepts : (limit : ℕ) (s : List ℕ) (P : Synthesis → Type 0)

@@ -12,7 +12,7 @@ use Rattle.synthesis.specs.Search.{indexOf}
 use Rattle.synthesis.specs.Table.{entryOf, filled}
 use Rattle.synthesis.proofs.Numberings.Indices.{Member, index-is}
 use Rattle.synthesis.proofs.Numberings.Finding.{ClosedUnder}
-use Rattle.synthesis.proofs.Tables.Rows.{filled-entry}
+use Rattle.synthesis.proofs.Tables.FilledTables.{filled-entry}
 
 module _ (codes mark : ℕ) (answer : ℕ → ℕ → Answer ℕ) (l : List ℕ) (closed : ClosedUnder codes answer l) (table : List ℕ)
     (room : codes * length l ≤ length table) where

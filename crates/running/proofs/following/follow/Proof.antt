@@ -1,15 +1,15 @@
 -- `following::follow` meets its contract. What the loop has is right for the scans so far; the measure is how many are left.
-use Prim.Native.Nat.{_-_, _/_}
+use Prim.Native.Nat.{_-_}
 use native.Mathlib.Omega.{arith}
 use borrow.Author.Needs.{needs}
 use lib.ListN.{length}
-use Rattle.running.proofs.Stepping.{After, one-more, begins, ends}
+use Rattle.running.proofs.Stepping.{After, one-more, stateAt, begins, ends}
 use Rattle.running.proofs.following.follow.Statement.{statement}
 use Rattle.running.proofs.following.follow.Tie as tie
 
 abbrev Inv-loop : tie.InvT-loop
 Inv-loop table scans output₀ verdicts₀ from₀ kept₀ i₀ output verdicts from kept i =
-    After 255 table (record { equation = from₀ / 256 }) output₀ verdicts₀ scans output verdicts from kept i
+    After 255 table (stateAt from₀) output₀ verdicts₀ scans output verdicts from kept i
 
 abbrev μ-loop : tie.MeasureT-loop
 μ-loop table scans output₀ verdicts₀ from₀ kept₀ i₀ output verdicts from kept i = length scans - i
