@@ -26,8 +26,10 @@ use Rattle.demands.specs.Outcomes.{running}
 use Rattle.demands.specs.Refusals.{RunRefused, short-buffer, unfit}
 use Rattle.demands.specs.Demands.{DemandOne, DemandTwo, DemandThree}
 use Rattle.demands.proofs.Refused.{count-refused, build-refused}
-use Rattle.demands.proofs.UnfitTables.{unfit-not-well}
+use Rattle.demands.proofs.UnfitTables.{unfit-not-fit}
 use Rattle.demands.proofs.RefusedCalls.{run-refused, run-fit, judge-refused}
+
+-- ---- demand 1
 
 pub demand-one : DemandOne
 demand-one = record {
@@ -51,6 +53,8 @@ demand-one = record {
   };
 }
 
+-- ---- demand 2
+
 -- a call with room for its scans on the table that building leaves
 module _ (s table : List ℕ) (r : Rule) (n : ℕ) (left : List ℕ) (b : Builds 128 255 s table r n left) (h : History)
     (calls : Calls 128 255 (OnTableOrRefused 128 255 left n) h) (c : Call) (on : OnTable left n c)
@@ -61,7 +65,7 @@ module _ (s table : List ℕ) (r : Rule) (n : ℕ) (left : List ℕ) (b : Builds
   call-unrefused number place (unfit a a′ bad) =
       never-unfit 128 255 s table r n left b h calls c on
       (runs-on-tables 128 255 (c .table) (c .count) (h .state) (c .scans) (length (c .output)) (length (c .verdicts)) .unfit .1
-      (a, a′, unfit-not-well bad))
+      (a, a′, unfit-not-fit bad))
 
   call-taken : resultOf (h .state) (running (h .state) c) .checked ≡ Checked.Fit
   call-taken = run-fit (h .state) c call-unrefused
@@ -76,6 +80,8 @@ demand-two = record {
   accepts = accepts-exactly 128;
   judges = judging.judges-exactly 128 255;
 }
+
+-- ---- demand 3
 
 pub demand-three : DemandThree
 demand-three = record { enforces = tables-enforce 128 255 }

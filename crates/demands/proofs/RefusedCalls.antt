@@ -26,39 +26,39 @@ use Rattle.models.proofs.Files.FileFaults.{model-refused, refuses-at-the-fault}
 use Rattle.demands.specs.Outcomes.{building, running, judging, Exactly}
 use Rattle.demands.specs.Refusals.{RunRefused, short-buffer, unfit, JudgeRefused, in-building, in-model}
 use Rattle.demands.proofs.Refused.{build-refused}
-use Rattle.demands.proofs.UnfitTables.{unfit-not-well, found-unfit}
+use Rattle.demands.proofs.UnfitTables.{unfit-not-fit, not-fit-unfit}
 
 -- ---- running
 
-checked-alike : (s : State) (o : Outcome Run) → resultOf s o .checked ≡ checkedOf o
-checked-alike s (accepted y) = refl
-checked-alike s (refused number place) = refl
+result-checked : (s : State) (o : Outcome Run) → resultOf s o .checked ≡ checkedOf o
+result-checked s (accepted y) = refl
+result-checked s (refused number place) = refl
 
 checked-refuses : (o : Outcome Run) (number place : ℕ) → checkedOf o ≡ Checked.Refused number place → o ≡ refused number place
 checked-refuses (accepted y) number place e = let z : _≡_ {A = ℕ} 0 1 = cc in absurd (omega arith)
 checked-refuses (refused m at) number place e = cc
 
 module _ (s : State) (c : Call) where
-  runs : RunsOn 128 255 (c .table) (c .count) s (c .scans) (length (c .output)) (length (c .verdicts))
-  runs = runs-on-tables 128 255 (c .table) (c .count) s (c .scans) (length (c .output)) (length (c .verdicts))
+  run-on-table : RunsOn 128 255 (c .table) (c .count) s (c .scans) (length (c .output)) (length (c .verdicts))
+  run-on-table = runs-on-tables 128 255 (c .table) (c .count) s (c .scans) (length (c .output)) (length (c .verdicts))
 
-  run-found : (number place : ℕ) → checkedOf (running s c) ≡ Checked.Refused number place → RunRefused s c number place
+  run-refusal-clause : (number place : ℕ) → checkedOf (running s c) ≡ Checked.Refused number place → RunRefused s c number place
   unfolding runOf
-  run-found number place e =
+  run-refusal-clause number place e =
       found (RunRefused s c) (not (hasRoom (c .scans) (length (c .output)) (length (c .verdicts)))) 15 0 _
       (checked-refuses (running s c) number place e)
-      (λ t. short-buffer (runs .short .0 (rw t)))
+      (λ t. short-buffer (run-on-table .short .0 (rw t)))
       (λ f e′.
       found (RunRefused s c) (not (fits 128 255 (c .table) (c .count) s)) 16 0 _ e′
-      (λ t. let (room, room′, bad) = runs .unfit .0 (rw (f, t)) in unfit room room′ (found-unfit (c .table) (c .count) s bad))
+      (λ t. let (room, room′, bad) = run-on-table .unfit .0 (rw (f, t)) in unfit room room′ (not-fit-unfit (c .table) (c .count) s bad))
       (λ f′ e″. absurd (never-refused e″)))
 
-  run-refuses : {number place : ℕ} → RunRefused s c number place → checkedOf (running s c) ≡ Checked.Refused number place
-  run-refuses (short-buffer short) = runs .short .1 short
-  run-refuses (unfit room room′ bad) = runs .unfit .1 (room, room′, unfit-not-well bad)
+  run-clause-refuses : {number place : ℕ} → RunRefused s c number place → checkedOf (running s c) ≡ Checked.Refused number place
+  run-clause-refuses (short-buffer short) = run-on-table .short .1 short
+  run-clause-refuses (unfit room room′ bad) = run-on-table .unfit .1 (room, room′, unfit-not-fit bad)
 
   pub run-refused : Exactly (resultOf s (running s c) .checked) Checked.Refused (RunRefused s c)
-  run-refused number place = rw (checked-alike s (running s c)) (run-found number place, run-refuses)
+  run-refused number place = rw (result-checked s (running s c)) (run-refusal-clause number place, run-clause-refuses)
 
   -- where no clause holds, the run isn't refused
   pub run-fit : ((number place : ℕ) → RunRefused s c number place → ⊥) → resultOf s (running s c) .checked ≡ Checked.Fit
@@ -66,7 +66,7 @@ module _ (s : State) (c : Call) where
     where
       on : (o : Outcome Run) → running s c ≡ o → resultOf s o .checked ≡ Checked.Fit
       on (accepted y) e = refl
-      on (refused number place) e = absurd (none number place (run-found number place (ap checkedOf e)))
+      on (refused number place) e = absurd (none number place (run-refusal-clause number place (ap checkedOf e)))
 
 -- ---- judging
 
@@ -76,15 +76,15 @@ judged-refuses (accepted x) number place (inr (e, sat)) = let z : _≡_ {A = ℕ
 judged-refuses (refused m at) number place e = cc
 
 -- a refusal is the only answer to its outcome
-one-answer : (o : Outcome RuleAndModel) (answer : Judged) (number place : ℕ) → JudgedAs o answer → JudgedAs o (Judged′.Refused number place)
+refusal-only-answer : (o : Outcome RuleAndModel) (answer : Judged) (number place : ℕ) → JudgedAs o answer → JudgedAs o (Judged′.Refused number place)
     → answer ≡ Judged′.Refused number place
-one-answer o answer number place judged refuses = rw (judged-refuses o number place refuses) at judged
+refusal-only-answer o answer number place judged refuses = rw (judged-refuses o number place refuses) at judged
 
 module _ (s table f : List ℕ) (bytes : Bytes s) (bytes′ : Bytes f) where
-  judge-found : (number place : ℕ) → JudgedAs (judging s table f) (Judged′.Refused number place)
+  judge-refusal-clause : (number place : ℕ) → JudgedAs (judging s table f) (Judged′.Refused number place)
       → JudgeRefused s (length table) f number place
   unfolding judgingOf
-  judge-found number place judged =
+  judge-refusal-clause number place judged =
       refused-by (building s table) _ (judged-refuses (judging s table f) number place judged)
       (λ e. in-building (build-refused s bytes (length table) number place .0 (ap countedOf e)))
       (λ y built e.
@@ -95,12 +95,12 @@ module _ (s table f : List ℕ) (bytes : Bytes s) (bytes′ : Bytes f) where
       (refuses-at-the-fault f bytes′ number place .0 (model-refused (phoneOf f) number place .0 e′)))
       (λ p read e′. absurd (never-refused e′)))
 
-  judge-refuses : {number place : ℕ} → JudgeRefused s (length table) f number place
+  judge-clause-refuses : {number place : ℕ} → JudgeRefused s (length table) f number place
       → JudgedAs (judging s table f) (Judged′.Refused number place)
   unfolding judgingOf
-  judge-refuses {number} {place} (in-building b) =
+  judge-clause-refuses {number} {place} (in-building b) =
       rw (counted-refuses (building s table) number place (build-refused s bytes (length table) number place .1 b))
-  judge-refuses {number} {place} (in-model room a fault) =
+  judge-clause-refuses {number} {place} (in-model room a fault) =
       let (n, e) = accepts-exactly 128 s table bytes room .1 a in
       let (y, built, long) = counted-accepts (building s table) n e in
       let read = model-refused (phoneOf f) number place .1 (refuses-at-the-fault f bytes′ number place .1 fault) in
@@ -109,4 +109,4 @@ module _ (s table f : List ℕ) (bytes : Bytes s) (bytes′ : Bytes f) where
   pub judge-refused : (answer : Judged) → JudgedAs (judging s table f) answer
       → Exactly answer Judged′.Refused (JudgeRefused s (length table) f)
   judge-refused answer judged number place =
-      (λ e. judge-found number place (rw e at judged), λ h. one-answer (judging s table f) answer number place judged (judge-refuses h))
+      (λ e. judge-refusal-clause number place (rw e at judged), λ h. refusal-only-answer (judging s table f) answer number place judged (judge-clause-refuses h))

@@ -1,4 +1,5 @@
--- What is said of a file, from what reading says of it; and the row of a rule whose equations are known.
+-- What is said of a file, from what reading says of it; and the row of a rule whose equations are known. Counting and building are checks after
+-- reading, so each answer is a computation from there.
 use Prim.Native.Nat.{ℕ, _≤_, _<_}
 use mathlib.Core.Path.{_≡_, refl}
 use mathlib.Core.Bool.{true, false}
@@ -30,9 +31,9 @@ module _ (s : List ℕ) where
     pub reads-unsatisfiable : unsatisfiable r ≡ true → Reads s r (Refused 8 0)
     reads-unsatisfiable h = record { reading = read; answers = answers (Refused 8 0) (rw (refuses-eight 128 s r read h)) }
 
-    module _ (hopeful : unsatisfiable r ≡ false) (l : List ℕ) (equations : equationsOf 128 r ≡ l) (few : length l ≤ 128) where
+    module _ (satisfiable : unsatisfiable r ≡ false) (l : List ℕ) (equations : equationsOf 128 r ≡ l) (few : length l ≤ 128) where
       synthesis : synthesisOf 128 s ≡ accepted (withEquations 128 r)
-      synthesis = accepts-with-equations 128 s r read hopeful (rw equations few)
+      synthesis = accepts-with-equations 128 s r read satisfiable (rw equations few)
 
       pub reads : Reads s r (Equations (length l))
       reads = record { reading = read; answers = answers (Equations (length l)) (rw (synthesis, equations)) }

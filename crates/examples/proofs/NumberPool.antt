@@ -31,9 +31,9 @@ pool-read : ruleOf poolFile ≡ accepted poolRule
 unfolding ruleOf patternsAt formulaOf formulaAt
 pool-read = refl
 
-pool-hopeful : unsatisfiable poolRule ≡ false
+pool-satisfiable : unsatisfiable poolRule ≡ false
 unfolding unsatisfiable firstOf
-pool-hopeful = refl
+pool-satisfiable = refl
 
 pool-equations : equationsOf 128 poolRule ≡ poolEquations
 unfolding equationsOf found explored firstOf answerOf bit covers
@@ -42,7 +42,7 @@ pool-equations = refl
 pub number-pool : NumberPool
 unfolding bit covers least countBelow
 number-pool = record {
-  file = reads poolFile poolRule pool-read pool-hopeful poolEquations pool-equations (omega arith);
+  file = reads poolFile poolRule pool-read pool-satisfiable poolEquations pool-equations (omega arith);
   extents = refl;
 }
 
@@ -57,7 +57,7 @@ pool-rows table room = record { row-0 = row 0 (omega arith); row-1 = row 1 (omeg
   where
     row : (k : ℕ) → k < 3
         → rowOf 256 (tableLeft poolFile table) k ≡ entriesOf 255 (answerOf poolRule) poolEquations (getD poolEquations k 0) 256
-    row = row-left poolFile poolRule pool-read pool-hopeful poolEquations pool-equations (omega arith) table room
+    row = row-left poolFile poolRule pool-read pool-satisfiable poolEquations pool-equations (omega arith) table room
 
 pool-listed : (table : List ℕ) → PoolRows table → listing (map extentOf (poolRule .patterns)) 3 table ≡ poolListing
 unfolding decimal decimalIn listing rowLines bit covers least countBelow

@@ -24,9 +24,9 @@ overlap-read : ruleOf overlapFile ≡ accepted overlapRule
 unfolding ruleOf patternsAt formulaOf formulaAt
 overlap-read = refl
 
-overlap-hopeful : unsatisfiable overlapRule ≡ false
+overlap-satisfiable : unsatisfiable overlapRule ≡ false
 unfolding unsatisfiable firstOf
-overlap-hopeful = refl
+overlap-satisfiable = refl
 
 overlap-equations : equationsOf 128 overlapRule ≡ overlapSets
 unfolding equationsOf found explored firstOf answerOf bit covers
@@ -34,13 +34,13 @@ overlap-equations = refl
 
 overlap-numbers : Numbers overlapFile overlapRule overlapSets overlapListing
 unfolding entriesOf answerOf bit covers least countBelow decimal decimalIn
-overlap-numbers = numbers overlapFile overlapRule overlapSets overlapListing overlap-read overlap-hopeful overlap-equations (omega arith) refl
+overlap-numbers = numbers overlapFile overlapRule overlapSets overlapListing overlap-read overlap-satisfiable overlap-equations (omega arith) refl
 
 -- a row for each equation that the run comes to, in order
 overlap-followed : (table : List ℕ) → 32768 ≤ length table → runFrom 255 (tableLeft overlapFile table) start overlapScans ≡ overlapRun
 unfolding entriesOf answerOf bit covers
 overlap-followed table room =
-    let row = row-left overlapFile overlapRule overlap-read overlap-hopeful overlapSets overlap-equations (omega arith) table room in
+    let row = row-left overlapFile overlapRule overlap-read overlap-satisfiable overlapSets overlap-equations (omega arith) table room in
     let fresh = row 0 (omega arith) in
     let ended = row 1 (omega arith) in
     let asked = row 2 (omega arith) in

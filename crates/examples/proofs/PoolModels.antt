@@ -1,4 +1,5 @@
--- The paper's model under the number-pool rule, which it breaks, and one that meets the rule; with these, all model examples.
+-- The paper's model under the number-pool rule, which it breaks by a walk, and one that meets the rule by a set of states; with these, all model
+-- examples.
 use Prim.Native.Nat.{ℕ, _≤_}
 use mathlib.Core.Path.{_≡_, refl, sym, _∙_}
 use mathlib.Core.Logic.{inl, inr}

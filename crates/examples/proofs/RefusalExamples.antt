@@ -19,6 +19,8 @@ use Rattle.examples.proofs.FileAnswers.{refuses, reads}
 use Rattle.examples.proofs.NumberPool.{pool-builds}
 use Rattle.examples.proofs.FullModel.{step-513, silent-513, kind-19-late}
 
+-- ---- variables that are guarded
+
 below-both : Rule
 below-both = rule (pattern 255 0 31 ∷ []) (max (max (necessity 0 (variable 1))))
 
@@ -34,6 +36,8 @@ between = rule (pattern 255 0 31 ∷ []) (max (necessity 0 (max (variable 1))))
 guards-outer : Reads (1 ∷ 255 ∷ 0 ∷ 31 ∷ 6 ∷ 5 ∷ 0 ∷ 6 ∷ 7 ∷ 1 ∷ []) between (Equations 1)
 unfolding between ruleOf patternsAt formulaOf formulaAt unsatisfiable equationsOf found explored firstOf answerOf bit covers
 guards-outer = reads _ _ refl refl (2 ∷ []) refl (omega arith)
+
+-- ---- rule files
 
 rule-refusals : RuleRefusals
 unfolding times ruleOf patternsAt formulaOf formulaAt below-both between
@@ -69,6 +73,8 @@ rule-refusals = record {
   guards-both = guards-both;
   guards-outer = guards-outer;
 }
+
+-- ---- model files
 
 refuses-model : (f : List ℕ) (number place : ℕ) → phoneOf f ≡ refused number place → RefusesModel f number place
 unfolding judgingOf

@@ -1,4 +1,4 @@
--- A phone that shows a trace behind the monitor and not without it.
+-- A phone that shows a trace behind the monitor and not without it: its first step is suppressed there, so the second can be seen alone.
 use Prim.Native.Nat.{ℕ, _≤_}
 use mathlib.Core.Path.{_≡_, refl, sym}
 use mathlib.Core.Bool.{false, true≢false}
@@ -27,9 +27,9 @@ never-read : ruleOf neverFile ≡ accepted neverRule
 unfolding ruleOf patternsAt formulaOf formulaAt
 never-read = refl
 
-never-hopeful : unsatisfiable neverRule ≡ false
+never-satisfiable : unsatisfiable neverRule ≡ false
 unfolding unsatisfiable firstOf
-never-hopeful = refl
+never-satisfiable = refl
 
 -- {0} and the empty set
 never-equations : equationsOf 128 neverRule ≡ 1 ∷ 0 ∷ []
@@ -39,7 +39,7 @@ never-equations = refl
 never-row : (table : List ℕ) → 32768 ≤ length table → rowOf 256 (tableLeft neverFile table) 0 ≡ replicate 5 1 ++ 255 ∷ replicate 250 1
 unfolding entriesOf answerOf bit covers
 never-row table room =
-    row-left neverFile neverRule never-read never-hopeful (1 ∷ 0 ∷ []) never-equations (omega arith) table room 0 (omega arith)
+    row-left neverFile neverRule never-read never-satisfiable (1 ∷ 0 ∷ []) never-equations (omega arith) table room 0 (omega arith)
 
 violating : ViolatesRule neverRule (5 ∷ 6 ∷ [])
 unfolding bit covers
@@ -98,7 +98,7 @@ module _ (table : List ℕ) (room : 32768 ≤ length table) where
 
 pub shortening : Shortening
 shortening = record {
-  rule-file = reads neverFile neverRule never-read never-hopeful (1 ∷ 0 ∷ []) never-equations (omega arith);
+  rule-file = reads neverFile neverRule never-read never-satisfiable (1 ∷ 0 ∷ []) never-equations (omega arith);
   model-file = shortening-read;
   bare = bare;
   violating = violating;

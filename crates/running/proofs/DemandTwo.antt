@@ -1,4 +1,5 @@
--- Demand 2: over any number of calls, a scan is dropped exactly where it would make what was kept violate the rule.
+-- Demand 2: over any number of calls, a scan is dropped exactly where it would make what was kept violate the rule. All calls on the table are one
+-- run, and the table monitors the rule.
 use Prim.Native.Nat.{ℕ, _<_}
 use mathlib.Core.Path.{_≡_, refl}
 use mathlib.Core.Logic.{_↔_, _⊎_, inl}

@@ -22,6 +22,8 @@ use Rattle.running.proofs.WithVerdicts.{kept-with}
 use Rattle.running.proofs.RunCases.{run-cases}
 use Rattle.running.proofs.Refusals.{has-room-lengths}
 
+-- ---- a refused run
+
 pub refused-unchanged : RefusedUnchanged
 refused-unchanged limit mark s c number place =
     run-cases limit mark (c .table) (c .count) s (c .scans) (length (c .output)) (length (c .verdicts))
@@ -29,6 +31,8 @@ refused-unchanged limit mark s c number place =
     (λ r e. record { handed-back = refl; output = refl; verdicts = refl })
     (λ r f e. record { handed-back = refl; output = refl; verdicts = refl })
     (λ r f e. let z : _≡_ {A = ℕ} 0 1 = cc in absurd (omega arith))
+
+-- ---- any other
 
 overlay-front : (front buffer : List ℕ) → length front ≤ length buffer → OnlyFront front buffer (overlay front buffer)
 overlay-front front buffer h = record {

@@ -38,58 +38,61 @@ module _ (mark count : ℕ) where
   unfolding entriesInRange
   all-in-range [] = (λ e i h. absurd (omega arith), λ h. refl)
   all-in-range (x ∷ l) = (
-    λ e. each (both .0 e) (all-in-range l .0),
-    λ h. both .1 (in-range x .1 (h 0 (omega arith)), all-in-range l .1 (λ i b. h (suc i) (omega arith))),
+    λ e. entries-in-range-at (both-tests .0 e) (all-in-range l .0),
+    λ h. both-tests .1 (in-range x .1 (h 0 (omega arith)), all-in-range l .1 (λ i b. h (suc i) (omega arith))),
   )
     where
-      both : ((inRange mark count x && entriesInRange mark count l) ≡ true) ↔ ((inRange mark count x ≡ true) × (entriesInRange mark count l ≡ true))
-      both = and-eq-true-iff (inRange mark count x) (entriesInRange mark count l)
+      both-tests : ((inRange mark count x && entriesInRange mark count l) ≡ true) ↔ ((inRange mark count x ≡ true) × (entriesInRange mark count l ≡ true))
+      both-tests = and-eq-true-iff (inRange mark count x) (entriesInRange mark count l)
 
-      each : (inRange mark count x ≡ true) × (entriesInRange mark count l ≡ true)
+      entries-in-range-at : (inRange mark count x ≡ true) × (entriesInRange mark count l ≡ true)
           → (entriesInRange mark count l ≡ true → (i : ℕ) → i < length l → InRange mark count (getD l i 0))
           → (i : ℕ) → i < length (x ∷ l) → InRange mark count (getD (x ∷ l) i 0)
-      each e rest zero h = in-range x .0 (e .0)
-      each e rest (suc i) h = rest (e .1) i (omega arith)
+      entries-in-range-at e rest zero h = in-range x .0 (e .0)
+      entries-in-range-at e rest (suc i) h = rest (e .1) i (omega arith)
 
 module _ (limit mark : ℕ) (table : List ℕ) (count : ℕ) where
   -- what is left of the test after each of its parts
-  abbrev entries-fit : Bool
-  entries-fit = entriesInRange mark count (take (256 * count) table)
+  abbrev entriesTest : Bool
+  entriesTest = entriesInRange mark count (take (256 * count) table)
 
-  abbrev rows-fit : Bool
-  rows-fit = leb (256 * count) (length table) && entries-fit
+  abbrev rowsTest : Bool
+  rowsTest = leb (256 * count) (length table) && entriesTest
 
-  test-well : isWellFormed limit mark table count ≡ true → WellFormedTable limit mark count table
+  test-well-formed : isWellFormed limit mark table count ≡ true → WellFormedTable limit mark count table
   unfolding isWellFormed
-  test-well e =
-      let one = and-eq-true-iff (leb 1 count) (leb count limit && rows-fit) .0 e in
-      let two = and-eq-true-iff (leb count limit) rows-fit .0 (one .1) in
-      let three = and-eq-true-iff (leb (256 * count) (length table)) entries-fit .0 (two .1) in
+  test-well-formed e =
+      let one = and-eq-true-iff (leb 1 count) (leb count limit && rowsTest) .0 e in
+      let two = and-eq-true-iff (leb count limit) rowsTest .0 (one .1) in
+      let three = and-eq-true-iff (leb (256 * count) (length table)) entriesTest .0 (two .1) in
       let room : 256 * count ≤ length table = leb-true (256 * count) (length table) (three .0) in
       let long : length (take (256 * count) table) ≡ 256 * count = length-take-le (256 * count) table room in
-      let each = all-in-range mark count (take (256 * count) table) .0 (three .1) in
+      let entries-in-range-at = all-in-range mark count (take (256 * count) table) .0 (three .1) in
       well-formed-by-bytes limit mark count table (leb-true 1 count (one .0)) (leb-true count limit (two .0)) room
-      (λ i h. rw (getD-take (256 * count) table i 0 h) at (each i (omega arith)))
+      (λ i h. rw (getD-take (256 * count) table i 0 h) at (entries-in-range-at i (omega arith)))
 
-  well-tests : WellFormedTable limit mark count table → isWellFormed limit mark table count ≡ true
+  well-formed-test : WellFormedTable limit mark count table → isWellFormed limit mark table count ≡ true
   unfolding isWellFormed
-  well-tests wf =
+  well-formed-test wf =
       let room = well-formed-room wf in
       let long : length (take (256 * count) table) ≡ 256 * count = length-take-le (256 * count) table room in
       rw (le-leb 1 count (wf .some), le-leb count limit (wf .few), le-leb (256 * count) (length table) room)
       (all-in-range mark count (take (256 * count) table) .1
       (λ i h. rw (getD-take (256 * count) table i 0 (omega arith)) (well-formed-byte wf i (omega arith))))
 
-  module _ (s : State) where
-    pub fits-well : fits limit mark table count s ≡ true → WellFormedTable limit mark count table × (s .equation < count)
-    unfolding fits
-    fits-well e =
-        let both = and-eq-true-iff (isWellFormed limit mark table count) (ltb (s .equation) count) .0 e in
-        (test-well (both .0), ltb-true (s .equation) count (both .1))
+  pub is-well-formed-iff : (isWellFormed limit mark table count ≡ true) ↔ WellFormedTable limit mark count table
+  is-well-formed-iff = (test-well-formed, well-formed-test)
 
-    pub well-fits : WellFormedTable limit mark count table → s .equation < count → fits limit mark table count s ≡ true
+  module _ (s : State) where
+    pub fits-well-formed : fits limit mark table count s ≡ true → WellFormedTable limit mark count table × (s .equation < count)
     unfolding fits
-    well-fits wf inside = rw (well-tests wf) (lt-ltb (s .equation) count inside)
+    fits-well-formed e =
+        let both-tests = and-eq-true-iff (isWellFormed limit mark table count) (ltb (s .equation) count) .0 e in
+        (is-well-formed-iff .0 (both-tests .0), ltb-true (s .equation) count (both-tests .1))
+
+    pub well-formed-fits : WellFormedTable limit mark count table → s .equation < count → fits limit mark table count s ≡ true
+    unfolding fits
+    well-formed-fits wf inside = rw (well-formed-test wf) (lt-ltb (s .equation) count inside)
 
 -- ---- a run on a well-formed table
 

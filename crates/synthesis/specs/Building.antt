@@ -22,6 +22,7 @@ pub record Synthesis : Type 0 where
   pub rule : Rule
   pub equations : List ℕ
 
+-- a rule with the equations that the search finds
 abbrev pub withEquations : (limit : ℕ) → Rule → Synthesis
 withEquations limit r = record { rule = r; equations = equationsOf limit r }
 

@@ -50,22 +50,22 @@ module _ (limit mark : ℕ) (s table : List ℕ) where
   -- no check refuses the file, which is r, and its rows are inside the table
   record Admits (r : Rule) : Type 0 where
     read : ruleOf s ≡ accepted r
-    hopeful : unsatisfiable r ≡ false
+    satisfiable : unsatisfiable r ≡ false
     few : length (equationsOf limit r) ≤ limit
     room : 256 * length (equationsOf limit r) ≤ length table
 
   -- what holds of the table of each rule that is admitted, holds of what building leaves
-  leaves : (P : Synthesis → List ℕ → Type 0) → ((r : Rule) → Admits r → P (withEquations limit r) (rowsFor r)) → (y : Synthesis)
+  leaves-admitted : (P : Synthesis → List ℕ → Type 0) → ((r : Rule) → Admits r → P (withEquations limit r) (rowsFor r)) → (y : Synthesis)
       → buildingOf limit s (length table) ≡ accepted y → P y left
-  leaves P holds y e =
+  leaves-admitted P holds y e =
       let enough = building-accepts limit s (length table) y e in
       rw e
       (synthesis-accepts limit s (λ y. P y (tableAfter mark (accepted y) table))
-      (λ r read hopeful few. holds r (record { read = read; hopeful = hopeful; few = few; room = omega (arith, enough .0) })) y
+      (λ r read satisfiable few. holds r (record { read = read; satisfiable = satisfiable; few = few; room = omega (arith, enough .0) })) y
       (enough .1))
 
-  pub well-formed : (y : Synthesis) → buildingOf limit s (length table) ≡ accepted y → WellFormedTable limit mark (length (y .equations)) left
-  well-formed = leaves (λ y t. WellFormedTable limit mark (length (y .equations)) t) λ r admits.
+  pub accepted-well-formed : (y : Synthesis) → buildingOf limit s (length table) ≡ accepted y → WellFormedTable limit mark (length (y .equations)) left
+  accepted-well-formed = leaves-admitted (λ y t. WellFormedTable limit mark (length (y .equations)) t) λ r admits.
       let l = equationsOf limit r in
       record {
         some = omega (arith, first-member limit r);
@@ -77,7 +77,7 @@ module _ (limit mark : ℕ) (s table : List ℕ) where
       }
 
   pub built-rest : (y : Synthesis) → buildingOf limit s (length table) ≡ accepted y → SameAfterRows (length (y .equations)) table left
-  built-rest = leaves (λ y t. SameAfterRows (length (y .equations)) table t) λ r admits.
+  built-rest = leaves-admitted (λ y t. SameAfterRows (length (y .equations)) table t) λ r admits.
       let l = equationsOf limit r in
       record { long = filled-length mark (answerOf r) l 256 table (admits .room); rest = filled-rest mark (answerOf r) l 256 table }
 
@@ -89,7 +89,7 @@ module _ (limit mark : ℕ) (s table : List ℕ) where
         (omega (arith, admits .few))
 
     pub built-runs : (w : List ℕ) → Bytes w → (y : Synthesis) → buildingOf limit s (length table) ≡ accepted y → RunsAs mark y left w
-    built-runs w bytes = leaves (λ y t. RunsAs mark y t w) λ r admits.
+    built-runs w bytes = leaves-admitted (λ y t. RunsAs mark y t w) λ r admits.
         let l = equationsOf limit r in
         let t = lookup 256 mark (rowsFor r) in
         let renames = rows-rename r admits in
@@ -102,18 +102,18 @@ module _ (limit mark : ℕ) (s table : List ℕ) where
 
     module _ (bytes : Bytes s) where
       pub built-monitors : (y : Synthesis) → buildingOf limit s (length table) ≡ accepted y → Monitors (y .rule) (lookup 256 mark left) 0
-      built-monitors = leaves (λ y t. Monitors (y .rule) (lookup 256 mark t) 0) λ r admits.
+      built-monitors = leaves-admitted (λ y t. Monitors (y .rule) (lookup 256 mark t) 0) λ r admits.
           let l = equationsOf limit r in
           let t = lookup 256 mark (rowsFor r) in
           let renames = rows-rename r admits in
-          let monitors = rule-monitors r (file-well-formed s bytes r (admits .read)) (admits .hopeful) in
+          let monitors = rule-monitors r (file-well-formed s bytes r (admits .read)) (admits .satisfiable) in
           subst (Monitors r t) (first-index limit r)
           (renamed-monitors r (λ e. Member e l) (answerOf r) t (λ e. indexOf e l) renames (firstOf r) (first-member limit r) monitors)
 
       pub built-answers : (k c : ℕ) → c < 256 → (y : Synthesis) → buildingOf limit s (length table) ≡ accepted y → k < length (y .equations)
           → EntryAnswers (y .rule) (y .equations) k c (lookup 256 mark left k c)
       built-answers k c b =
-          leaves (λ y t. k < length (y .equations) → EntryAnswers (y .rule) (y .equations) k c (lookup 256 mark t k c)) λ r admits h.
+          leaves-admitted (λ y t. k < length (y .equations) → EntryAnswers (y .rule) (y .equations) k c (lookup 256 mark t k c)) λ r admits h.
           let l = equationsOf limit r in
           let few : length l ≤ mark = omega (arith, admits .few) in
           let is = table-answers 256 mark (answerOf r) l (equations-closed limit r (admits .few)) table (admits .room) few k c h b in
@@ -126,7 +126,7 @@ module _ (limit mark : ℕ) (s table : List ℕ) (n : ℕ) (e : countedOf (build
   pub counted-well-formed : WellFormedTable limit mark n (left limit mark s table)
   counted-well-formed =
       let y = counted-accepts (buildingOf limit s (length table)) n e in
-      rw (y .2) (well-formed limit mark s table (y .0) (y .1))
+      rw (y .2) (accepted-well-formed limit mark s table (y .0) (y .1))
 
   pub counted-rest : SameAfterRows n table (left limit mark s table)
   counted-rest =
@@ -143,7 +143,7 @@ builds-accepted limit mark s table n below bytes e =
       record {
         below = below;
         bytes = bytes;
-        read = synthesis-accepts limit s (λ y. ruleOf s ≡ accepted (y .rule)) (λ r read hopeful few. read) (y .0) synthesis;
+        read = synthesis-accepts limit s (λ y. ruleOf s ≡ accepted (y .rule)) (λ r read satisfiable few. read) (y .0) synthesis;
         counted = e;
         left-is = refl;
       },

@@ -1,4 +1,5 @@
--- What building and synthesis accept and refuse, step by step.
+-- What counting and building accept and refuse. Both are checks one after the other, so an acceptance has passed each, and a refusal is that of the
+-- first that fails.
 use Prim.Native.Nat.{ℕ, _*_, _≤_, _<_}
 use mathlib.Core.Path.{_≡_, refl, sym, _∙_, ap, subst}
 use mathlib.Core.Bool.{Bool, true, false}

@@ -8,7 +8,7 @@ use Rattle.synthesis.specs.Building.{buildingOf}
 use Rattle.running.specs.Calls.{noCalls, none}
 use Rattle.synthesis.specs.Table.{WellFormedTable}
 use Rattle.synthesis.proofs.Tables.Built.{counted-well-formed}
-use Rattle.commands.proofs.SiftingLaws.{under-rule}
+use Rattle.commands.proofs.SiftingLaws.{ends-calls-under-rule}
 use Rattle.commands.proofs.sifting.sift_under.Statement.{statement}
 use Rattle.commands.proofs.sifting.sift_under.Tie as tie
 
@@ -59,7 +59,7 @@ returns c =
       bytes built,
       record {
         answer = answer;
-        state = under-rule (buildingOf 128 (x .file .now) (length (x .table .now))) (x .table .now) (told .answer .given .0 .0)
+        state = ends-calls-under-rule (buildingOf 128 (x .file .now) (length (x .table .now))) (x .table .now) (told .answer .given .0 .0)
             (built .build .ensures .1) (sym answer) (c .sift-all .ensures);
       },
     )

@@ -3,7 +3,7 @@ use Prim.Native.Nat.{_-_}
 use native.Mathlib.Omega.{arith}
 use borrow.Author.Needs.{needs}
 use lib.ListN.{length}
-use Rattle.running.proofs.Stepping.{After, one-more, stateAt, begins, ends}
+use Rattle.running.proofs.Stepping.{After, after-next, stateAt, after-none, after-all}
 use Rattle.running.proofs.following.follow.Statement.{statement}
 use Rattle.running.proofs.following.follow.Tie as tie
 
@@ -20,7 +20,7 @@ mul-from c = search needs
 loop-holds : tie.Need-loop-holds Inv-loop μ-loop
 loop-holds c =
     let start = c .before .before .before .before .before in
-    begins 255 _ (start .args .state) _ _ _ (omega arith)
+    after-none 255 _ (start .args .state) _ _ _ (omega arith)
 
 shared-slice-read-code : tie.Need-shared-slice-read-code Inv-loop μ-loop
 shared-slice-read-code c = search needs
@@ -67,7 +67,7 @@ loop-again c =
     let e = verdict .before .before in
     let l = e .before .before .before in
     let start = l .before .before .before .before .before .before in
-    one-more 255 _ _ _ _ _ _ _ _ _ _ (l .loop .inv) (e .before .before .loop-test .taken) (start .pre .1) (start .pre .2)
+    after-next 255 _ _ _ _ _ _ _ _ _ _ (l .loop .inv) (e .before .before .loop-test .taken) (start .pre .1) (start .pre .2)
     _ (e .entry .ensures .1) (e .entry .ensures .0)
     (c .before .either-byte2 .ensures) (verdict .either-byte .ensures) (verdict .before .either .ensures)
     (c .either2 .ensures)
@@ -84,7 +84,7 @@ same-length-2 c = search needs
 returns : tie.Need-returns Inv-loop μ-loop
 returns c =
     let x = c .before .before .before .before .before .before .before .args in
-    ends 255 (x .table .now) (x .state) (x .output .now) (x .verdicts .now) (x .scans .now) _ _ _ _ _ (c .before .loop .inv)
+    after-all 255 (x .table .now) (x .state) (x .output .now) (x .verdicts .now) (x .scans .now) _ _ _ _ _ (c .before .loop .inv)
     (c .loop-test .left)
 
 pub follow-spec : {M : Type 1} → statement M
