@@ -20,7 +20,7 @@ use Rattle.synthesis.specs.declared.Counted.the-variants as Counted
 use Rattle.synthesis.proofs.Tables.Synthesized.{building-enough, building-short, synthesis-of, counted-refuses}
 use Rattle.synthesis.proofs.Tables.Equations.{refuses-too-many}
 use Rattle.enforcement.specs.Model.{Model, Finite, Satisfies}
-use Rattle.models.proofs.Verdicts.Acceptance.{satisfiable, refuses-unsatisfiable}
+use Rattle.models.proofs.Verdicts.Acceptance.{unrefused-satisfiable, refuses-unsatisfiable}
 use Rattle.demands.specs.Outcomes.{counting, Exactly}
 use Rattle.demands.specs.Refusals.{CountRefused, in-file, unsatisfiable as no-model, too-many, BuildRefused, short-table, in-rule}
 
@@ -45,7 +45,7 @@ module _ (s : List ℕ) (bytes : Bytes s) where
       (λ t.
       let other : CountRefuses 8 0 → ⊥ = λ e″. let z : Counted.Refused 9 0 ≡ Counted.Refused 8 0 = rw (outcome, f, t) at e″ in
       let y : _≡_ {A = ℕ} 9 8 = cc in omega arith in
-      let (m, finite, satisfies) = satisfiable 128 s bytes r read other in
+      let (m, finite, satisfies) = unrefused-satisfiable 128 s bytes r read other in
       too-many r w is m finite satisfies (refuses-too-many 128 s r read other .0 (rw (outcome, f, t))))
       (λ f′ e″. absurd (never-refused e″)))
 

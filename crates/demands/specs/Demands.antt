@@ -31,6 +31,8 @@ use Rattle.models.specs.declared.Judged.the-variants as Judged′
 use Rattle.demands.specs.Outcomes.{counting, building, tableBuilt, running, judging, tableAfterJudging, Exactly, WhereRefused}
 use Rattle.demands.specs.Refusals.{CountRefused, BuildRefused, RunRefused, JudgeRefused}
 
+-- ---- demand 1
+
 -- 1. Every byte string is taken as rule, model or scans, and every call ends: no public function has a `requires`, and each is proved to end. Each
 -- refuses unfit input itself, and no other, with the paper's number and place. So exactly one number and place hold of a refused call.
 pub record RefusesExactly : Type 1 where
@@ -62,6 +64,8 @@ pub record DemandOne : Type 1 where
   pub unchanged : LeavesUnchanged
   pub rest : LeavesTheRest
 
+-- ---- demand 2
+
 -- 2. A scan is dropped exactly when the scans kept so far, followed by it, violate the rule; and with room for its scans no call on the built table is
 -- refused. A file is read exactly where it is the encoding of a rule, or of a model, within the limits, and then as that one. It builds exactly where it
 -- is read and its equations are counted. With a table that is long enough, exactly the rules of the grammar within the limits are accepted, except those
@@ -83,6 +87,8 @@ pub record DemandTwo : Type 1 where
       → ((n : ℕ) × (countedOf (building s table) ≡ Counted.Equations n)) ↔ Acceptable 128 s
   pub judges : (s table : List ℕ) (r : Rule) (n : ℕ) (left : List ℕ) → Builds 128 255 s table r n left
       → (f : List ℕ) (y : Phone) (answer : Judged) → phoneOf f ≡ accepted y → JudgedAs (judging s table f) answer → JudgedExactly r y answer
+
+-- ---- demand 3
 
 -- 3. For every accepted rule and model: the model behind the monitor satisfies the rule; where the model already does, the two are strongly bisimilar;
 -- every walk of the model whose trace doesn't violate the rule is there behind the monitor, with the same trace, to the same phone state. What becomes

@@ -21,6 +21,8 @@ use Rattle.models.specs.Judging.{stored, modelReadingOf, judgingOf, Judg
 use Rattle.models.specs.declared.Judged.{Judged}
 use Rattle.models.specs.declared.Judged.the-variants.{Meets, Breaks, Refused as NotJudged}
 
+-- ---- enforcing
+
 -- Demand 3 holds for the table that building leaves, whatever the table held before, and every model file that isn't refused, with
 -- dropped scans in the claim.
 abbrev pub TablesEnforce : Type 1
@@ -28,6 +30,8 @@ TablesEnforce =
     (limit mark : ℕ) (s table : List ℕ) (r : Rule) (n : ℕ) (left : List ℕ) → Builds limit mark s table r n left
     → (f : List ℕ) (y : Phone) → Bytes f → phoneOf f ≡ accepted y
     → Enforces r (suppressing (lookup 256 mark left)) 0 (modelOf y) × WalksBehind (lookup 256 mark left) 0 (modelOf y)
+
+-- ---- judging
 
 -- 3. Judging. For phone models satisfaction with decided sets is satisfaction,
 abbrev pub DecidedSatisfies : Type 1
@@ -55,6 +59,8 @@ RefusedUnchanged =
     (limit mark : ℕ) (s f table : List ℕ) (answer : Judged) → JudgedAs (judgingOf limit s (length table) f) answer →
     let built = tableAfter mark (buildingOf limit s (length table)) table in
     TableLeft answer table built (tableJudged (judgingOf limit s (length table) f) built table)
+
+-- ---- which rules are accepted
 
 -- 4. Demand 2, acceptance. With a table that is long enough, building isn't refused exactly when the file is the encoding of a well-formed
 -- rule within 32 patterns and 64 nodes, of which at most `limit` equations are reached, and which some finite model satisfies. All that are
@@ -85,6 +91,8 @@ abbrev pub RefusesUnsatisfiable : Type 1
 RefusesUnsatisfiable =
     (limit : ℕ) (s : List ℕ) (capacity : ℕ) (r : Rule) → Bytes s → 256 * limit ≤ capacity → ruleOf s ≡ accepted r
     → RefusedAsUnsatisfiable limit s capacity r
+
+-- ---- model files
 
 -- 5. A model file is accepted exactly as the encoding of a phone model within the limits, and then as that model.
 abbrev pub AcceptsPhones : Type 0

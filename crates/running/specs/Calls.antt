@@ -13,6 +13,8 @@ use Rattle.running.specs.declared.State.{State}
 use Rattle.running.specs.declared.Checked.{Checked}
 use Rattle.running.specs.declared.Checked.the-variants.{Fit, Refused}
 
+-- ---- one call, and what its caller has
+
 -- what a call is handed beside the state; the buffers as they were before it
 pub record Call : Type 0 where
   pub table : List ℕ
@@ -56,6 +58,8 @@ withOutcome h c outcome =
 abbrev pub withCall : (limit mark : ℕ) → History → Call → History
 withCall limit mark h c = withOutcome h c (outcomeOf limit mark (h .state) c)
 
+-- ---- any number of calls
+
 -- What a caller has after any number of calls, each of them one that may be made where the caller stands. Their scans are bytes.
 pub data Calls (limit mark : ℕ) (May : History → Call → Type 0) : History → Type 0 where
   none : Calls limit mark May noCalls
@@ -69,6 +73,8 @@ pub record OnTable (table : List ℕ) (count : ℕ) (c : Call) : Type 0 where
 -- the same, and any others that are refused
 abbrev pub OnTableOrRefused : (limit mark : ℕ) → (table : List ℕ) → (count : ℕ) → History → Call → Type 0
 OnTableOrRefused limit mark table count h c = OnTable table count c ⊎ ((number place : ℕ) × (outcomeOf limit mark (h .state) c ≡ refused number place))
+
+-- ---- verdicts
 
 -- the scans that have this verdict
 unfoldable pub withVerdict : (verdict : ℕ) → (verdicts scans : List ℕ) → List ℕ

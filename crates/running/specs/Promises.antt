@@ -18,6 +18,8 @@ use Rattle.running.specs.Calls.{Call, History, taken, outcomeOf, Calls, 
 use Rattle.running.specs.declared.State.{State}
 use Rattle.running.specs.declared.Checked.the-variants.{Fit, Refused}
 
+-- ---- scans are dropped by the rule
+
 -- 1. Demand 2. After any number of calls on the table that building leaves, a scan has verdict 1 exactly when the scans kept before it,
 -- with it after them, violate the rule. What was kept doesn't.
 pub record Sifted (r : Rule) (h : History) : Type 0 where
@@ -33,6 +35,8 @@ abbrev pub DropsExactly : Type 0
 DropsExactly =
     (limit mark : ℕ) (s table : List ℕ) (r : Rule) (n : ℕ) (left : List ℕ) → Builds limit mark s table r n left
     → (h : History) → Calls limit mark (OnTableOrRefused limit mark left n) h → Sifted r h
+
+-- ---- runs over some scans and then over others
 
 -- 2. Two calls, the second with the state of the first, do what one call on both lists of scans does.
 pub record Together (s : State) (one two both : Outcome Run) : Type 0 where
@@ -54,6 +58,8 @@ TwoCalls =
     let two = runOf limit mark table count (resultOf s one .state) second o₂ v₂ in
     Together s one two (runOf limit mark table count s (first ++ second) o₃ v₃)
 
+-- ---- no scan is lost
+
 -- 3. Of each code, the scans that a run took are those that it kept and those with verdict 1. The counts are as the verdicts say.
 pub record Conserved (s : State) (scans : List ℕ) (outcome : Outcome Run) : Type 0 where
   pub codes : (c : ℕ)
@@ -73,6 +79,8 @@ abbrev pub CallsConserve : Type 0
 CallsConserve =
     (limit mark : ℕ) (h : History) → Calls limit mark (λ h c. Unit) h → (c : ℕ)
     → occurrences c (h .scans) ≡ occurrences c (h .kept) + occurrences c (withVerdict 1 (h .verdicts) (h .scans))
+
+-- ---- refusals
 
 -- 4. 15 is for buffers that are too short, and comes first; 16 for a count, a state or a table that is unfit. Any other run follows the
 -- entries, and ends in an equation of the table.
@@ -99,6 +107,8 @@ NeverUnfit =
     (limit mark : ℕ) (s table : List ℕ) (r : Rule) (n : ℕ) (left : List ℕ) → Builds limit mark s table r n left
     → (h : History) → Calls limit mark (OnTableOrRefused limit mark left n) h → (c : Call) → OnTable left n c
     → checkedOf (outcomeOf limit mark (h .state) c) ≡ Refused 16 0 → ⊥
+
+-- ---- lent buffers
 
 -- 5. The lent buffers, in the terms of the contract of `run`: those of a call, with one field here for each. A refused run hands back the state that
 -- it was given and counts of 0, and leaves every byte of every buffer as it was.

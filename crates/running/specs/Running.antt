@@ -22,7 +22,7 @@ start = record { equation = 0 }
 abbrev pub moved : State → ℕ → State
 moved s e = record { equation = e }
 
--- What a table answers to a scan in a state: the entry of the state's equation for its code.
+-- What a table answers to a scan in a state, by the entry of the state's equation for its code: dropped, or kept with the state that comes next.
 abbrev pub answerIn : (mark : ℕ) → (table : List ℕ) → State → ℕ → Answer State
 answerIn mark table s c = cases (lookup 256 mark table (s .equation) c) dropped (λ e. next (moved s e))
 
@@ -32,6 +32,7 @@ answerIn mark table s c = cases (lookup 256 mark table (s .equation) c) dropped 
 abbrev pub inRange : (mark count : ℕ) → ℕ → Bool
 inRange mark count x = eqb x mark || ltb x count
 
+-- all entries of a list are
 unfoldable pub entriesInRange : (mark count : ℕ) → List ℕ → Bool
 entriesInRange mark count [] = true
 entriesInRange mark count (x ∷ xs) = inRange mark count x && entriesInRange mark count xs
@@ -58,6 +59,7 @@ pub record Run : Type 0 where
   pub kept : List ℕ
   pub verdicts : List ℕ
 
+-- the run from a state over scans, by what the table answers to each
 abbrev pub runFrom : (mark : ℕ) → (table : List ℕ) → State → (scans : List ℕ) → Run
 runFrom mark table s scans = record {
   state = ended (answerIn mark table) s scans;
@@ -65,7 +67,8 @@ runFrom mark table s scans = record {
   verdicts = verdicts (answerIn mark table) s scans;
 }
 
--- with an output and verdicts of these sizes: 15 comes before 16
+-- The outcome of a run with an output and verdicts of these sizes: 15 where they have no room for the scans, else 16 where the table, the count or the
+-- state is unfit, and else the run.
 unfoldable pub runOf : (limit mark : ℕ) → (table : List ℕ) → (count : ℕ) → State → (scans : List ℕ) → (output verdicts : ℕ) → Outcome Run
 runOf limit mark table count s scans output verdicts =
     refuse (not (hasRoom scans output verdicts)) 15 0

@@ -17,6 +17,8 @@ use Rattle.synthesis.specs.Table.{WellFormedTable}
 use Rattle.synthesis.specs.Building.{equationsOf, Synthesis, synthesisOf, buildingOf, countedOf, tableAfter, Builds}
 use Rattle.synthesis.specs.declared.Counted.the-variants.{Equations, Refused}
 
+-- ---- violation
+
 -- 1. A list that violates a formula violates it however it goes on.
 abbrev pub ClosedUnderExtension : Type 0
 ClosedUnderExtension =
@@ -83,6 +85,8 @@ RefusedUnchanged =
     (limit mark : ℕ) (s table : List ℕ) (number place : ℕ) → countedOf (buildingOf limit s (length table)) ≡ Refused number place
     → Unchanged mark table (buildingOf limit s (length table))
 
+-- ---- the table that building leaves, as a monitor
+
 -- Where building answers with a count, it builds: what is promised of each file that builds is promised of each that isn't refused.
 abbrev pub BuildsAccepted : Type 0
 BuildsAccepted =
@@ -111,6 +115,8 @@ TableDrops =
     (limit mark : ℕ) (s table : List ℕ) (r : Rule) (n : ℕ) (left : List ℕ) → Builds limit mark s table r n left
     → DropsViolations r (lookup 256 mark left) 0
 
+-- ---- refusals of rules
+
 -- 5. A rule is refused with 8 exactly when the empty list violates it,
 abbrev pub RefusesViolatedByEmpty : Type 0
 RefusesViolatedByEmpty =
@@ -127,6 +133,8 @@ abbrev pub RefusesTooMany : Type 0
 RefusesTooMany =
     (limit : ℕ) (s : List ℕ) (r : Rule) → ruleOf s ≡ accepted r → (countedOf (synthesisOf limit s) ≡ Refused 8 0 → ⊥)
     → (countedOf (synthesisOf limit s) ≡ Refused 9 0) ↔ ((es : List ℕ) → length es ≤ limit → Closed r es → ⊥)
+
+-- ---- the equations and their numbers
 
 -- 6. The equations that are counted: they are sets of necessities, no two are the same, kept codes lead from the first to each, and the
 -- codes lead to no other.
@@ -176,6 +184,8 @@ OneNumbering =
     (r : Rule) (es es′ : List ℕ) → Reachable r es → Reachable r es′ → AsFound 256 (answerOf r) (firstOf r) es
     → AsFound 256 (answerOf r) (firstOf r) es′ → es ≡ es′
 
+-- ---- the bytes of the table
+
 -- The table is well formed for its count: each equation has a whole row, whose entries are the mark or under the count.
 abbrev pub BuiltWellFormed : Type 0
 BuiltWellFormed =
@@ -206,7 +216,7 @@ TableRest =
 -- and else an empty part.
 pub record RowPart (table : List ℕ) (k : ℕ) : Type 0 where
   pub whole : 256 * k + 256 ≤ length table → length (rowOf 256 table k) ≡ 256
-  pub entriesOf : 256 * k + 256 ≤ length table → (c : ℕ) → c < 256 → getD (rowOf 256 table k) c 0 ≡ getD table (256 * k + c) 0
+  pub entries : 256 * k + 256 ≤ length table → (c : ℕ) → c < 256 → getD (rowOf 256 table k) c 0 ≡ getD table (256 * k + c) 0
   pub none : length table < 256 * k + 256 → rowOf 256 table k ≡ []
 
 abbrev pub HandsBackRows : Type 0

@@ -1,4 +1,5 @@
--- Judging an accepted rule and model answers exactly whether the model satisfies the rule, and what judging leaves in the table hangs on its answer.
+-- Judging an accepted rule and model answers exactly whether the model satisfies the rule, since decided satisfaction is satisfaction; and what
+-- judging leaves in the table hangs on its answer.
 use Prim.Native.Nat.{ℕ}
 use mathlib.Core.Path.{_≡_, refl}
 use mathlib.Core.Logic.{_⊎_, inl, inr}

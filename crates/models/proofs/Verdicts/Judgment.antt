@@ -1,4 +1,5 @@
--- What judging answers and leaves, a row for each way out, and what its calls ask for.
+-- What judging answers and leaves: a law for each way out, and what its calls ask for. For an accepted rule and model, the search finds a dropped
+-- step exactly where the model doesn't satisfy the rule, since the table monitors the rule.
 use Prim.Native.Nat.{ℕ}
 use mathlib.Core.Path.{_≡_, refl, sym, _∙_, ap, subst}
 use mathlib.Core.Logic.{_↔_, inl, inr}
@@ -46,15 +47,15 @@ module _ (s table f : List ℕ) where
       → Judges (Judged′.the-variants.Refused number place) table
   refused-judges e = rw e (refl, refl)
 
-  rule-first : {number place : ℕ} → buildingOf 128 s (length table) ≡ refused number place
+  building-refused-judges : {number place : ℕ} → buildingOf 128 s (length table) ≡ refused number place
       → Judges (Judged′.the-variants.Refused number place) table
   unfolding judgingOf
-  rule-first e = refused-judges (rw e)
+  building-refused-judges e = refused-judges (rw e)
 
-  model-second : {y : Synthesis} {number place : ℕ} → buildingOf 128 s (length table) ≡ accepted y → phoneOf f ≡ refused number place
+  phone-refused-judges : {y : Synthesis} {number place : ℕ} → buildingOf 128 s (length table) ≡ accepted y → phoneOf f ≡ refused number place
       → Judges (Judged′.the-variants.Refused number place) table
   unfolding judgingOf
-  model-second e q = refused-judges (rw (e, q))
+  phone-refused-judges e q = refused-judges (rw (e, q))
 
   pub judges-model-refused : {reading : ModelReading} {number place : ℕ} {r : Judged} → reading ≡ modelReadingOf (phoneOf f)
       → reading .answer ≡ Acceptance′.the-variants.Refused number place
@@ -64,15 +65,15 @@ module _ (s table f : List ℕ) where
       on : (o : Outcome Synthesis) → buildingOf 128 s (length table) ≡ o
           → r ≡ refusalBefore (countedOf o) (Acceptance′.the-variants.Refused number place) → Judges r table
       on (accepted y) built e =
-          rw e (model-second built (model-refused (phoneOf f) number place .1 (sym (ap (λ (x : ModelReading). x .answer) read) ∙ told)))
-      on (refused number′ place′) built e = rw e (rule-first built)
+          rw e (phone-refused-judges built (model-refused (phoneOf f) number place .1 (sym (ap (λ (x : ModelReading). x .answer) read) ∙ told)))
+      on (refused number′ place′) built e = rw e (building-refused-judges built)
 
   pub judges-rule-refused : {built : Counted} {number place : ℕ} {r : Judged} {after : List ℕ}
       → built ≡ countedOf (buildingOf 128 s (length table)) → after ≡ tableAfter 255 (buildingOf 128 s (length table)) table
       → built ≡ Refused number place → r ≡ ruleRefusal built → Judges r after
   judges-rule-refused {number = number} {place} is left told e =
       let building = counted-refuses (buildingOf 128 s (length table)) number place (sym is ∙ told) in
-      rw (e, told, left ∙ ap (λ (o : Outcome Synthesis). tableAfter 255 o table) building) (rule-first building)
+      rw (e, told, left ∙ ap (λ (o : Outcome Synthesis). tableAfter 255 o table) building) (building-refused-judges building)
 
   -- ---- a rule and a model that were accepted
 
@@ -123,18 +124,18 @@ module _ (s table f : List ℕ) where
 
     module _ {r : Bool}
         (never : (y : Phone) → model ≡ stored y → (r ≡ true) ↔ NeverDrops (lookup 256 255 after) 0 (modelOf y)) where
-      case : judgingOf 128 s (length table) f ≡ accepted (record { rule = a .rule; phone = a .phone })
-      case = judging-case (a .builds) f (a .phone) (a .phone-is)
+      judging-is : judgingOf 128 s (length table) f ≡ accepted (record { rule = a .rule; phone = a .phone })
+      judging-is = judging-case (a .builds) f (a .phone) (a .phone-is)
 
       -- the answer of the search
-      searched : (r ≡ true) ↔ NeverDrops (lookup 256 255 after) 0 (modelOf (a .phone))
-      searched = never (a .phone) (a .is-stored)
+      search-iff : (r ≡ true) ↔ NeverDrops (lookup 256 255 after) 0 (modelOf (a .phone))
+      search-iff = never (a .phone) (a .is-stored)
 
       pub judges-meets : r ≡ true → Judges Judged′.the-variants.Meets after
-      judges-meets e = rw case (inl (refl, never-drops-satisfies .0 (searched .0 e)), a .builds .left-is)
+      judges-meets e = rw judging-is (inl (refl, never-drops-satisfies .0 (search-iff .0 e)), a .builds .left-is)
 
       pub judges-breaks : r ≡ false → Judges Judged′.the-variants.Breaks after
-      judges-breaks e = rw case (inr (refl, λ sat. never-true (searched .1 (never-drops-satisfies .1 sat))), a .builds .left-is)
+      judges-breaks e = rw judging-is (inr (refl, λ sat. never-true (search-iff .1 (never-drops-satisfies .1 sat))), a .builds .left-is)
         where
           never-true : r ≡ true → ⊥
           never-true e′ = let z : _≡_ {A = ℕ} 0 1 = cc in omega arith

@@ -58,4 +58,4 @@ row-at table k c d room b =
     ∙ getD-inside table (256 * k + c) d 0 (omega arith)))
 
 pub hands-back-rows : HandsBackRows
-hands-back-rows table k = record { whole = row-length 256 table k; entriesOf = λ room c b. row-at table k c 0 room b; none = row-none 256 table k }
+hands-back-rows table k = record { whole = row-length 256 table k; entries = λ room c b. row-at table k c 0 room b; none = row-none 256 table k }
