@@ -7,7 +7,7 @@ use lib.ListN.{length, take}
 use Rattle.reading.specs.Rule.{Rule, Bytes}
 use Rattle.reading.specs.File.{ruleOf}
 use Rattle.reading.specs.Numbered.{readingOf}
-use Rattle.synthesis.specs.Building.{buildingOf, countedOf, tableAfter, Builds}
+use Rattle.synthesis.specs.Building.{buildingOf, countedOf, tableLeft, Builds}
 use Rattle.synthesis.specs.declared.Counted.the-variants.{Refused}
 use Rattle.running.specs.Calls.{History, noCalls, Calls}
 use Rattle.running.specs.Promises.{Sifted}
@@ -21,7 +21,7 @@ abbrev pub PrintsAnswer : Type 0
 PrintsAnswer =
     (s table : List ℕ) (r : EquationsResult) → Bytes s → Shows s table r → r .written ≡ true →
     let outcome = buildingOf 128 s (length table) in
-    let after = tableAfter 255 outcome table in
+    let after = tableLeft 128 255 s table in
     printed (r .answer) (readingOf (ruleOf s) .rule) after (r .lines) ≡ textFor outcome after
 
 -- 2. The 4,096 bytes that each program reads of a rule file settle the answer to the whole of it.

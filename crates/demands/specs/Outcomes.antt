@@ -6,7 +6,7 @@ use mathlib.Core.Logic.{_↔_}
 use mathlib.Core.List.{List}
 use lib.ListN.{length}
 use Rattle.reading.specs.File.{Outcome}
-use Rattle.synthesis.specs.Building.{Synthesis, synthesisOf, buildingOf, tableAfter}
+use Rattle.synthesis.specs.Building.{Synthesis, synthesisOf, buildingOf, tableLeft}
 use Rattle.running.specs.Running.{Run}
 use Rattle.running.specs.Calls.{Call, outcomeOf}
 use Rattle.running.specs.declared.State.{State}
@@ -23,7 +23,7 @@ abbrev pub building : (s table : List ℕ) → Outcome Synthesis
 building s table = buildingOf 128 s (length table)
 
 abbrev pub tableBuilt : (s table : List ℕ) → List ℕ
-tableBuilt s table = tableAfter 255 (building s table) table
+tableBuilt s table = tableLeft 128 255 s table
 
 -- a call of a run with this state
 abbrev pub running : State → Call → Outcome Run
@@ -42,6 +42,6 @@ tableAfterJudging s table f = tableJudged (judging s table f) (tableBuilt s tabl
 abbrev pub Exactly {ℓ} : {A : Type 0} → (answer : A) → (Refused : ℕ → ℕ → A) → (Clause : ℕ → ℕ → Type ℓ) → Type ℓ
 Exactly answer Refused Clause = (number place : ℕ) → (answer ≡ Refused number place) ↔ Clause number place
 
--- Where an answer refuses, something holds.
+-- Where an answer refuses, with whatever number and place, this holds.
 abbrev pub WhereRefused : {A : Type 0} → (answer : A) → (Refused : ℕ → ℕ → A) → Type 0 → Type 0
 WhereRefused answer Refused Claim = (number place : ℕ) → answer ≡ Refused number place → Claim

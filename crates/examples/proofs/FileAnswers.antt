@@ -11,12 +11,12 @@ use Rattle.reading.specs.File.{accepted, refused, ruleOf}
 use Rattle.synthesis.specs.Answering.{answerOf, unsatisfiable}
 use Rattle.synthesis.specs.Monitor.{rowOf}
 use Rattle.synthesis.specs.Table.{entriesOf}
-use Rattle.synthesis.specs.Building.{equationsOf, withEquations, synthesisOf, countedOf, Builds}
+use Rattle.synthesis.specs.Building.{equationsOf, withEquations, synthesisOf, countedOf, tableLeft, Builds}
 use Rattle.synthesis.specs.declared.Counted.{Counted}
 use Rattle.synthesis.specs.declared.Counted.the-variants.{Equations, Refused}
 use Rattle.synthesis.proofs.Tables.FilledTables.{filled-row}
 use Rattle.synthesis.proofs.Tables.Synthesized.{accepts-with-equations, refuses-eight, building-enough}
-use Rattle.examples.specs.Examples.{tableLeft, Answers, Refuses, Reads}
+use Rattle.examples.specs.Examples.{Answers, Refuses, Reads}
 
 module _ (s : List ℕ) where
   -- with room for the rows, building answers as counting does
@@ -39,13 +39,13 @@ module _ (s : List ℕ) where
       reads = record { reading = read; answers = answers (Equations (length l)) (rw (synthesis, equations)) }
 
       pub row-left : (table : List ℕ) → 32768 ≤ length table → (k : ℕ) → k < length l
-          → rowOf 256 (tableLeft s table) k ≡ entriesOf 255 (answerOf r) l (getD l k 0) 256
+          → rowOf 256 (tableLeft 128 255 s table) k ≡ entriesOf 255 (answerOf r) l (getD l k 0) 256
       row-left table room k h =
           rw (building-enough 128 s (length table) room, synthesis, equations)
           (filled-row 255 (answerOf r) l 256 table (omega arith) k h)
 
 -- a file that is read and counted builds
 pub reads-builds : (s : List ℕ) (r : Rule) (n : ℕ) → Reads s r (Equations n) → Bytes s → (table : List ℕ) → 32768 ≤ length table
-    → Builds 128 255 s table r n (tableLeft s table)
+    → Builds 128 255 s table r n (tableLeft 128 255 s table)
 reads-builds s r n file bytes table room =
     record { below = omega arith; bytes = bytes; read = file .reading; counted = file .answers .building table room; left-is = refl }

@@ -10,10 +10,9 @@ use Rattle.reading.specs.Rule.{Rule}
 use Rattle.reading.specs.File.{accepted, ruleOf}
 use Rattle.synthesis.specs.Answering.{answerOf, unsatisfiable}
 use Rattle.synthesis.specs.Table.{entriesOf}
-use Rattle.synthesis.specs.Building.{equationsOf}
+use Rattle.synthesis.specs.Building.{equationsOf, tableLeft}
 use Rattle.listing.specs.Runs.{runs}
 use Rattle.listing.specs.Lines.{patternsLine, patternLines, equationsLine, runLines, rowLines, listing}
-use Rattle.examples.specs.Examples.{tableLeft}
 use Rattle.examples.specs.NumberingExamples.{Numbers}
 use Rattle.examples.proofs.FileAnswers.{reads, row-left}
 
@@ -30,7 +29,7 @@ listingOf r sets =
 module _ (s : List ℕ) (r : Rule) (sets lines : List ℕ)
     (read : ruleOf s ≡ accepted r) (satisfiable : unsatisfiable r ≡ false) (equations : equationsOf 128 r ≡ sets) (few : length sets ≤ 128) where
   row-lines : (table : List ℕ) → 32768 ≤ length table → (k many : ℕ) → k + many ≤ length sets
-      → rowLines (tableLeft s table) k many ≡ linesOf r sets k many
+      → rowLines (tableLeft 128 255 s table) k many ≡ linesOf r sets k many
   unfolding rowLines
   row-lines table room k zero h = refl
   row-lines table room k (suc many) h =

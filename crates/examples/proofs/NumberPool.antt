@@ -11,12 +11,12 @@ use Rattle.synthesis.specs.Answering.{firstOf, answerOf, unsatisfiable}
 use Rattle.synthesis.specs.Search.{explored, found}
 use Rattle.synthesis.specs.Monitor.{rowOf}
 use Rattle.synthesis.specs.Table.{entriesOf}
-use Rattle.synthesis.specs.Building.{equationsOf, Builds}
+use Rattle.synthesis.specs.Building.{equationsOf, tableLeft, Builds}
 use Rattle.running.specs.Running.{start, Run, runFrom, runOf, occurrences}
 use Rattle.running.proofs.Refusals.{runs-on-tables}
 use Rattle.listing.specs.Text.{decimalIn, decimal}
 use Rattle.listing.specs.Lines.{rowLines, listing}
-use Rattle.examples.specs.Examples.{tableLeft, poolFile, poolRule, NumberPool, poolListing, PoolRows, PoolTable}
+use Rattle.examples.specs.Examples.{poolFile, poolRule, NumberPool, poolListing, PoolRows, PoolTable}
 use Rattle.examples.specs.Examples.{poolScans, poolRun, RunsPool, PoolScans}
 use Rattle.examples.proofs.FileAnswers.{reads, row-left, reads-builds}
 use Rattle.examples.proofs.RunAnswers.{run-left}
@@ -48,23 +48,23 @@ number-pool = record {
 
 -- ---- its table
 
-pub pool-builds : (table : List ℕ) → 32768 ≤ length table → Builds 128 255 poolFile table poolRule 3 (tableLeft poolFile table)
+pub pool-builds : (table : List ℕ) → 32768 ≤ length table → Builds 128 255 poolFile table poolRule 3 (tableLeft 128 255 poolFile table)
 pool-builds = reads-builds poolFile poolRule 3 (number-pool .file) (search arith)
 
-pool-rows : (table : List ℕ) → 32768 ≤ length table → PoolRows (tableLeft poolFile table)
+pool-rows : (table : List ℕ) → 32768 ≤ length table → PoolRows (tableLeft 128 255 poolFile table)
 unfolding entriesOf answerOf bit covers
 pool-rows table room = record { row-0 = row 0 (omega arith); row-1 = row 1 (omega arith); row-2 = row 2 (omega arith) }
   where
     row : (k : ℕ) → k < 3
-        → rowOf 256 (tableLeft poolFile table) k ≡ entriesOf 255 (answerOf poolRule) poolEquations (getD poolEquations k 0) 256
+        → rowOf 256 (tableLeft 128 255 poolFile table) k ≡ entriesOf 255 (answerOf poolRule) poolEquations (getD poolEquations k 0) 256
     row = row-left poolFile poolRule pool-read pool-satisfiable poolEquations pool-equations (omega arith) table room
 
 pool-listed : (table : List ℕ) → PoolRows table → listing (map extentOf (poolRule .patterns)) 3 table ≡ poolListing
 unfolding decimal decimalIn listing rowLines bit covers least countBelow
 pool-listed table rows = rw (rows .row-0, rows .row-1, rows .row-2)
 
-pub pool-table : (table : List ℕ) → 32768 ≤ length table → PoolTable (tableLeft poolFile table)
-pool-table table room = let rows = pool-rows table room in record { rows = rows; listed = pool-listed (tableLeft poolFile table) rows }
+pub pool-table : (table : List ℕ) → 32768 ≤ length table → PoolTable (tableLeft 128 255 poolFile table)
+pool-table table room = let rows = pool-rows table room in record { rows = rows; listed = pool-listed (tableLeft 128 255 poolFile table) rows }
 
 -- ---- the paper's scans
 
@@ -76,12 +76,12 @@ runs-pool : (outcome : Outcome Run) → outcome ≡ accepted poolRun → RunsPoo
 unfolding occurrences
 runs-pool outcome e = record { accepts = e; handed-back = rw e; output = λ bytes. rw e; verdicts = λ bytes. rw e }
 
-pub pool-scans : (table : List ℕ) → 32768 ≤ length table → PoolScans (tableLeft poolFile table)
+pub pool-scans : (table : List ℕ) → 32768 ≤ length table → PoolScans (tableLeft 128 255 poolFile table)
 pool-scans table room = record {
-  enough = λ output verdicts h k. runs-pool (runOf 128 255 (tableLeft poolFile table) 3 start poolScans output verdicts)
+  enough = λ output verdicts h k. runs-pool (runOf 128 255 (tableLeft 128 255 poolFile table) 3 start poolScans output verdicts)
       (run-left (pool-builds table room) poolScans poolRun followed-so output verdicts h k);
-  short = λ output verdicts. runs-on-tables 128 255 (tableLeft poolFile table) 3 start poolScans output verdicts .short .1;
+  short = λ output verdicts. runs-on-tables 128 255 (tableLeft 128 255 poolFile table) 3 start poolScans output verdicts .short .1;
 }
   where
-    followed-so : runFrom 255 (tableLeft poolFile table) start poolScans ≡ poolRun
-    followed-so = pool-followed (tableLeft poolFile table) (pool-rows table room)
+    followed-so : runFrom 255 (tableLeft 128 255 poolFile table) start poolScans ≡ poolRun
+    followed-so = pool-followed (tableLeft 128 255 poolFile table) (pool-rows table room)

@@ -10,10 +10,9 @@ use Rattle.reading.specs.File.{accepted, patternsAt, formulaAt, formulaOf, rule
 use Rattle.synthesis.specs.Answering.{firstOf, answerOf, unsatisfiable}
 use Rattle.synthesis.specs.Search.{explored, found}
 use Rattle.synthesis.specs.Table.{entriesOf}
-use Rattle.synthesis.specs.Building.{equationsOf}
+use Rattle.synthesis.specs.Building.{equationsOf, tableLeft}
 use Rattle.running.specs.Running.{start, runFrom}
 use Rattle.listing.specs.Text.{decimalIn, decimal}
-use Rattle.examples.specs.Examples.{tableLeft}
 use Rattle.examples.specs.NumberingExamples.{Numbers}
 use Rattle.examples.specs.OverlapExample.{overlapFile, overlapRule, overlapSets, overlapListing, overlapScans, overlapRun, OverlapExample}
 use Rattle.examples.proofs.FileAnswers.{row-left, reads-builds}
@@ -37,7 +36,7 @@ unfolding entriesOf answerOf bit covers least countBelow decimal decimalIn
 overlap-numbers = numbers overlapFile overlapRule overlapSets overlapListing overlap-read overlap-satisfiable overlap-equations (omega arith) refl
 
 -- a row for each equation that the run comes to, in order
-overlap-followed : (table : List ℕ) → 32768 ≤ length table → runFrom 255 (tableLeft overlapFile table) start overlapScans ≡ overlapRun
+overlap-followed : (table : List ℕ) → 32768 ≤ length table → runFrom 255 (tableLeft 128 255 overlapFile table) start overlapScans ≡ overlapRun
 unfolding entriesOf answerOf bit covers
 overlap-followed table room =
     let row = row-left overlapFile overlapRule overlap-read overlap-satisfiable overlapSets overlap-equations (omega arith) table room in

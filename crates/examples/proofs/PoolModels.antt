@@ -12,6 +12,7 @@ use Rattle.reading.specs.Rule.{Formula, falsity, both, necessity, variable, Byt
 use Rattle.reading.specs.File.{accepted}
 use Rattle.synthesis.specs.Violation.{coveredBy, ViolatesRule, by-falsity, by-first, by-code, by-body}
 use Rattle.synthesis.specs.Monitor.{lookup}
+use Rattle.synthesis.specs.Building.{tableLeft}
 use Rattle.enforcement.specs.Model.{Label, silent, code, Walk, stay, silent-first, code-first, Weak, SatisfiesWith, Satisfies, SatisfiesDecided}
 use Rattle.enforcement.specs.Model.{suppressing}
 use Rattle.models.specs.Phone.{Phone, StepIn, modelOf, statesOf, stepsAt, phoneOf}
@@ -23,7 +24,7 @@ use Rattle.models.proofs.Phones.DecidedSets.{decided-satisfies}
 use Rattle.enforcement.proofs.BisimulationLaws.{bisimilar-alike}
 use Rattle.models.proofs.Verdicts.TablesEnforce.{tables-enforce}
 use Rattle.models.proofs.Verdicts.JudgingLaws.{judging-case}
-use Rattle.examples.specs.Examples.{tableLeft, poolFile, poolRule}
+use Rattle.examples.specs.Examples.{poolFile, poolRule}
 use Rattle.examples.specs.ModelExamples.{behind, JudgesPool, breakingFile, breakingPhone, Breaking}
 use Rattle.examples.specs.ModelExamples.{meetingFile, meetingPhone, Meeting, ModelExamples}
 use Rattle.examples.proofs.NumberPool.{pool-builds, pool-table}
@@ -36,9 +37,9 @@ use Rattle.examples.proofs.Distinctions.{distinctions}
 
 module _ (f : List ℕ) (y : Phone) (read : phoneOf f ≡ accepted y) where
   pool-enforces : Bytes f → (table : List ℕ) → 32768 ≤ length table
-      → Enforces poolRule (suppressing (lookup 256 255 (tableLeft poolFile table))) 0 (modelOf y)
+      → Enforces poolRule (suppressing (lookup 256 255 (tableLeft 128 255 poolFile table))) 0 (modelOf y)
   pool-enforces bytes table room =
-      tables-enforce 128 255 poolFile table poolRule 3 (tableLeft poolFile table) (pool-builds table room) f y bytes read .0
+      tables-enforce 128 255 poolFile table poolRule 3 (tableLeft 128 255 poolFile table) (pool-builds table room) f y bytes read .0
 
   pool-judging : (table : List ℕ) → 32768 ≤ length table
       → judgingOf 128 poolFile (length table) f ≡ accepted (record { rule = poolRule; phone = y })
@@ -85,7 +86,7 @@ breaking = record {
   changed = λ table room alike. breaking-unsatisfied (
       bisimilar-alike (modelOf breakingPhone) (behind poolFile table (modelOf breakingPhone)) alike poolRule .1
       (pool-enforces breakingFile breakingPhone breaking-read (search arith) table room .satisfies));
-  drawn = λ table room. drawn-bisimilar (tableLeft poolFile table) (pool-table table room .rows);
+  drawn = λ table room. drawn-bisimilar (tableLeft 128 255 poolFile table) (pool-table table room .rows);
 }
 
 -- ---- the other meets it

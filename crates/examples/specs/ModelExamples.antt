@@ -9,6 +9,7 @@ use Rattle.reading.specs.Rule.{falsity, necessity, Rule}
 use Rattle.reading.specs.File.{accepted}
 use Rattle.synthesis.specs.Violation.{ViolatesRule}
 use Rattle.synthesis.specs.Monitor.{lookup}
+use Rattle.synthesis.specs.Building.{tableLeft}
 use Rattle.synthesis.specs.declared.Counted.the-variants.{Equations}
 use Rattle.enforcement.specs.Model.{code, Model, Walk, Finite, Satisfies, Bisimilar, suppressing, monitored}
 use Rattle.models.specs.Phone.{Phone, modelOf, phoneOf}
@@ -16,7 +17,7 @@ use Rattle.models.specs.Judging.{judgingOf, JudgedAs}
 use Rattle.models.specs.declared.Step.{Step}
 use Rattle.models.specs.declared.Judged.{Judged}
 use Rattle.models.specs.declared.Judged.the-variants.{Meets, Breaks}
-use Rattle.examples.specs.Examples.{pattern, rule, tableLeft, Reads, poolFile, poolRule}
+use Rattle.examples.specs.Examples.{pattern, rule, Reads, poolFile, poolRule}
 
 -- label 256 is silent
 abbrev pub step : (from label to : ℕ) → Step
@@ -24,7 +25,7 @@ step from label to = record { from = from; label = label; to = to }
 
 -- a model behind the table that building leaves of a rule file
 abbrev pub behind : (s table : List ℕ) → Model → Model
-behind s table = monitored (suppressing (lookup 256 255 (tableLeft s table))) 0
+behind s table = monitored (suppressing (lookup 256 255 (tableLeft 128 255 s table))) 0
 
 -- With every table of at least 32,768 bytes this is an answer of judging, and it is the only one.
 abbrev pub JudgesPool : (model : List ℕ) → Judged → Type 0

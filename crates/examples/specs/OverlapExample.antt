@@ -11,7 +11,8 @@ use Rattle.reading.specs.Rule.{falsity, both, necessity, max, variable, Rule}
 use Rattle.reading.specs.File.{accepted}
 use Rattle.running.specs.Running.{start, moved, Run, runOf}
 use Rattle.listing.specs.Text.{text}
-use Rattle.examples.specs.Examples.{pattern, rule, tableLeft}
+use Rattle.synthesis.specs.Building.{tableLeft}
+use Rattle.examples.specs.Examples.{pattern, rule}
 use Rattle.examples.specs.NumberingExamples.{Numbers}
 
 abbrev pub overlapFile : List ℕ
@@ -56,4 +57,4 @@ overlapRun = record {
 pub record OverlapExample : Type 0 where
   pub numbers : Numbers overlapFile overlapRule overlapSets overlapListing
   pub run : (table : List ℕ) → 32768 ≤ length table → (output verdicts : ℕ) → 9 ≤ output → 9 ≤ verdicts
-      → runOf 128 255 (tableLeft overlapFile table) 3 start overlapScans output verdicts ≡ accepted overlapRun
+      → runOf 128 255 (tableLeft 128 255 overlapFile table) 3 start overlapScans output verdicts ≡ accepted overlapRun

@@ -10,7 +10,7 @@ use Rattle.reading.specs.File.{accepted, refused, ruleOf}
 use Rattle.reading.specs.Promises.{OneFault}
 use Rattle.reading.specs.declared.Acceptance.the-variants.{Accepted, Refused as NotAccepted}
 use Rattle.synthesis.specs.Monitor.{lookup}
-use Rattle.synthesis.specs.Building.{buildingOf, countedOf, tableAfter, Builds}
+use Rattle.synthesis.specs.Building.{buildingOf, countedOf, tableLeft, Builds}
 use Rattle.synthesis.specs.Promises.{Closed}
 use Rattle.synthesis.specs.declared.Counted.the-variants.{Equations, Refused}
 use Rattle.enforcement.specs.Model.{Model, Finite, Satisfies, SatisfiesDecided, suppressing}
@@ -57,7 +57,7 @@ pub record TableLeft (answer : Judged) (before built after : List ℕ) : Type 0 
 abbrev pub RefusedUnchanged : Type 0
 RefusedUnchanged =
     (limit mark : ℕ) (s f table : List ℕ) (answer : Judged) → JudgedAs (judgingOf limit s (length table) f) answer →
-    let built = tableAfter mark (buildingOf limit s (length table)) table in
+    let built = tableLeft limit mark s table in
     TableLeft answer table built (tableJudged (judgingOf limit s (length table) f) built table)
 
 -- ---- which rules are accepted

@@ -51,10 +51,14 @@ abbrev pub tableAfter : (mark : ℕ) → Outcome Synthesis → List ℕ → List
 tableAfter mark (accepted y) table = filled mark (answerOf (y .rule)) (y .equations) 256 table
 tableAfter mark (refused number place) table = table
 
+-- what building leaves in a table
+abbrev pub tableLeft : (limit mark : ℕ) → (s table : List ℕ) → List ℕ
+tableLeft limit mark s table = tableAfter mark (buildingOf limit s (length table)) table
+
 -- Building accepts the file s as the rule r, answers n equations and leaves `left` in the table. The mark is no equation's number.
 pub record Builds (limit mark : ℕ) (s table : List ℕ) (r : Rule) (n : ℕ) (left : List ℕ) : Type 0 where
   pub below : limit ≤ mark
   pub bytes : Bytes s
   pub read : ruleOf s ≡ accepted r
   pub counted : countedOf (buildingOf limit s (length table)) ≡ Equations n
-  pub left-is : left ≡ tableAfter mark (buildingOf limit s (length table)) table
+  pub left-is : left ≡ tableLeft limit mark s table

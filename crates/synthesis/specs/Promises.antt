@@ -14,7 +14,7 @@ use Rattle.synthesis.specs.NodeSet.{Has, emptySet}
 use Rattle.synthesis.specs.Opening.{Opens, OpensToFalsity, Answers, IsFirst, ViolatesEquation}
 use Rattle.synthesis.specs.Answering.{opening, opensAround, firstOf, answerOf}
 use Rattle.synthesis.specs.Table.{WellFormedTable}
-use Rattle.synthesis.specs.Building.{equationsOf, Synthesis, synthesisOf, buildingOf, countedOf, tableAfter, Builds}
+use Rattle.synthesis.specs.Building.{equationsOf, Synthesis, synthesisOf, buildingOf, countedOf, tableAfter, tableLeft, Builds}
 use Rattle.synthesis.specs.declared.Counted.the-variants.{Equations, Refused}
 
 -- ---- violation
@@ -91,7 +91,7 @@ RefusedUnchanged =
 abbrev pub BuildsAccepted : Type 0
 BuildsAccepted =
     (limit mark : ℕ) (s table : List ℕ) (n : ℕ) → limit ≤ mark → Bytes s → countedOf (buildingOf limit s (length table)) ≡ Equations n
-    → (r : Rule) × Builds limit mark s table r n (tableAfter mark (buildingOf limit s (length table)) table)
+    → (r : Rule) × Builds limit mark s table r n (tableLeft limit mark s table)
 
 -- 4. The table that building leaves monitors the rule, whatever it held before. The mark for dropped is any number that no equation
 -- has; with 128 and 255 these are the terms of building's contract.

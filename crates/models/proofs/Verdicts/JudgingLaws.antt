@@ -9,7 +9,7 @@ use lib.ListN.{length}
 use Rattle.reading.specs.Rule.{Rule}
 use Rattle.reading.specs.File.{Outcome, accepted, refused}
 use Rattle.reading.proofs.Basics.Outcomes.{then-accepts}
-use Rattle.synthesis.specs.Building.{buildingOf, tableAfter, Builds}
+use Rattle.synthesis.specs.Building.{tableLeft, Builds}
 use Rattle.synthesis.proofs.Tables.Built.{builds-outcome}
 use Rattle.models.specs.Phone.{Phone, phoneOf}
 use Rattle.models.specs.Judging.{RuleAndModel, judgingOf, JudgedAs, tableJudged}
@@ -56,4 +56,4 @@ table-left (refused number place) answer before built q = record { refused = λ 
 
 pub refused-unchanged : RefusedUnchanged
 refused-unchanged limit mark s f table answer judged =
-    table-left (judgingOf limit s (length table) f) answer table (tableAfter mark (buildingOf limit s (length table)) table) judged
+    table-left (judgingOf limit s (length table) f) answer table (tableLeft limit mark s table) judged

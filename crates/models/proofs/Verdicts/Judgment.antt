@@ -12,7 +12,7 @@ use Rattle.reading.specs.File.{Outcome, accepted, refused}
 use Rattle.reading.specs.declared.Acceptance as Acceptance′
 use Rattle.synthesis.specs.Monitor.{lookup}
 use Rattle.synthesis.specs.Table.{WellFormedTable}
-use Rattle.synthesis.specs.Building.{Synthesis, buildingOf, countedOf, tableAfter, Builds}
+use Rattle.synthesis.specs.Building.{Synthesis, buildingOf, countedOf, tableAfter, tableLeft, Builds}
 use Rattle.synthesis.specs.declared.Counted.{Counted}
 use Rattle.synthesis.specs.declared.Counted.the-variants.{Equations, Refused}
 use Rattle.synthesis.proofs.Tables.Synthesized.{counted-refuses}
@@ -39,7 +39,7 @@ module _ (s table f : List ℕ) where
   abbrev Judges : (answer : Judged) → (after : List ℕ) → Type 0
   Judges answer after =
       JudgedAs (judgingOf 128 s (length table) f) answer
-      × (after ≡ tableJudged (judgingOf 128 s (length table) f) (tableAfter 255 (buildingOf 128 s (length table)) table) table)
+      × (after ≡ tableJudged (judgingOf 128 s (length table) f) (tableLeft 128 255 s table) table)
 
   -- ---- a refusal
 
@@ -69,7 +69,7 @@ module _ (s table f : List ℕ) where
       on (refused number′ place′) built e = rw e (building-refused-judges built)
 
   pub judges-rule-refused : {built : Counted} {number place : ℕ} {r : Judged} {after : List ℕ}
-      → built ≡ countedOf (buildingOf 128 s (length table)) → after ≡ tableAfter 255 (buildingOf 128 s (length table)) table
+      → built ≡ countedOf (buildingOf 128 s (length table)) → after ≡ tableLeft 128 255 s table
       → built ≡ Refused number place → r ≡ ruleRefusal built → Judges r after
   judges-rule-refused {number = number} {place} is left told e =
       let building = counted-refuses (buildingOf 128 s (length table)) number place (sym is ∙ told) in
@@ -89,7 +89,7 @@ module _ (s table f : List ℕ) where
 
   pub both-accepted : {reading : ModelReading} {built : Counted} {after : List ℕ} (n : ℕ) → Bytes s → Bytes f
       → reading ≡ modelReadingOf (phoneOf f) → reading .answer ≡ Acceptance′.the-variants.Accepted
-      → built ≡ countedOf (buildingOf 128 s (length table)) → after ≡ tableAfter 255 (buildingOf 128 s (length table)) table
+      → built ≡ countedOf (buildingOf 128 s (length table)) → after ≡ tableLeft 128 255 s table
       → built ≡ Equations n → Accepts after (reading .model)
   both-accepted n rule-bytes bytes read told is left counted =
       let (rule, builds) = builds-accepted 128 255 s table n (omega arith) rule-bytes (sym is ∙ counted) in

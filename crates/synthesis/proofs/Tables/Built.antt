@@ -17,7 +17,7 @@ use Rattle.synthesis.specs.Opening.{Answers}
 use Rattle.synthesis.specs.Answering.{firstOf, answerOf, unsatisfiable}
 use Rattle.synthesis.specs.Search.{indexOf}
 use Rattle.synthesis.specs.Table.{filled, WellFormedTable}
-use Rattle.synthesis.specs.Building.{equationsOf, Synthesis, withEquations, synthesisOf, buildingOf, countedOf, tableAfter, Builds}
+use Rattle.synthesis.specs.Building.{equationsOf, Synthesis, withEquations, synthesisOf, buildingOf, countedOf, tableAfter, tableLeft, Builds}
 use Rattle.synthesis.specs.declared.Counted.the-variants.{Equations}
 use Rattle.synthesis.specs.Promises.{TableMonitors, TableDrops, RefusesViolatedByEmpty, RefusedUnchanged}
 use Rattle.synthesis.specs.Promises.{BuildsAccepted, BuiltWellFormed, EntryAnswers, EntriesAnswer, SameAfterRows, TableRest}
@@ -39,10 +39,6 @@ pub record RunsAs (mark : ℕ) (y : Synthesis) (table w : List ℕ) : Type 0 whe
   pub ends : ended (lookup 256 mark table) 0 w ≡ indexOf (ended (answerOf (y .rule)) (firstOf (y .rule)) w) (y .equations)
 
 module _ (limit mark : ℕ) (s table : List ℕ) where
-  -- the table that building leaves
-  abbrev pub left : List ℕ
-  left = tableAfter mark (buildingOf limit s (length table)) table
-
   -- the table of a rule
   abbrev rowsFor : Rule → List ℕ
   rowsFor r = filled mark (answerOf r) (equationsOf limit r) 256 table
@@ -56,7 +52,7 @@ module _ (limit mark : ℕ) (s table : List ℕ) where
 
   -- what holds of the table of each rule that is admitted, holds of what building leaves
   leaves-admitted : (P : Synthesis → List ℕ → Type 0) → ((r : Rule) → Admits r → P (withEquations limit r) (rowsFor r)) → (y : Synthesis)
-      → buildingOf limit s (length table) ≡ accepted y → P y left
+      → buildingOf limit s (length table) ≡ accepted y → P y (tableLeft limit mark s table)
   leaves-admitted P holds y e =
       let enough = building-accepts limit s (length table) y e in
       rw e
@@ -64,7 +60,7 @@ module _ (limit mark : ℕ) (s table : List ℕ) where
       (λ r read satisfiable few. holds r (record { read = read; satisfiable = satisfiable; few = few; room = omega (arith, enough .0) })) y
       (enough .1))
 
-  pub accepted-well-formed : (y : Synthesis) → buildingOf limit s (length table) ≡ accepted y → WellFormedTable limit mark (length (y .equations)) left
+  pub accepted-well-formed : (y : Synthesis) → buildingOf limit s (length table) ≡ accepted y → WellFormedTable limit mark (length (y .equations)) (tableLeft limit mark s table)
   accepted-well-formed = leaves-admitted (λ y t. WellFormedTable limit mark (length (y .equations)) t) λ r admits.
       let l = equationsOf limit r in
       record {
@@ -76,7 +72,7 @@ module _ (limit mark : ℕ) (s table : List ℕ) where
         };
       }
 
-  pub built-rest : (y : Synthesis) → buildingOf limit s (length table) ≡ accepted y → SameAfterRows (length (y .equations)) table left
+  pub built-rest : (y : Synthesis) → buildingOf limit s (length table) ≡ accepted y → SameAfterRows (length (y .equations)) table (tableLeft limit mark s table)
   built-rest = leaves-admitted (λ y t. SameAfterRows (length (y .equations)) table t) λ r admits.
       let l = equationsOf limit r in
       record { long = filled-length mark (answerOf r) l 256 table (admits .room); rest = filled-rest mark (answerOf r) l 256 table }
@@ -88,7 +84,7 @@ module _ (limit mark : ℕ) (s table : List ℕ) where
         table-renames 256 mark (answerOf r) (equationsOf limit r) (equations-closed limit r (admits .few)) table (admits .room)
         (omega (arith, admits .few))
 
-    pub built-runs : (w : List ℕ) → Bytes w → (y : Synthesis) → buildingOf limit s (length table) ≡ accepted y → RunsAs mark y left w
+    pub built-runs : (w : List ℕ) → Bytes w → (y : Synthesis) → buildingOf limit s (length table) ≡ accepted y → RunsAs mark y (tableLeft limit mark s table) w
     built-runs w bytes = leaves-admitted (λ y t. RunsAs mark y t w) λ r admits.
         let l = equationsOf limit r in
         let t = lookup 256 mark (rowsFor r) in
@@ -101,7 +97,7 @@ module _ (limit mark : ℕ) (s table : List ℕ) where
         }
 
     module _ (bytes : Bytes s) where
-      pub built-monitors : (y : Synthesis) → buildingOf limit s (length table) ≡ accepted y → Monitors (y .rule) (lookup 256 mark left) 0
+      pub built-monitors : (y : Synthesis) → buildingOf limit s (length table) ≡ accepted y → Monitors (y .rule) (lookup 256 mark (tableLeft limit mark s table)) 0
       built-monitors = leaves-admitted (λ y t. Monitors (y .rule) (lookup 256 mark t) 0) λ r admits.
           let l = equationsOf limit r in
           let t = lookup 256 mark (rowsFor r) in
@@ -111,7 +107,7 @@ module _ (limit mark : ℕ) (s table : List ℕ) where
           (renamed-monitors r (λ e. Member e l) (answerOf r) t (λ e. indexOf e l) renames (firstOf r) (first-member limit r) monitors)
 
       pub built-answers : (k c : ℕ) → c < 256 → (y : Synthesis) → buildingOf limit s (length table) ≡ accepted y → k < length (y .equations)
-          → EntryAnswers (y .rule) (y .equations) k c (lookup 256 mark left k c)
+          → EntryAnswers (y .rule) (y .equations) k c (lookup 256 mark (tableLeft limit mark s table) k c)
       built-answers k c b =
           leaves-admitted (λ y t. k < length (y .equations) → EntryAnswers (y .rule) (y .equations) k c (lookup 256 mark t k c)) λ r admits h.
           let l = equationsOf limit r in
@@ -123,12 +119,12 @@ module _ (limit mark : ℕ) (s table : List ℕ) where
 -- ---- from the count alone, whatever the mark
 
 module _ (limit mark : ℕ) (s table : List ℕ) (n : ℕ) (e : countedOf (buildingOf limit s (length table)) ≡ Equations n) where
-  pub counted-well-formed : WellFormedTable limit mark n (left limit mark s table)
+  pub counted-well-formed : WellFormedTable limit mark n (tableLeft limit mark s table)
   counted-well-formed =
       let y = counted-accepts (buildingOf limit s (length table)) n e in
       rw (y .2) (accepted-well-formed limit mark s table (y .0) (y .1))
 
-  pub counted-rest : SameAfterRows n table (left limit mark s table)
+  pub counted-rest : SameAfterRows n table (tableLeft limit mark s table)
   counted-rest =
       let y = counted-accepts (buildingOf limit s (length table)) n e in
       rw (y .2) (built-rest limit mark s table (y .0) (y .1))
@@ -152,7 +148,7 @@ builds-accepted limit mark s table n below bytes e =
 -- A file builds as a rule exactly where it is the encoding of that rule, within the limits, and is counted.
 pub builds-iff : (limit mark : ℕ) (s table : List ℕ) (r : Rule) (n : ℕ) (after : List ℕ) → limit ≤ mark
     → Builds limit mark s table r n after
-    ↔ (RuleWithinLimits r × (s ≡ encode r) × (countedOf (buildingOf limit s (length table)) ≡ Equations n) × (after ≡ left limit mark s table))
+    ↔ (RuleWithinLimits r × (s ≡ encode r) × (countedOf (buildingOf limit s (length table)) ≡ Equations n) × (after ≡ tableLeft limit mark s table))
 builds-iff limit mark s table r n after below = (
   λ b. let (within, is) = reading-accepts s (b .bytes) r .0 (b .read) in (within, is, b .counted, b .left-is),
   λ (within, is, counted, left-is).
@@ -162,9 +158,9 @@ builds-iff limit mark s table r n after below = (
 
 -- the encoding of a rule builds as that rule
 pub builds-encoded : (limit mark : ℕ) (r : Rule) (table : List ℕ) (n : ℕ) → limit ≤ mark → RuleWithinLimits r
-    → countedOf (buildingOf limit (encode r) (length table)) ≡ Equations n → Builds limit mark (encode r) table r n (left limit mark (encode r) table)
+    → countedOf (buildingOf limit (encode r) (length table)) ≡ Equations n → Builds limit mark (encode r) table r n (tableLeft limit mark (encode r) table)
 builds-encoded limit mark r table n below within e =
-    builds-iff limit mark (encode r) table r n (left limit mark (encode r) table) below .1 (within, refl, e, refl)
+    builds-iff limit mark (encode r) table r n (tableLeft limit mark (encode r) table) below .1 (within, refl, e, refl)
 
 module _ {limit mark : ℕ} {s table : List ℕ} {r : Rule} {n : ℕ} {after : List ℕ} (b : Builds limit mark s table r n after) where
   -- the outcome is that of the rule
