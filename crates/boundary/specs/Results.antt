@@ -5,7 +5,7 @@ use mathlib.Core.Path.{_≡_}
 use Rattle.reading.specs.File.{Outcome}
 use Rattle.synthesis.specs.declared.Counted.{Counted}
 use Rattle.synthesis.specs.declared.Counted as Counted′
-use Rattle.running.specs.Running.{Run, resultOf}
+use Rattle.running.specs.Running.{start, moved, Run, resultOf}
 use Rattle.running.specs.declared.State.{State}
 use Rattle.running.specs.declared.Checked.{Checked}
 use Rattle.running.specs.declared.Checked as Checked′
@@ -32,6 +32,10 @@ judgedResult (Judged′.the-variants.Refused number place) = record { number = n
 abbrev pub checkedNumber : Checked → ℕ
 checkedNumber Checked′.the-variants.Fit = 0
 checkedNumber (Checked′.the-variants.Refused number place) = number
+
+-- the state of a run, which a C program has as the number of its equation
+abbrev pub stateOf : (equation : ℕ) → State
+stateOf equation = moved start equation
 
 -- what a run from the state s hands back, each part by itself
 pub record IsRun (s : State) (outcome : Outcome Run) (number equation kept dropped : ℕ) : Type 0 where

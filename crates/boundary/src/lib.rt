@@ -10,7 +10,7 @@ ghost use lib.ListN.{length};
 ghost use Rattle.synthesis.specs.Building.{buildingOf, countedOf, tableAfter};
 ghost use Rattle.running.specs.Running.{runOf, outputAfter, verdictsAfter};
 ghost use Rattle.models.specs.Judging.{judgingOf, JudgedAs, tableJudged};
-ghost use Rattle.boundary.specs.Results.{countedResult, judgedResult, checkedNumber, IsRun};
+ghost use Rattle.boundary.specs.Results.{countedResult, judgedResult, checkedNumber, stateOf, IsRun};
 
 // Fills a table as building does. Answers 0, with the count of equations in `value`, or the number of a refusal, with its place.
 #[no_mangle]
@@ -86,13 +86,13 @@ pub extern "C" fn jarveun_run(
     kept: &mut usize,
     dropped: &mut usize,
 ) -> u8
-    ensures { λ r. ⌜ IsRun (record { equation = now (equation .entry) })
-        (runOf 128 255 (now (table .entry)) count (record { equation = now (equation .entry) })
+    ensures { λ r. ⌜ IsRun (stateOf (now (equation .entry)))
+        (runOf 128 255 (now (table .entry)) count (stateOf (now (equation .entry)))
         (now (scans .entry)) (length (now (output .entry))) (length (now (verdicts .entry))))
         r (now (equation .exit)) (now (kept .exit)) (now (dropped .exit)) ⌝ }
-    ensures { λ _. ⌜ now (output .exit) ≡ outputAfter (runOf 128 255 (now (table .entry)) count (record { equation = now (equation .entry) })
+    ensures { λ _. ⌜ now (output .exit) ≡ outputAfter (runOf 128 255 (now (table .entry)) count (stateOf (now (equation .entry)))
         (now (scans .entry)) (length (now (output .entry))) (length (now (verdicts .entry)))) (now (output .entry)) ⌝ }
-    ensures { λ _. ⌜ now (verdicts .exit) ≡ verdictsAfter (runOf 128 255 (now (table .entry)) count (record { equation = now (equation .entry) })
+    ensures { λ _. ⌜ now (verdicts .exit) ≡ verdictsAfter (runOf 128 255 (now (table .entry)) count (stateOf (now (equation .entry)))
         (now (scans .entry)) (length (now (output .entry))) (length (now (verdicts .entry)))) (now (verdicts .entry)) ⌝ }
 {
     let state = State {

@@ -1,4 +1,5 @@
--- Lines that lead from one position to the next: one more of them, and their text.
+-- Lines that lead from one position to the next: each that isn't empty leads to a later position, and the text of some lines and more after them is
+-- that of the lines, then that of the others.
 use mathlib.Core.Path.{_≡_, refl, sym, _∙_}
 use mathlib.Core.List.{List, [], _++_, append-assoc, append-nil}
 use Prim.Native.Nat.{ℕ, zero, suc, _+_, _*_, _≤_, _<_}
@@ -23,12 +24,12 @@ pub record LeadsOn (rule : NumberedRule) (table : List ℕ) (count lines at at�
   pub on : at < at′
 
 module _ {rule : NumberedRule} {table : List ℕ} {count : ℕ} where
-  pub no-lines : Leads rule table count 0 0
-  no-lines = record { lead = first; fewer = omega arith; inside = omega arith }
+  pub leads-none : Leads rule table count 0 0
+  leads-none = record { lead = first; fewer = omega arith; inside = omega arith }
 
-  pub one-more : {lines at : ℕ} {l : ListingLine} → Leads rule table count lines at → l ≡ listingLineAt rule table count at
+  pub leads-next : {lines at : ℕ} {l : ListingLine} → Leads rule table count lines at → l ≡ listingLineAt rule table count at
       → (l .line .len ≡ 0 → ⊥) → LeadsOn rule table count lines at (l .next)
-  one-more {lines} {at} w e some =
+  leads-next {lines} {at} w e some =
       let after = later rule table count at (rw e at some) in
       rw e
       (record {
@@ -39,38 +40,38 @@ module _ {rule : NumberedRule} {table : List ℕ} {count : ℕ} where
 -- ---- their text
 
 module _ (rule : NumberedRule) (table : List ℕ) (count : ℕ) where
-  abbrev from : (most at : ℕ) → List ℕ
-  from most at = linesFrom rule table count most at
+  abbrev linesAt : (most at : ℕ) → List ℕ
+  linesAt most at = linesFrom rule table count most at
 
   -- a line that isn't empty, and those after it
-  one-line : (most at : ℕ) → (listingLineAt rule table count at .line .len ≡ 0 → ⊥)
-      → from (suc most) at ≡ textOf (listingLineAt rule table count at .line) ++ from most (listingLineAt rule table count at .next)
+  lines-suc : (most at : ℕ) → (listingLineAt rule table count at .line .len ≡ 0 → ⊥)
+      → linesAt (suc most) at ≡ textOf (listingLineAt rule table count at .line) ++ linesAt most (listingLineAt rule table count at .next)
   unfolding linesFrom
-  one-line most at some = rw (ne-eqb _ 0 some)
+  lines-suc most at some = rw (ne-eqb _ 0 some)
 
-  no-line : (most at : ℕ) → listingLineAt rule table count at .line .len ≡ 0 → from most at ≡ []
+  lines-none : (most at : ℕ) → listingLineAt rule table count at .line .len ≡ 0 → linesAt most at ≡ []
   unfolding linesFrom
-  no-line zero at e = refl
-  no-line (suc most) at e = rw (eq-eqb _ 0 e)
+  lines-none zero at e = refl
+  lines-none (suc most) at e = rw (eq-eqb _ 0 e)
 
-  none-yet : (at : ℕ) → from 0 at ≡ []
+  lines-zero : (at : ℕ) → linesAt 0 at ≡ []
   unfolding linesFrom
-  none-yet at = refl
+  lines-zero at = refl
 
   -- lines that lead to a position, and so many from there on
-  lines-apart : {lines at : ℕ} → LeadTo rule table count lines at → (more : ℕ) → from (lines + more) 0 ≡ from lines 0 ++ from more at
-  lines-apart first more =
+  lines-add : {lines at : ℕ} → LeadTo rule table count lines at → (more : ℕ) → linesAt (lines + more) 0 ≡ linesAt lines 0 ++ linesAt more at
+  lines-add first more =
       let all : 0 + more ≡ more = omega arith in
-      rw (all, none-yet 0)
-  lines-apart (next {lines} {at} lead some) more =
+      rw (all, lines-zero 0)
+  lines-add (next {lines} {at} lead some) more =
       let l = listingLineAt rule table count at in
       let one : suc lines ≡ lines + 1 = sym (add-one lines) in
       let all : suc lines + more ≡ lines + suc more = omega arith in
       rw
-      (all, one, lines-apart lead 1, lines-apart lead (suc more), one-line more at some, one-line 0 at some, none-yet (l .next), append-nil)
-      (sym (append-assoc (from lines 0) (textOf (l .line)) (from more (l .next))))
+      (all, one, lines-add lead 1, lines-add lead (suc more), lines-suc more at some, lines-suc 0 at some, lines-zero (l .next), append-nil)
+      (sym (append-assoc (linesAt lines 0) (textOf (l .line)) (linesAt more (l .next))))
 
   -- where no line follows, more turns don't give more
-  pub no-more : {lines at : ℕ} → LeadTo rule table count lines at → listingLineAt rule table count at .line .len ≡ 0 → (more : ℕ)
-      → from lines 0 ≡ from (lines + more) 0
-  no-more {lines} {at} lead e more = sym (lines-apart lead more ∙ rw (no-line more at e) (append-nil (from lines 0)))
+  pub lines-end : {lines at : ℕ} → LeadTo rule table count lines at → listingLineAt rule table count at .line .len ≡ 0 → (more : ℕ)
+      → linesAt lines 0 ≡ linesAt (lines + more) 0
+  lines-end {lines} {at} lead e more = sym (lines-add lead more ∙ rw (lines-none more at e) (append-nil (linesAt lines 0)))

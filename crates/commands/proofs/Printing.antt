@@ -1,4 +1,5 @@
--- What `equations` prints is the text that is due, and the bytes that a program reads settle its answer.
+-- What `equations` prints is the text that is due: where printing stops no line follows, so the lines are all of the listing. The bytes that a
+-- program reads settle its answer, since reading looks at no more.
 use mathlib.Core.Path.{_≡_, refl, _∙_}
 use mathlib.Core.Bool.{true}
 use mathlib.Core.List.{List}
@@ -18,7 +19,7 @@ use Rattle.listing.specs.Positions.{linesFrom}
 use Rattle.listing.proofs.AllLines.{lists-rule}
 use Rattle.commands.specs.Printing.{textFor, ListingStops, Stops, printed}
 use Rattle.commands.specs.Promises.{PrintsAnswer, SettledByBuffer, JudgmentSettledByBuffer}
-use Rattle.commands.proofs.Leading.{no-more}
+use Rattle.commands.proofs.Leading.{lines-end}
 
 -- as many lines as the listing of an accepted rule has are the listing
 accepted-prints : (s table : List ℕ) (lines : ℕ) → Bytes s → (y : Synthesis) → synthesisOf 128 s ≡ accepted y
@@ -28,9 +29,9 @@ accepted-prints s table lines bytes =
     synthesis-accepts 128 s
     (λ y. ListingStops (readingOf (ruleOf s) .rule) table (length (y .equations)) lines true
     → linesFrom (readingOf (ruleOf s) .rule) table (length (y .equations)) lines 0 ≡ textFor (accepted y) table)
-    (λ r read hopeful few stops.
+    (λ r read satisfiable few stops.
     let count = length (equationsOf 128 r) in
-    no-more (readingOf (ruleOf s) .rule) table count (stops .lead) (stops .ends refl) (34 + 256 * count)
+    lines-end (readingOf (ruleOf s) .rule) table count (stops .lead) (stops .ends refl) (34 + 256 * count)
     ∙ rw read (lists-rule r table count (lines + (34 + 256 * count)) (reading-accepts s bytes r .0 read .0) (omega arith)))
 
 pub prints-answer : PrintsAnswer

@@ -1,4 +1,5 @@
--- The calls that `sift` makes: one more on the same table, and that under an accepted rule they sift by it.
+-- The calls that `sift` makes: one more on the same well-formed table isn't refused, since calls on it are one run that stays inside it; and under an
+-- accepted rule they sift by it, as all calls on the built table do.
 use Prim.Native.Nat.{ℕ, _≤_}
 use mathlib.Core.Path.{_≡_, refl, ap, _∙_}
 use mathlib.Core.Logic.{inl, inr}
@@ -7,9 +8,10 @@ use native.Mathlib.Omega.{arith}
 use lib.ListN.{length}
 use Rattle.reading.specs.Rule.{Bytes}
 use Rattle.reading.specs.File.{Outcome}
+use Rattle.synthesis.specs.Table.{WellFormedTable}
 use Rattle.synthesis.specs.Building.{Synthesis, countedOf, tableAfter}
 use Rattle.synthesis.specs.declared.Counted.the-variants.{Equations}
-use Rattle.running.specs.Running.{WellFormedTable, runOf, resultOf}
+use Rattle.running.specs.Running.{runOf, resultOf}
 use Rattle.running.specs.Calls.{Call, History, withCall, Calls, none, call, OnTableOrRefused}
 use Rattle.running.specs.declared.State.{State}
 use Rattle.running.proofs.Refusals.{runs-on-tables}
@@ -18,44 +20,49 @@ use Rattle.running.proofs.DemandTwo.{drops-exactly}
 use Rattle.commands.specs.Sifting.{EndsCalls, FitOn, EndsCallsOn, GoesOn, UnderRule}
 use Rattle.commands.specs.Promises.{SiftsByRule, NoCallsRefused}
 
+-- ---- calls on one table
+
 -- fit calls on a table are calls on it
-fit-on : (table : List ℕ) (count : ℕ) (h : History) → Calls 128 255 (FitOn table count) h
+fit-calls-on-table : (table : List ℕ) (count : ℕ) (h : History) → Calls 128 255 (FitOn table count) h
     → Calls 128 255 (OnTableOrRefused 128 255 table count) h
-fit-on table count = calls-weaken 128 255 (λ h c may. inl (may .on))
+fit-calls-on-table table count = calls-weaken 128 255 (λ h c may. inl (may .on))
 
 -- one more call, with room for its scans
-pub one-more : (table : List ℕ) (count : ℕ) (s : State) (scans output verdicts : List ℕ) {s′ : State}
+pub goes-on-by-call : (table : List ℕ) (count : ℕ) (s : State) (scans output verdicts : List ℕ) {s′ : State}
     → length scans ≤ length output → length scans ≤ length verdicts → Bytes scans
     → s′ ≡ resultOf s (runOf 128 255 table count s scans (length output) (length verdicts)) .state → GoesOn table count s s′
-one-more table count s scans output verdicts ro rv bytes e =
+goes-on-by-call table count s scans output verdicts ro rv bytes e =
     inr (record { table = table; count = count; scans = scans; output = output; verdicts = verdicts }, bytes, ro, rv, e)
 
 -- Fit calls, and maybe one more on the same well-formed table: it isn't refused.
-pub goes-on : (table : List ℕ) (count : ℕ) {s s′ : State} → WellFormedTable 128 255 count table → EndsCallsOn table count s
+pub ends-calls-next : (table : List ℕ) (count : ℕ) {s s′ : State} → WellFormedTable 128 255 count table → EndsCallsOn table count s
     → GoesOn table count s s′ → EndsCallsOn table count s′
-goes-on table count wf (h, calls, same) (inl e) = (h, calls, e ∙ same)
-goes-on table count wf (h, calls, same) (inr (x, bytes, ro, rv, e)) =
+ends-calls-next table count wf (h, calls, same) (inl e) = (h, calls, e ∙ same)
+ends-calls-next table count wf (h, calls, same) (inr (x, bytes, ro, rv, e)) =
     let c : Call = record { table = table; count = count; scans = x .scans; output = x .output; verdicts = x .verdicts } in
-    let inside = one-run 128 255 count table wf h (fit-on table count h calls) .inside in
+    let inside = one-run 128 255 count table wf h (fit-calls-on-table table count h calls) .inside in
     let fits = runs-on-tables 128 255 table count (h .state) (x .scans) (length (x .output)) (length (x .verdicts)) .follows ro rv wf inside in (
       withCall 128 255 h c,
       call h c calls bytes (record { on = record { same-rows = refl; same-count = refl }; fit = rw fits }),
       e ∙ ap (λ (s : State). resultOf s (runOf 128 255 table count s (x .scans) (length (x .output)) (length (x .verdicts))) .state) same,
     )
 
+-- ---- calls under a rule
+
 -- calls on the table that building leaves, with its count, are those that `sift` makes under the rule
-pub under-rule : (outcome : Outcome Synthesis) (table : List ℕ) (n : ℕ) {t : List ℕ} {s : State} → t ≡ tableAfter 255 outcome table
+pub ends-calls-under-rule : (outcome : Outcome Synthesis) (table : List ℕ) (n : ℕ) {t : List ℕ} {s : State} → t ≡ tableAfter 255 outcome table
     → countedOf outcome ≡ Equations n → EndsCallsOn t n s → EndsCalls (UnderRule outcome table) s
-under-rule outcome table n same e (h, calls, ends) =
+ends-calls-under-rule outcome table n same e (h, calls, ends) =
     (h, calls-weaken 128 255 (λ h c may. record { count = n; answered = e; fit-on = rw (← same) may }) h calls, ends)
 
 pub sifts-by-rule : SiftsByRule
-sifts-by-rule s table r n bytes read e h calls =
-    drops-exactly 128 255 s table r n (omega arith) bytes read e h
+sifts-by-rule s table r n left b h calls =
+    let counted = b .counted in
+    drops-exactly 128 255 s table r n left b h
     (calls-weaken 128 255
     (λ h c under.
     let k : under .count ≡ n = cc (under .answered) in
-    inl (record { same-rows = rw (← k) (under .fit-on .on .same-rows); same-count = under .fit-on .on .same-count ∙ k })) h calls)
+    inl (record { same-rows = rw (b .left-is, ← k) (under .fit-on .on .same-rows); same-count = under .fit-on .on .same-count ∙ k })) h calls)
 
 pub no-calls-refused : NoCallsRefused
 no-calls-refused s table number place e h none = refl

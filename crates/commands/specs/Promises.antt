@@ -5,10 +5,10 @@ use mathlib.Core.List.{List}
 use Prim.Native.Nat.{ℕ}
 use lib.ListN.{length, take}
 use Rattle.reading.specs.Rule.{Rule, Bytes}
-use Rattle.reading.specs.File.{accepted, ruleOf}
+use Rattle.reading.specs.File.{ruleOf}
 use Rattle.reading.specs.Numbered.{readingOf}
-use Rattle.synthesis.specs.Building.{buildingOf, countedOf, tableAfter}
-use Rattle.synthesis.specs.declared.Counted.the-variants.{Equations, Refused}
+use Rattle.synthesis.specs.Building.{buildingOf, countedOf, tableLeft, Builds}
+use Rattle.synthesis.specs.declared.Counted.the-variants.{Refused}
 use Rattle.running.specs.Calls.{History, noCalls, Calls}
 use Rattle.running.specs.Promises.{Sifted}
 use Rattle.models.specs.Judging.{judgingOf}
@@ -21,7 +21,7 @@ abbrev pub PrintsAnswer : Type 0
 PrintsAnswer =
     (s table : List ℕ) (r : EquationsResult) → Bytes s → Shows s table r → r .written ≡ true →
     let outcome = buildingOf 128 s (length table) in
-    let after = tableAfter 255 outcome table in
+    let after = tableLeft 128 255 s table in
     printed (r .answer) (readingOf (ruleOf s) .rule) after (r .lines) ≡ textFor outcome after
 
 -- 2. The 4,096 bytes that each program reads of a rule file settle the answer to the whole of it.
@@ -35,7 +35,7 @@ JudgmentSettledByBuffer = (s f : List ℕ) (capacity : ℕ) → judgingOf 128 (t
 -- 3. Under an accepted rule, calls as the contract of `sift` has them sift by the rule, however the scans come in blocks.
 abbrev pub SiftsByRule : Type 0
 SiftsByRule =
-    (s table : List ℕ) (r : Rule) (n : ℕ) → Bytes s → ruleOf s ≡ accepted r → countedOf (buildingOf 128 s (length table)) ≡ Equations n
+    (s table : List ℕ) (r : Rule) (n : ℕ) (left : List ℕ) → Builds 128 255 s table r n left
     → (h : History) → Calls 128 255 (UnderRule (buildingOf 128 s (length table)) table) h → Sifted r h
 
 -- Under a refused one there are no calls.

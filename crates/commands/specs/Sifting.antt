@@ -22,7 +22,7 @@ EndsCalls May s = (h : History) × Calls 128 255 May h × (s ≡ h .state)
 -- calls on one table, with its count of equations, that aren't refused
 pub record FitOn (table : List ℕ) (count : ℕ) (h : History) (c : Call) : Type 0 where
   pub on : OnTable table count c
-  pub fit : checkedOf (outcomeOf 128 255 h c) ≡ Fit
+  pub fit : checkedOf (outcomeOf 128 255 (h .state) c) ≡ Fit
 
 abbrev pub EndsCallsOn : (table : List ℕ) → (count : ℕ) → State → Type 0
 EndsCallsOn table count = EndsCalls (FitOn table count)

@@ -12,7 +12,8 @@ ghost use mathlib.Core.List.{List};
 ghost use Prim.Native.Nat.{ℕ, _≤_};
 ghost use lib.ListN.{length};
 ghost use Rattle.reading.specs.Rule.{Bytes};
-ghost use Rattle.running.specs.Running.{WellFormedTable, runOf, resultOf};
+ghost use Rattle.synthesis.specs.Table.{WellFormedTable};
+ghost use Rattle.running.specs.Running.{runOf, resultOf};
 ghost use Rattle.commands.specs.Sifting.{EndsCallsOn, GoesOn, Sifts};
 
 // The state after a block of scans, and whether there may be more.

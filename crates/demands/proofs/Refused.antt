@@ -20,58 +20,59 @@ use Rattle.synthesis.specs.declared.Counted.the-variants as Counted
 use Rattle.synthesis.proofs.Tables.Synthesized.{building-enough, building-short, synthesis-of, counted-refuses}
 use Rattle.synthesis.proofs.Tables.Equations.{refuses-too-many}
 use Rattle.enforcement.specs.Model.{Model, Finite, Satisfies}
-use Rattle.models.proofs.Verdicts.Acceptance.{satisfiable, refuses-unsatisfiable}
+use Rattle.models.proofs.Verdicts.Acceptance.{unrefused-satisfiable, refuses-unsatisfiable}
+use Rattle.demands.specs.Outcomes.{counting, Exactly}
 use Rattle.demands.specs.Refusals.{CountRefused, in-file, unsatisfiable as no-model, too-many, BuildRefused, short-table, in-rule}
 
 module _ (s : List ℕ) (bytes : Bytes s) where
-  abbrev Counts : ℕ → ℕ → Type 0
-  Counts number place = countedOf (synthesisOf 128 s) ≡ Counted.Refused number place
+  abbrev CountRefuses : ℕ → ℕ → Type 0
+  CountRefuses number place = countedOf (synthesisOf 128 s) ≡ Counted.Refused number place
 
   -- ---- counting
 
-  eight : (r : Rule) → ruleOf s ≡ accepted r → Counts 8 0 ↔ ((m : Model) → Finite m → Satisfies m r → ⊥)
-  eight r read = rw (building-enough 128 s 32768 (omega arith)) at (refuses-unsatisfiable 128 s 32768 r bytes (omega arith) read .no-finite)
+  refused-eight-iff : (r : Rule) → ruleOf s ≡ accepted r → CountRefuses 8 0 ↔ ((m : Model) → Finite m → Satisfies m r → ⊥)
+  refused-eight-iff r read = rw (building-enough 128 s 32768 (omega arith)) at (refuses-unsatisfiable 128 s 32768 r bytes (omega arith) read .no-finite)
 
   -- a rule that was read
-  rule-found : (r : Rule) → ruleOf s ≡ accepted r → (number place : ℕ) → synthesisOfRule 128 r ≡ refused number place → CountRefused s number place
-  rule-found r read number place e =
+  rule-refusal-clause : (r : Rule) → ruleOf s ≡ accepted r → (number place : ℕ) → synthesisOfRule 128 r ≡ refused number place → CountRefused s number place
+  rule-refusal-clause r read number place e =
       let (w, is) = reading-accepts s bytes r .0 read in
       let outcome : synthesisOf 128 s ≡ synthesisOfRule 128 r = synthesis-of 128 s r read in
       refuse-refused (CountRefused s) (unsatisfiable r) 8 0 _ e
-      (λ t. no-model r w is (eight r read .0 (rw (outcome, t))))
+      (λ t. no-model r w is (refused-eight-iff r read .0 (rw (outcome, t))))
       (λ f e′.
       refuse-refused (CountRefused s) (ltb 128 (length (equationsOf 128 r))) 9 0 _ e′
       (λ t.
-      let other : Counts 8 0 → ⊥ = λ e″. let z : Counted.Refused 9 0 ≡ Counted.Refused 8 0 = rw (outcome, f, t) at e″ in
+      let other : CountRefuses 8 0 → ⊥ = λ e″. let z : Counted.Refused 9 0 ≡ Counted.Refused 8 0 = rw (outcome, f, t) at e″ in
       let y : _≡_ {A = ℕ} 9 8 = cc in omega arith in
-      let (m, finite, satisfies) = satisfiable 128 s bytes r read other in
+      let (m, finite, satisfies) = unrefused-satisfiable 128 s bytes r read other in
       too-many r w is m finite satisfies (refuses-too-many 128 s r read other .0 (rw (outcome, f, t))))
       (λ f′ e″. absurd (never-refused e″)))
 
-  count-found : (number place : ℕ) → Counts number place → CountRefused s number place
+  count-refusal-clause : (number place : ℕ) → CountRefuses number place → CountRefused s number place
   unfolding synthesisOf
-  count-found number place e =
+  count-refusal-clause number place e =
       andThen-refused (ruleOf s) (synthesisOfRule 128) (counted-refuses (synthesisOf 128 s) number place e)
       (λ e′. in-file (refuses-at-the-fault s bytes number place .0 (answer-refused (ruleOf s) number place .0 e′)))
-      (λ r read e′. rule-found r read number place e′)
+      (λ r read e′. rule-refusal-clause r read number place e′)
 
-  count-refuses : {number place : ℕ} → CountRefused s number place → Counts number place
+  count-clause-refuses : {number place : ℕ} → CountRefused s number place → CountRefuses number place
   unfolding synthesisOf
-  count-refuses {number} {place} (in-file fault) =
+  count-clause-refuses {number} {place} (in-file fault) =
       rw (answer-refused (ruleOf s) number place .1 (refuses-at-the-fault s bytes number place .1 fault))
-  count-refuses (no-model r w is none) = eight r (reading-accepts s bytes r .1 (w, is)) .1 none
-  count-refuses (too-many r w is m finite satisfies over) =
+  count-clause-refuses (no-model r w is none) = refused-eight-iff r (reading-accepts s bytes r .1 (w, is)) .1 none
+  count-clause-refuses (too-many r w is m finite satisfies over) =
       let read = reading-accepts s bytes r .1 (w, is) in
-      refuses-too-many 128 s r read (λ e. eight r read .0 e m finite satisfies) .1 over
+      refuses-too-many 128 s r read (λ e. refused-eight-iff r read .0 e m finite satisfies) .1 over
 
-  pub count-refused : (number place : ℕ) → (countedOf (synthesisOf 128 s) ≡ Counted.Refused number place) ↔ CountRefused s number place
-  count-refused number place = (count-found number place, count-refuses)
+  pub count-refused : Exactly (countedOf (counting s)) Counted.Refused (CountRefused s)
+  count-refused number place = (count-refusal-clause number place, count-clause-refuses)
 
   -- ---- building
 
   module _ (capacity : ℕ) where
-    build-found : (number place : ℕ) → countedOf (buildingOf 128 s capacity) ≡ Counted.Refused number place → BuildRefused s capacity number place
-    build-found number place e = on (ltb capacity 32768) refl
+    build-refusal-clause : (number place : ℕ) → countedOf (buildingOf 128 s capacity) ≡ Counted.Refused number place → BuildRefused s capacity number place
+    build-refusal-clause number place e = on (ltb capacity 32768) refl
       where
         on : (b : Bool) → ltb capacity 32768 ≡ b → BuildRefused s capacity number place
         on true t =
@@ -82,11 +83,11 @@ module _ (s : List ℕ) (bytes : Bytes s) where
             rw (← number-is, ← place-is) (short-table short)
         on false f =
             let long : 32768 ≤ capacity = ltb-false capacity 32768 f in
-            in-rule long (count-found number place (rw (building-enough 128 s capacity long) at e))
+            in-rule long (count-refusal-clause number place (rw (building-enough 128 s capacity long) at e))
 
-    build-refuses : {number place : ℕ} → BuildRefused s capacity number place → countedOf (buildingOf 128 s capacity) ≡ Counted.Refused number place
-    build-refuses (short-table short) = rw (building-short 128 s capacity short)
-    build-refuses (in-rule long fault) = rw (building-enough 128 s capacity long) (count-refuses fault)
+    build-clause-refuses : {number place : ℕ} → BuildRefused s capacity number place → countedOf (buildingOf 128 s capacity) ≡ Counted.Refused number place
+    build-clause-refuses (short-table short) = rw (building-short 128 s capacity short)
+    build-clause-refuses (in-rule long fault) = rw (building-enough 128 s capacity long) (count-clause-refuses fault)
 
-    pub build-refused : (number place : ℕ) → (countedOf (buildingOf 128 s capacity) ≡ Counted.Refused number place) ↔ BuildRefused s capacity number place
-    build-refused number place = (build-found number place, build-refuses)
+    pub build-refused : Exactly (countedOf (buildingOf 128 s capacity)) Counted.Refused (BuildRefused s capacity)
+    build-refused number place = (build-refusal-clause number place, build-clause-refuses)

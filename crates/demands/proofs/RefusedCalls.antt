@@ -1,7 +1,7 @@
--- What running and judging refuse, in the same way.
+-- What running and judging refuse: as for building, a refusal is that of one of the checks, in their order.
 use Prim.Native.Nat.{ℕ}
 use mathlib.Core.Path.{_≡_, refl, ap}
-use mathlib.Core.Logic.{_↔_, inl, inr}
+use mathlib.Core.Logic.{inl, inr}
 use mathlib.Core.Bool.{not}
 use mathlib.Core.List.{List}
 use native.Mathlib.Omega.{arith}
@@ -9,9 +9,11 @@ use lib.ListN.{length}
 use Rattle.reading.specs.Rule.{Bytes}
 use Rattle.reading.specs.File.{Outcome, accepted, refused}
 use Rattle.reading.proofs.Basics.Outcomes.{refuse-refused, never-refused, andThen-refused}
-use Rattle.synthesis.specs.Building.{buildingOf, countedOf}
+use Rattle.synthesis.specs.Building.{countedOf}
 use Rattle.synthesis.proofs.Tables.Synthesized.{building-accepts, counted-accepts, counted-refuses}
 use Rattle.running.specs.Running.{hasRoom, fits, Run, runOf, checkedOf, resultOf}
+use Rattle.running.specs.Calls.{Call}
+use Rattle.running.specs.Promises.{RunsOn}
 use Rattle.running.specs.declared.State.{State}
 use Rattle.running.specs.declared.Checked.the-variants as Checked
 use Rattle.running.proofs.Refusals.{runs-on-tables}
@@ -21,52 +23,50 @@ use Rattle.models.specs.declared.Judged.{Judged}
 use Rattle.models.specs.declared.Judged.the-variants as Judged′
 use Rattle.models.proofs.Verdicts.Acceptance.{accepts-exactly}
 use Rattle.models.proofs.Files.FileFaults.{model-refused, refuses-at-the-fault}
+use Rattle.demands.specs.Outcomes.{building, running, judging, Exactly}
 use Rattle.demands.specs.Refusals.{RunRefused, short-buffer, unfit, JudgeRefused, in-building, in-model}
 use Rattle.demands.proofs.Refused.{build-refused}
-use Rattle.demands.proofs.UnfitTables.{unfit-not-well, found-unfit}
+use Rattle.demands.proofs.UnfitTables.{unfit-not-fit, not-fit-unfit}
 
 -- ---- running
 
-checked-alike : (s : State) (o : Outcome Run) → resultOf s o .checked ≡ checkedOf o
-checked-alike s (accepted y) = refl
-checked-alike s (refused number place) = refl
+result-checked : (s : State) (o : Outcome Run) → resultOf s o .checked ≡ checkedOf o
+result-checked s (accepted y) = refl
+result-checked s (refused number place) = refl
 
 checked-refuses : (o : Outcome Run) (number place : ℕ) → checkedOf o ≡ Checked.Refused number place → o ≡ refused number place
 checked-refuses (accepted y) number place e = let z : _≡_ {A = ℕ} 0 1 = cc in absurd (omega arith)
 checked-refuses (refused m at) number place e = cc
 
-module _ (table : List ℕ) (count : ℕ) (s : State) (scans : List ℕ) (output verdicts : ℕ) where
-  abbrev Refuses : ℕ → ℕ → Type 0
-  Refuses = RunRefused table count s scans output verdicts
+module _ (s : State) (c : Call) where
+  run-on-table : RunsOn 128 255 (c .table) (c .count) s (c .scans) (length (c .output)) (length (c .verdicts))
+  run-on-table = runs-on-tables 128 255 (c .table) (c .count) s (c .scans) (length (c .output)) (length (c .verdicts))
 
-  run-found : (number place : ℕ) → checkedOf (runOf 128 255 table count s scans output verdicts) ≡ Checked.Refused number place → Refuses number place
+  run-refusal-clause : (number place : ℕ) → checkedOf (running s c) ≡ Checked.Refused number place → RunRefused s c number place
   unfolding runOf
-  run-found number place e =
-      let runs = runs-on-tables 128 255 table count s scans output verdicts in
-      refuse-refused Refuses (not (hasRoom scans output verdicts)) 15 0 _ (checked-refuses (runOf 128 255 table count s scans output verdicts) number place e)
-      (λ t. short-buffer (runs .short .0 (rw t)))
+  run-refusal-clause number place e =
+      refuse-refused (RunRefused s c) (not (hasRoom (c .scans) (length (c .output)) (length (c .verdicts)))) 15 0 _
+      (checked-refuses (running s c) number place e)
+      (λ t. short-buffer (run-on-table .short .0 (rw t)))
       (λ f e′.
-      refuse-refused Refuses (not (fits 128 255 table count s)) 16 0 _ e′
-      (λ t. let (room, room′, bad) = runs .unfit .0 (rw (f, t)) in unfit room room′ (found-unfit table count s bad))
+      refuse-refused (RunRefused s c) (not (fits 128 255 (c .table) (c .count) s)) 16 0 _ e′
+      (λ t. let (room, room′, bad) = run-on-table .unfit .0 (rw (f, t)) in unfit room room′ (not-fit-unfit (c .table) (c .count) s bad))
       (λ f′ e″. absurd (never-refused e″)))
 
-  run-refuses : {number place : ℕ} → Refuses number place → checkedOf (runOf 128 255 table count s scans output verdicts) ≡ Checked.Refused number place
-  run-refuses (short-buffer short) = runs-on-tables 128 255 table count s scans output verdicts .short .1 short
-  run-refuses (unfit room room′ bad) =
-      runs-on-tables 128 255 table count s scans output verdicts .unfit .1 (room, room′, unfit-not-well bad)
+  run-clause-refuses : {number place : ℕ} → RunRefused s c number place → checkedOf (running s c) ≡ Checked.Refused number place
+  run-clause-refuses (short-buffer short) = run-on-table .short .1 short
+  run-clause-refuses (unfit room room′ bad) = run-on-table .unfit .1 (room, room′, unfit-not-fit bad)
 
-  pub run-refused : (number place : ℕ)
-      → (resultOf s (runOf 128 255 table count s scans output verdicts) .checked ≡ Checked.Refused number place) ↔ Refuses number place
-  run-refused number place =
-      rw (checked-alike s (runOf 128 255 table count s scans output verdicts)) (run-found number place, run-refuses)
+  pub run-refused : Exactly (resultOf s (running s c) .checked) Checked.Refused (RunRefused s c)
+  run-refused number place = rw (result-checked s (running s c)) (run-refusal-clause number place, run-clause-refuses)
 
   -- where no clause holds, the run isn't refused
-  pub run-fit : ((number place : ℕ) → Refuses number place → ⊥) → resultOf s (runOf 128 255 table count s scans output verdicts) .checked ≡ Checked.Fit
-  run-fit none = on (runOf 128 255 table count s scans output verdicts) refl
+  pub run-fit : ((number place : ℕ) → RunRefused s c number place → ⊥) → resultOf s (running s c) .checked ≡ Checked.Fit
+  run-fit none = on (running s c) refl
     where
-      on : (o : Outcome Run) → runOf 128 255 table count s scans output verdicts ≡ o → resultOf s o .checked ≡ Checked.Fit
+      on : (o : Outcome Run) → running s c ≡ o → resultOf s o .checked ≡ Checked.Fit
       on (accepted y) e = refl
-      on (refused number place) e = absurd (none number place (run-found number place (ap checkedOf e)))
+      on (refused number place) e = absurd (none number place (run-refusal-clause number place (ap checkedOf e)))
 
 -- ---- judging
 
@@ -76,16 +76,16 @@ judged-refuses (accepted x) number place (inr (e, sat)) = let z : _≡_ {A = ℕ
 judged-refuses (refused m at) number place e = cc
 
 -- a refusal is the only answer to its outcome
-one-answer : (o : Outcome RuleAndModel) (answer : Judged) (number place : ℕ) → JudgedAs o answer → JudgedAs o (Judged′.Refused number place)
+refusal-only-answer : (o : Outcome RuleAndModel) (answer : Judged) (number place : ℕ) → JudgedAs o answer → JudgedAs o (Judged′.Refused number place)
     → answer ≡ Judged′.Refused number place
-one-answer o answer number place judged refuses = rw (judged-refuses o number place refuses) at judged
+refusal-only-answer o answer number place judged refuses = rw (judged-refuses o number place refuses) at judged
 
 module _ (s table f : List ℕ) (bytes : Bytes s) (bytes′ : Bytes f) where
-  judge-found : (number place : ℕ) → JudgedAs (judgingOf 128 s (length table) f) (Judged′.Refused number place)
+  judge-refusal-clause : (number place : ℕ) → JudgedAs (judging s table f) (Judged′.Refused number place)
       → JudgeRefused s (length table) f number place
   unfolding judgingOf
-  judge-found number place judged =
-      andThen-refused (buildingOf 128 s (length table)) _ (judged-refuses (judgingOf 128 s (length table) f) number place judged)
+  judge-refusal-clause number place judged =
+      andThen-refused (building s table) _ (judged-refuses (judging s table f) number place judged)
       (λ e. in-building (build-refused s bytes (length table) number place .0 (ap countedOf e)))
       (λ y built e.
       let (room, enough) = building-accepts 128 s (length table) y built in
@@ -95,18 +95,18 @@ module _ (s table f : List ℕ) (bytes : Bytes s) (bytes′ : Bytes f) where
       (refuses-at-the-fault f bytes′ number place .0 (model-refused (phoneOf f) number place .0 e′)))
       (λ p read e′. absurd (never-refused e′)))
 
-  judge-refuses : {number place : ℕ} → JudgeRefused s (length table) f number place
-      → JudgedAs (judgingOf 128 s (length table) f) (Judged′.Refused number place)
+  judge-clause-refuses : {number place : ℕ} → JudgeRefused s (length table) f number place
+      → JudgedAs (judging s table f) (Judged′.Refused number place)
   unfolding judgingOf
-  judge-refuses {number} {place} (in-building b) =
-      rw (counted-refuses (buildingOf 128 s (length table)) number place (build-refused s bytes (length table) number place .1 b))
-  judge-refuses {number} {place} (in-model room a fault) =
+  judge-clause-refuses {number} {place} (in-building b) =
+      rw (counted-refuses (building s table) number place (build-refused s bytes (length table) number place .1 b))
+  judge-clause-refuses {number} {place} (in-model room a fault) =
       let (n, e) = accepts-exactly 128 s table bytes room .1 a in
-      let (y, built, long) = counted-accepts (buildingOf 128 s (length table)) n e in
+      let (y, built, long) = counted-accepts (building s table) n e in
       let read = model-refused (phoneOf f) number place .1 (refuses-at-the-fault f bytes′ number place .1 fault) in
       rw (built, read)
 
-  pub judge-refused : (answer : Judged) → JudgedAs (judgingOf 128 s (length table) f) answer → (number place : ℕ)
-      → (answer ≡ Judged′.Refused number place) ↔ JudgeRefused s (length table) f number place
+  pub judge-refused : (answer : Judged) → JudgedAs (judging s table f) answer
+      → Exactly answer Judged′.Refused (JudgeRefused s (length table) f)
   judge-refused answer judged number place =
-      (λ e. judge-found number place (rw e at judged), λ h. one-answer (judgingOf 128 s (length table) f) answer number place judged (judge-refuses h))
+      (λ e. judge-refusal-clause number place (rw e at judged), λ h. refusal-only-answer (judging s table f) answer number place judged (judge-clause-refuses h))

@@ -2,7 +2,7 @@
 -- order, some byte of the rows isn't in range, and its place says which entry it is.
 use Prim.Native.Nat.{ℕ, _+_, _*_, _/_, _%_, _≤_, _<_}
 use mathlib.Core.Path.{_≡_, refl}
-use mathlib.Core.Logic.{_⊎_, inl, inr}
+use mathlib.Core.Logic.{inl, inr}
 use mathlib.Core.Bool.{Bool, true, false}
 use mathlib.Core.List.{List}
 use native.Mathlib.Decide.{decLt, decLe}
@@ -12,33 +12,39 @@ use lib.Dec.{eqb, ltb}
 use lib.ListN.{length, getD}
 use borrow.Author.Tests.{eqb-false, ltb-false}
 use Rattle.reading.proofs.Basics.Outcomes.{neither}
-use Rattle.running.specs.Running.{inRange, WellFormedTable}
+use Rattle.synthesis.specs.Table.{InRange, WellFormedTable}
+use Rattle.synthesis.proofs.Tables.WellFormedTables.{well-formed-room, well-formed-entry, well-formed-by-bytes}
+use Rattle.running.specs.Running.{inRange}
 use Rattle.running.specs.declared.State.{State}
 use Rattle.running.proofs.Tables.{in-range}
 use Rattle.models.proofs.Phones.BoundedTests.{every, every-fails, every-is}
 use Rattle.demands.specs.Refusals.{Unfit, no-equations, many-equations, no-such-equation, short-rows, bad-entry}
+
+-- ---- what is unfit isn't fit
 
 -- the table is well formed for the count, and the state is under it
 abbrev Fits : (table : List ℕ) → (count : ℕ) → State → Type 0
 Fits table count s = WellFormedTable 128 255 count table × (s .equation < count)
 
 module _ {table : List ℕ} {count : ℕ} {s : State} where
-  pub unfit-not-well : Unfit table count s → Fits table count s → ⊥
-  unfit-not-well (no-equations none) (wf, under) = omega arith
-  unfit-not-well (many-equations many) (wf, under) = omega (arith, wf .few)
-  unfit-not-well (no-such-equation over) (wf, under) = omega arith
-  unfit-not-well (short-rows short) (wf, under) = omega (arith, wf .room)
-  unfit-not-well (bad-entry k c h b room over other) (wf, under) = on (wf .range k c h b)
+  pub unfit-not-fit : Unfit table count s → Fits table count s → ⊥
+  unfit-not-fit (no-equations none) (wf, under) = omega arith
+  unfit-not-fit (many-equations many) (wf, under) = omega (arith, wf .few)
+  unfit-not-fit (no-such-equation over) (wf, under) = omega arith
+  unfit-not-fit (short-rows short) (wf, under) = omega (arith, well-formed-room wf)
+  unfit-not-fit (bad-entry k c h b room over other) (wf, under) = on (well-formed-entry wf k c h b)
     where
-      on : (getD table (256 * k + c) 0 ≡ 255) ⊎ (getD table (256 * k + c) 0 < count) → ⊥
+      on : InRange 255 count (getD table (256 * k + c) 0) → ⊥
       on (inl e) = other e
       on (inr less) = omega arith
 
-module _ (table : List ℕ) (count : ℕ) (s : State) (bad : Fits table count s → ⊥) where
-  abbrev test : ℕ → Bool
-  test i = inRange 255 count (getD table i 0)
+-- ---- what isn't fit is unfit
 
-  entry-unfit : 256 * count ≤ length table → (i : ℕ) → i < 256 * count → test i ≡ false → Unfit table count s
+module _ (table : List ℕ) (count : ℕ) (s : State) (bad : Fits table count s → ⊥) where
+  abbrev entryTest : ℕ → Bool
+  entryTest i = inRange 255 count (getD table i 0)
+
+  entry-unfit : 256 * count ≤ length table → (i : ℕ) → i < 256 * count → entryTest i ≡ false → Unfit table count s
   entry-unfit room i h e =
       let (other, over) = neither (eqb (getD table i 0) 255) (ltb (getD table i 0) count) e in
       let is : 256 * (i / 256) + i % 256 ≡ i = div-add-mod i 256 in
@@ -46,19 +52,21 @@ module _ (table : List ℕ) (count : ℕ) (s : State) (bad : Fits table count s 
       bad-entry (i / 256) (i % 256) (omega arith) code room (rw is (ltb-false _ _ over)) (rw is (eqb-false _ _ other))
 
   rows-unfit : 1 ≤ count → count ≤ 128 → s .equation < count → 256 * count ≤ length table
-      → (b : Bool) → every (256 * count) test ≡ b → Unfit table count s
-  rows-unfit some few under room false q = let (i, h, e) = every-fails (256 * count) test q in entry-unfit room i h e
-  rows-unfit some few under room true q = absurd (bad (record { some = some; few = few; room = room; range = range }, under))
-    where
-      range : (k c : ℕ) → k < count → c < 256 → (getD table (256 * k + c) 0 ≡ 255) ⊎ (getD table (256 * k + c) 0 < count)
-      range k c h b = in-range 255 count (getD table (256 * k + c) 0) .0 (every-is (256 * count) test .0 q (256 * k + c) (omega arith))
+      → (b : Bool) → every (256 * count) entryTest ≡ b → Unfit table count s
+  rows-unfit some few under room false q = let (i, h, e) = every-fails (256 * count) entryTest q in entry-unfit room i h e
+  rows-unfit some few under room true q =
+      absurd (bad (
+        well-formed-by-bytes 128 255 count table some few room
+            (λ i h. in-range 255 count (getD table i 0) .0 (every-is (256 * count) entryTest .0 q i h)),
+        under,
+      ))
 
-  pub found-unfit : Unfit table count s
-  found-unfit = on (decLe 1 count) (decLe count 128) (decLt (s .equation) count) (decLe (256 * count) (length table))
+  pub not-fit-unfit : Unfit table count s
+  not-fit-unfit = on (decLe 1 count) (decLe count 128) (decLt (s .equation) count) (decLe (256 * count) (length table))
     where
       on : Dec (1 ≤ count) → Dec (count ≤ 128) → Dec (s .equation < count) → Dec (256 * count ≤ length table) → Unfit table count s
       on (no none) few under room = no-equations (omega arith)
       on (yes some) (no many) under room = many-equations (omega arith)
       on (yes some) (yes few) (no over) room = no-such-equation (omega arith)
       on (yes some) (yes few) (yes under) (no short) = short-rows (omega arith)
-      on (yes some) (yes few) (yes under) (yes room) = rows-unfit some few under room (every (256 * count) test) refl
+      on (yes some) (yes few) (yes under) (yes room) = rows-unfit some few under room (every (256 * count) entryTest) refl

@@ -8,6 +8,7 @@ use lib.ListN.{length, getD}
 use Rattle.reading.specs.Rule.{Rule, RuleWithinLimits, encode}
 use Rattle.reading.specs.Faults.{Fault as RuleFault}
 use Rattle.synthesis.specs.Promises.{Closed}
+use Rattle.running.specs.Calls.{Call}
 use Rattle.running.specs.declared.State.{State}
 use Rattle.enforcement.specs.Model.{Model, Finite, Satisfies}
 use Rattle.models.specs.Faults.{Fault as ModelFault}
@@ -38,12 +39,12 @@ pub data Unfit (table : List ℕ) (count : ℕ) (s : State) : Type 0 where
   bad-entry : (k c : ℕ) → k < count → c < 256 → 256 * count ≤ length table → count ≤ getD table (256 * k + c) 0
       → (getD table (256 * k + c) 0 ≡ 255 → ⊥) → Unfit table count s
 
--- running, with an output and verdicts of so many bytes
-pub data RunRefused (table : List ℕ) (count : ℕ) (s : State) (scans : List ℕ) (output verdicts : ℕ) : (number place : ℕ) → Type 0 where
+-- running, with this state
+pub data RunRefused (s : State) (c : Call) : (number place : ℕ) → Type 0 where
   -- 15: a buffer is shorter than the scans
-  short-buffer : (output < length scans) ⊎ (verdicts < length scans) → RunRefused table count s scans output verdicts 15 0
+  short-buffer : (length (c .output) < length (c .scans)) ⊎ (length (c .verdicts) < length (c .scans)) → RunRefused s c 15 0
   -- 16: the buffers are long enough, and the table, the count or the state is unfit
-  unfit : length scans ≤ output → length scans ≤ verdicts → Unfit table count s → RunRefused table count s scans output verdicts 16 0
+  unfit : length (c .scans) ≤ length (c .output) → length (c .scans) ≤ length (c .verdicts) → Unfit (c .table) (c .count) s → RunRefused s c 16 0
 
 -- judging a model file under a rule file, with a table of so many bytes
 pub data JudgeRefused (s : List ℕ) (capacity : ℕ) (f : List ℕ) : (number place : ℕ) → Type 1 where

@@ -5,7 +5,7 @@ use Prim.Native.Nat.{ℕ}
 use mathlib.Core.Path.{_≡_, refl}
 use mathlib.Core.List.{List, _∷_}
 use Rattle.synthesis.specs.Monitor.{Answer, dropped, next, Suppresses, now, later}
-use Rattle.synthesis.proofs.Monitors.MonitorLaws.{kept-suppresses}
+use Rattle.synthesis.proofs.Monitors.MonitorLaws.{kept-unsuppressed}
 use Rattle.enforcement.specs.Model.{Label, silent, code, Model, Walk, stay, silent-first, code-first, ByteCodes, Bisimulation}
 use Rattle.enforcement.specs.Model.{Response, PassesKept, silent-step, passed-step, suppressed-step, monitored}
 use Rattle.enforcement.specs.Promises.{MonitorsEnforce, SoundSatisfies}
@@ -23,7 +23,7 @@ module _ {E : Type 0} (answer : E → ℕ → Answer E) (respond : E → ℕ →
     -- ---- behind the monitor nothing is dropped
 
     behind-suppresses : {x y : behind .State} {w : List ℕ} → Walk behind x w y → Suppresses answer (x .1) w → ⊥
-    behind-suppresses {x} k l = let o = walk-came-from answer respond same first m k in kept-suppresses answer (x .1) (o .trace) (rw (← o .kept-is) at l)
+    behind-suppresses {x} k l = let o = walk-came-from answer respond same first m k in kept-unsuppressed answer (x .1) (o .trace) (rw (← o .kept-is) at l)
 
     behind-codes : ByteCodes m → ByteCodes behind
     behind-codes codes x y c (passed-step {s} {t} h q) = codes s t c h

@@ -1,4 +1,5 @@
--- A model that isn't finite, and two that satisfy the same rules and aren't strongly bisimilar.
+-- A model that isn't finite, and two that satisfy the same rules and aren't strongly bisimilar: counting passes every list of states, and of models
+-- without codes only the empty list tells whether they satisfy a rule.
 use Prim.Native.Nat.{ℕ, zero, suc, _+_, _≤_}
 use mathlib.Core.Path.{refl}
 use mathlib.Core.Logic.{_↔_}
@@ -27,14 +28,14 @@ at-most-total [] i = omega arith
 at-most-total (x ∷ l) zero = let h : x ≤ x + total l = omega arith in h
 at-most-total (x ∷ l) (suc i) = let h = at-most-total l i in let k : getD l i 0 ≤ x + total l = omega (arith, h) in k
 
-counts : (n : ℕ) → (w : List ℕ) × Walk counting 0 w n
-counts zero = ([], stay)
-counts (suc n) = let (w, k) = counts n in (_, walk-append counting k (code-first (refl, refl) stay))
+counting-walk : (n : ℕ) → (w : List ℕ) × Walk counting 0 w n
+counting-walk zero = ([], stay)
+counting-walk (suc n) = let (w, k) = counting-walk n in (_, walk-append counting k (code-first (refl, refl) stay))
 
 endless : Finite counting → ⊥
 endless finite =
     let past = suc (total (finite .states)) in
-    let (w, k) = counts past in
+    let (w, k) = counting-walk past in
     let (i, h, e) = finite .listed w past k in
     let small = at-most-total (finite .states) i in
     omega (arith, e, small)
@@ -48,8 +49,8 @@ idle-satisfies : (r : Rule) → Satisfies (modelOf idlePhone) r ↔ (ViolatesRul
 idle-satisfies = quiet-satisfies (modelOf idlePhone) (λ s t a. every-step (λ s a t. Quiet a) (idlePhone .steps) (tt, tt))
 
 -- the number-pool rule begins with a necessity, so a list without codes doesn't violate it
-no-codes : ViolatesRule poolRule [] → ⊥
-no-codes (by-body x) = elim x [ ]
+pool-rule-not-violated : ViolatesRule poolRule [] → ⊥
+pool-rule-not-violated (by-body x) = elim x [ ]
 
 -- ---- the still phone has no silent step
 
@@ -63,6 +64,6 @@ distinctions = record {
   endless = endless;
   idle-finite = phones-finite idlePhone;
   same-rules = λ r. (λ sat. idle-satisfies r .1 (still-satisfies r .0 sat), λ sat. still-satisfies r .1 (idle-satisfies r .0 sat));
-  idle-satisfies = idle-satisfies poolRule .1 no-codes;
+  idle-satisfies = idle-satisfies poolRule .1 pool-rule-not-violated;
   not-bisimilar = not-bisimilar;
 }

@@ -1,4 +1,5 @@
--- The paper's model behind the monitor of the number-pool rule is strongly bisimilar to the phone that is drawn of it.
+-- The paper's model behind the monitor of the number-pool rule is strongly bisimilar to the phone that is drawn of it: each pair of a state and an
+-- equation has the drawn state that stands for it, and their steps match, case by case.
 use Prim.Native.Nat.{ℕ, _<_}
 use mathlib.Core.Path.{_≡_, sym, subst}
 use mathlib.Core.List.{List}

@@ -1,4 +1,5 @@
--- A model file of 512 steps is refused where one more record begins, whatever its kind is.
+-- A model file of 512 steps is refused where one more record begins, whatever its kind is: the steps are read by the law of files that are full, and
+-- not one by one.
 use Prim.Native.Nat.{ℕ, zero, suc, _*_, _+_}
 use mathlib.Core.Path.{_≡_, refl, _∙_}
 use mathlib.Core.Bool.{cond, _||_}

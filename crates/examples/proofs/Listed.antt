@@ -10,10 +10,9 @@ use Rattle.reading.specs.Rule.{Rule}
 use Rattle.reading.specs.File.{accepted, ruleOf}
 use Rattle.synthesis.specs.Answering.{answerOf, unsatisfiable}
 use Rattle.synthesis.specs.Table.{entriesOf}
-use Rattle.synthesis.specs.Building.{equationsOf}
+use Rattle.synthesis.specs.Building.{equationsOf, tableLeft}
 use Rattle.listing.specs.Runs.{runs}
 use Rattle.listing.specs.Lines.{patternsLine, patternLines, equationsLine, runLines, rowLines, listing}
-use Rattle.examples.specs.Examples.{tableLeft}
 use Rattle.examples.specs.NumberingExamples.{Numbers}
 use Rattle.examples.proofs.FileAnswers.{reads, row-left}
 
@@ -28,18 +27,18 @@ listingOf r sets =
     patternsLine (length extents) ++ (patternLines 0 extents ++ (equationsLine (length sets) ++ linesOf r sets 0 (length sets)))
 
 module _ (s : List ℕ) (r : Rule) (sets lines : List ℕ)
-    (read : ruleOf s ≡ accepted r) (hopeful : unsatisfiable r ≡ false) (equations : equationsOf 128 r ≡ sets) (few : length sets ≤ 128) where
+    (read : ruleOf s ≡ accepted r) (satisfiable : unsatisfiable r ≡ false) (equations : equationsOf 128 r ≡ sets) (few : length sets ≤ 128) where
   row-lines : (table : List ℕ) → 32768 ≤ length table → (k many : ℕ) → k + many ≤ length sets
-      → rowLines (tableLeft s table) k many ≡ linesOf r sets k many
+      → rowLines (tableLeft 128 255 s table) k many ≡ linesOf r sets k many
   unfolding rowLines
   row-lines table room k zero h = refl
   row-lines table room k (suc many) h =
-      rw (row-left s r read hopeful sets equations few table room k (omega arith), row-lines table room (suc k) many (omega arith))
+      rw (row-left s r read satisfiable sets equations few table room k (omega arith), row-lines table room (suc k) many (omega arith))
 
   pub numbers : listingOf r sets ≡ lines → Numbers s r sets lines
   unfolding listing
   numbers listed = record {
-    file = reads s r read hopeful sets equations few;
+    file = reads s r read satisfiable sets equations few;
     equations = equations;
     listed = λ table room. rw (row-lines table room 0 (length sets) (omega arith)) listed;
   }

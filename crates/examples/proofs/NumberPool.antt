@@ -11,14 +11,14 @@ use Rattle.synthesis.specs.Answering.{firstOf, answerOf, unsatisfiable}
 use Rattle.synthesis.specs.Search.{explored, found}
 use Rattle.synthesis.specs.Monitor.{rowOf}
 use Rattle.synthesis.specs.Table.{entriesOf}
-use Rattle.synthesis.specs.Building.{equationsOf}
+use Rattle.synthesis.specs.Building.{equationsOf, tableLeft, Builds}
 use Rattle.running.specs.Running.{start, Run, runFrom, runOf, occurrences}
 use Rattle.running.proofs.Refusals.{runs-on-tables}
 use Rattle.listing.specs.Text.{decimalIn, decimal}
 use Rattle.listing.specs.Lines.{rowLines, listing}
-use Rattle.examples.specs.Examples.{tableLeft, poolFile, poolRule, NumberPool, poolListing, PoolRows, PoolTable}
+use Rattle.examples.specs.Examples.{poolFile, poolRule, NumberPool, poolListing, PoolRows, PoolTable}
 use Rattle.examples.specs.Examples.{poolScans, poolRun, RunsPool, PoolScans}
-use Rattle.examples.proofs.FileAnswers.{reads, row-left}
+use Rattle.examples.proofs.FileAnswers.{reads, row-left, reads-builds}
 use Rattle.examples.proofs.RunAnswers.{run-left}
 
 -- ---- its equations
@@ -31,9 +31,9 @@ pool-read : ruleOf poolFile ≡ accepted poolRule
 unfolding ruleOf recordsAt formulaOf formulaAt
 pool-read = refl
 
-pool-hopeful : unsatisfiable poolRule ≡ false
+pool-satisfiable : unsatisfiable poolRule ≡ false
 unfolding unsatisfiable firstOf
-pool-hopeful = refl
+pool-satisfiable = refl
 
 pool-equations : equationsOf 128 poolRule ≡ poolEquations
 unfolding equationsOf found explored firstOf answerOf bit covers
@@ -42,26 +42,29 @@ pool-equations = refl
 pub number-pool : NumberPool
 unfolding bit covers least countBelow
 number-pool = record {
-  file = reads poolFile poolRule pool-read pool-hopeful poolEquations pool-equations (omega arith);
+  file = reads poolFile poolRule pool-read pool-satisfiable poolEquations pool-equations (omega arith);
   extents = refl;
 }
 
 -- ---- its table
 
-pool-rows : (table : List ℕ) → 32768 ≤ length table → PoolRows (tableLeft poolFile table)
+pub pool-builds : (table : List ℕ) → 32768 ≤ length table → Builds 128 255 poolFile table poolRule 3 (tableLeft 128 255 poolFile table)
+pool-builds = reads-builds poolFile poolRule 3 (number-pool .file) (search arith)
+
+pool-rows : (table : List ℕ) → 32768 ≤ length table → PoolRows (tableLeft 128 255 poolFile table)
 unfolding entriesOf answerOf bit covers
 pool-rows table room = record { row-0 = row 0 (omega arith); row-1 = row 1 (omega arith); row-2 = row 2 (omega arith) }
   where
     row : (k : ℕ) → k < 3
-        → rowOf 256 (tableLeft poolFile table) k ≡ entriesOf 255 (answerOf poolRule) poolEquations (getD poolEquations k 0) 256
-    row = row-left poolFile poolRule pool-read pool-hopeful poolEquations pool-equations (omega arith) table room
+        → rowOf 256 (tableLeft 128 255 poolFile table) k ≡ entriesOf 255 (answerOf poolRule) poolEquations (getD poolEquations k 0) 256
+    row = row-left poolFile poolRule pool-read pool-satisfiable poolEquations pool-equations (omega arith) table room
 
 pool-listed : (table : List ℕ) → PoolRows table → listing (map extentOf (poolRule .patterns)) 3 table ≡ poolListing
 unfolding decimal decimalIn listing rowLines bit covers least countBelow
 pool-listed table rows = rw (rows .row-0, rows .row-1, rows .row-2)
 
-pub pool-table : (table : List ℕ) → 32768 ≤ length table → PoolTable (tableLeft poolFile table)
-pool-table table room = let rows = pool-rows table room in record { rows = rows; listed = pool-listed (tableLeft poolFile table) rows }
+pub pool-table : (table : List ℕ) → 32768 ≤ length table → PoolTable (tableLeft 128 255 poolFile table)
+pool-table table room = let rows = pool-rows table room in record { rows = rows; listed = pool-listed (tableLeft 128 255 poolFile table) rows }
 
 -- ---- the paper's scans
 
@@ -71,14 +74,14 @@ pool-followed table rows = rw (rows .row-0, rows .row-2, rows .row-0, rows .row-
 
 runs-pool : (outcome : Outcome Run) → outcome ≡ accepted poolRun → RunsPool outcome
 unfolding occurrences
-runs-pool outcome e = record { accepts = e; ran = rw e; output = λ bytes. rw e; verdicts = λ bytes. rw e }
+runs-pool outcome e = record { accepts = e; handed-back = rw e; output = λ bytes. rw e; verdicts = λ bytes. rw e }
 
-pub pool-scans : (table : List ℕ) → 32768 ≤ length table → PoolScans (tableLeft poolFile table)
+pub pool-scans : (table : List ℕ) → 32768 ≤ length table → PoolScans (tableLeft 128 255 poolFile table)
 pool-scans table room = record {
-  enough = λ output verdicts h k. runs-pool (runOf 128 255 (tableLeft poolFile table) 3 start poolScans output verdicts)
-      (run-left poolFile poolRule 3 (number-pool .file) table room poolScans poolRun followed-so output verdicts h k);
-  short = λ output verdicts. runs-on-tables 128 255 (tableLeft poolFile table) 3 start poolScans output verdicts .short .1;
+  enough = λ output verdicts h k. runs-pool (runOf 128 255 (tableLeft 128 255 poolFile table) 3 start poolScans output verdicts)
+      (run-left (pool-builds table room) poolScans poolRun followed-so output verdicts h k);
+  short = λ output verdicts. runs-on-tables 128 255 (tableLeft 128 255 poolFile table) 3 start poolScans output verdicts .short .1;
 }
   where
-    followed-so : runFrom 255 (tableLeft poolFile table) start poolScans ≡ poolRun
-    followed-so = pool-followed (tableLeft poolFile table) (pool-rows table room)
+    followed-so : runFrom 255 (tableLeft 128 255 poolFile table) start poolScans ≡ poolRun
+    followed-so = pool-followed (tableLeft 128 255 poolFile table) (pool-rows table room)

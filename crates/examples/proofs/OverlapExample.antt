@@ -10,13 +10,12 @@ use Rattle.reading.specs.File.{accepted, recordsAt, formulaAt, formulaOf, ruleO
 use Rattle.synthesis.specs.Answering.{firstOf, answerOf, unsatisfiable}
 use Rattle.synthesis.specs.Search.{explored, found}
 use Rattle.synthesis.specs.Table.{entriesOf}
-use Rattle.synthesis.specs.Building.{equationsOf}
+use Rattle.synthesis.specs.Building.{equationsOf, tableLeft}
 use Rattle.running.specs.Running.{start, runFrom}
 use Rattle.listing.specs.Text.{decimalIn, decimal}
-use Rattle.examples.specs.Examples.{tableLeft}
 use Rattle.examples.specs.NumberingExamples.{Numbers}
 use Rattle.examples.specs.OverlapExample.{overlapFile, overlapRule, overlapSets, overlapListing, overlapScans, overlapRun, OverlapExample}
-use Rattle.examples.proofs.FileAnswers.{row-left}
+use Rattle.examples.proofs.FileAnswers.{row-left, reads-builds}
 use Rattle.examples.proofs.Listed.{numbers}
 use Rattle.examples.proofs.RunAnswers.{run-left}
 
@@ -24,9 +23,9 @@ overlap-read : ruleOf overlapFile ≡ accepted overlapRule
 unfolding ruleOf recordsAt formulaOf formulaAt
 overlap-read = refl
 
-overlap-hopeful : unsatisfiable overlapRule ≡ false
+overlap-satisfiable : unsatisfiable overlapRule ≡ false
 unfolding unsatisfiable firstOf
-overlap-hopeful = refl
+overlap-satisfiable = refl
 
 overlap-equations : equationsOf 128 overlapRule ≡ overlapSets
 unfolding equationsOf found explored firstOf answerOf bit covers
@@ -34,13 +33,13 @@ overlap-equations = refl
 
 overlap-numbers : Numbers overlapFile overlapRule overlapSets overlapListing
 unfolding entriesOf answerOf bit covers least countBelow decimal decimalIn
-overlap-numbers = numbers overlapFile overlapRule overlapSets overlapListing overlap-read overlap-hopeful overlap-equations (omega arith) refl
+overlap-numbers = numbers overlapFile overlapRule overlapSets overlapListing overlap-read overlap-satisfiable overlap-equations (omega arith) refl
 
 -- a row for each equation that the run comes to, in order
-overlap-followed : (table : List ℕ) → 32768 ≤ length table → runFrom 255 (tableLeft overlapFile table) start overlapScans ≡ overlapRun
+overlap-followed : (table : List ℕ) → 32768 ≤ length table → runFrom 255 (tableLeft 128 255 overlapFile table) start overlapScans ≡ overlapRun
 unfolding entriesOf answerOf bit covers
 overlap-followed table room =
-    let row = row-left overlapFile overlapRule overlap-read overlap-hopeful overlapSets overlap-equations (omega arith) table room in
+    let row = row-left overlapFile overlapRule overlap-read overlap-satisfiable overlapSets overlap-equations (omega arith) table room in
     let fresh = row 0 (omega arith) in
     let ended = row 1 (omega arith) in
     let asked = row 2 (omega arith) in
@@ -50,5 +49,6 @@ pub overlap-example : OverlapExample
 overlap-example = record {
   numbers = overlap-numbers;
   run = λ table room.
-      run-left overlapFile overlapRule 3 (overlap-numbers .file) table room overlapScans overlapRun (overlap-followed table room);
+      run-left (reads-builds overlapFile overlapRule 3 (overlap-numbers .file) (search arith) table room) overlapScans overlapRun
+      (overlap-followed table room);
 }

@@ -1,4 +1,4 @@
--- All of the paper's examples.
+-- All of the paper's examples, computed or from the files of each.
 use mathlib.Core.Path.{refl}
 use lib.ListN.{length}
 use Rattle.synthesis.proofs.Tables.Synthesized.{building-short}

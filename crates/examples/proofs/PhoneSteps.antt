@@ -1,4 +1,4 @@
--- The steps of a phone model, by the places of its records.
+-- The steps of a phone model, by the places of its records: what holds of every record holds of every step.
 use Prim.Native.Nat.{ℕ, zero, suc, _<_}
 use mathlib.Core.Path.{refl}
 use mathlib.Core.List.{List, [], _∷_}

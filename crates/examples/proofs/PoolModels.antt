@@ -1,4 +1,5 @@
--- The paper's model under the number-pool rule, which it breaks, and one that meets the rule; with these, all model examples.
+-- The paper's model under the number-pool rule, which it breaks by a walk, and one that meets the rule by a set of states; with these, all model
+-- examples.
 use Prim.Native.Nat.{ℕ, _≤_}
 use mathlib.Core.Path.{_≡_, refl, sym, _∙_}
 use mathlib.Core.Logic.{inl, inr}
@@ -11,6 +12,7 @@ use Rattle.reading.specs.Rule.{Formula, falsity, both, necessity, variable, Byt
 use Rattle.reading.specs.File.{accepted, recordsAt}
 use Rattle.synthesis.specs.Violation.{coveredBy, ViolatesRule, by-falsity, by-first, by-code, by-body}
 use Rattle.synthesis.specs.Monitor.{lookup}
+use Rattle.synthesis.specs.Building.{tableLeft}
 use Rattle.enforcement.specs.Model.{Label, silent, code, Walk, stay, silent-first, code-first, Weak, StateSatisfies, Satisfies, SatisfiesDecided}
 use Rattle.enforcement.specs.Model.{suppressing}
 use Rattle.models.specs.Phone.{Phone, StepIn, modelOf, statesOf, phoneOf}
@@ -22,10 +24,10 @@ use Rattle.models.proofs.Phones.DecidedSets.{decided-satisfies}
 use Rattle.enforcement.proofs.BisimulationLaws.{bisimilar-alike}
 use Rattle.models.proofs.Verdicts.TablesEnforce.{tables-enforce}
 use Rattle.models.proofs.Verdicts.JudgingLaws.{judging-case}
-use Rattle.examples.specs.Examples.{tableLeft, poolFile, poolRule}
+use Rattle.examples.specs.Examples.{poolFile, poolRule}
 use Rattle.examples.specs.ModelExamples.{behind, JudgesPool, breakingFile, breakingPhone, Breaking}
 use Rattle.examples.specs.ModelExamples.{meetingFile, meetingPhone, Meeting, ModelExamples}
-use Rattle.examples.proofs.NumberPool.{number-pool, pool-table}
+use Rattle.examples.proofs.NumberPool.{pool-builds, pool-table}
 use Rattle.examples.proofs.PhoneSteps.{step-at, every-step}
 use Rattle.examples.proofs.DrawnModel.{drawn-bisimilar}
 use Rattle.examples.proofs.Shortening.{shortening}
@@ -35,15 +37,13 @@ use Rattle.examples.proofs.Distinctions.{distinctions}
 
 module _ (f : List ℕ) (y : Phone) (read : phoneOf f ≡ accepted y) where
   pool-enforces : Bytes f → (table : List ℕ) → 32768 ≤ length table
-      → Enforces poolRule (suppressing (lookup 256 255 (tableLeft poolFile table))) 0 (modelOf y)
+      → Enforces poolRule (suppressing (lookup 256 255 (tableLeft 128 255 poolFile table))) 0 (modelOf y)
   pool-enforces bytes table room =
-      tables-enforce 128 255 poolFile table f poolRule 3 y (omega arith) (search arith) bytes (number-pool .file .reading)
-      (number-pool .file .answers .building table room) read .0
+      tables-enforce 128 255 poolFile table poolRule 3 (tableLeft 128 255 poolFile table) (pool-builds table room) f y bytes read .0
 
   pool-judging : (table : List ℕ) → 32768 ≤ length table
       → judgingOf 128 poolFile (length table) f ≡ accepted (record { rule = poolRule; phone = y })
-  pool-judging table room =
-      judging-case 128 poolFile f (length table) poolRule 3 y (number-pool .file .reading) (number-pool .file .answers .building table room) read
+  pool-judging table room = judging-case (pool-builds table room) f y read
 
   judges-met : SatisfiesDecided (modelOf y) poolRule → JudgesPool f Meets
   judges-met sat table room r = rw (pool-judging table room) (on, λ e. inl (e, sat))
@@ -86,7 +86,7 @@ breaking = record {
   changed = λ table room alike. breaking-unsatisfied (
       bisimilar-alike (modelOf breakingPhone) (behind poolFile table (modelOf breakingPhone)) alike poolRule .1
       (pool-enforces breakingFile breakingPhone breaking-read (search arith) table room .satisfies));
-  drawn = λ table room. drawn-bisimilar (tableLeft poolFile table) (pool-table table room .rows);
+  drawn = λ table room. drawn-bisimilar (tableLeft 128 255 poolFile table) (pool-table table room .rows);
 }
 
 -- ---- the other meets it

@@ -3,22 +3,23 @@ use Prim.Native.Nat.{ℕ}
 use mathlib.Core.Path.{_≡_, refl}
 use mathlib.Core.List.{List, [], _∷_}
 use native.Mathlib.Omega.{arith}
-use lib.ListN.{length}
 use Rattle.reading.specs.Pattern.{bit, covers}
 use Rattle.reading.specs.Rule.{necessity, max, variable, Rule}
 use Rattle.reading.specs.File.{refused, recordsAt, formulaAt, formulaOf, ruleOf}
 use Rattle.synthesis.specs.Answering.{firstOf, answerOf, unsatisfiable}
 use Rattle.synthesis.specs.Search.{explored, found}
-use Rattle.synthesis.specs.Building.{equationsOf, buildingOf}
+use Rattle.synthesis.specs.Building.{equationsOf}
 use Rattle.synthesis.specs.declared.Counted.the-variants.{Equations}
-use Rattle.synthesis.proofs.Tables.Synthesized.{counted-accepts}
+use Rattle.synthesis.proofs.Tables.Built.{builds-outcome}
 use Rattle.models.specs.Phone.{statesOf, phoneOf}
 use Rattle.models.specs.Judging.{judgingOf}
-use Rattle.examples.specs.Examples.{pattern, rule, Reads, poolFile}
+use Rattle.examples.specs.Examples.{pattern, rule, Reads}
 use Rattle.examples.specs.RefusalExamples.{times, RuleRefusals, RefusesModel, ModelRefusals, RefusalExamples}
 use Rattle.examples.proofs.FileAnswers.{refuses, reads}
-use Rattle.examples.proofs.NumberPool.{number-pool}
+use Rattle.examples.proofs.NumberPool.{pool-builds}
 use Rattle.examples.proofs.FullModel.{step-513, silent-513, kind-19-late}
+
+-- ---- variables that are guarded
 
 below-both : Rule
 below-both = rule (pattern 255 0 31 ∷ []) (max (max (necessity 0 (variable 1))))
@@ -35,6 +36,8 @@ between = rule (pattern 255 0 31 ∷ []) (max (necessity 0 (max (variable 1))))
 guards-outer : Reads (1 ∷ 255 ∷ 0 ∷ 31 ∷ 6 ∷ 5 ∷ 0 ∷ 6 ∷ 7 ∷ 1 ∷ []) between (Equations 1)
 unfolding between ruleOf recordsAt formulaOf formulaAt unsatisfiable equationsOf found explored firstOf answerOf bit covers
 guards-outer = reads _ _ refl refl (2 ∷ []) refl (omega arith)
+
+-- ---- rule files
 
 rule-refusals : RuleRefusals
 unfolding times ruleOf recordsAt formulaOf formulaAt below-both between
@@ -71,13 +74,13 @@ rule-refusals = record {
   guards-outer = guards-outer;
 }
 
+-- ---- model files
+
 refuses-model : (f : List ℕ) (number place : ℕ) → phoneOf f ≡ refused number place → RefusesModel f number place
 unfolding judgingOf
 refuses-model f number place read = record {
   reading = read;
-  judged = λ table room r.
-      let (z, built, long) = counted-accepts (buildingOf 128 poolFile (length table)) 3 (number-pool .file .answers .building table room) in
-      rw (built, read) (λ e. e, λ e. e);
+  judged = λ table room r. rw (builds-outcome (pool-builds table room), read) (λ e. e, λ e. e);
 }
 
 model-refusals : ModelRefusals

@@ -1,4 +1,4 @@
--- A phone that shows a trace behind the monitor and not without it.
+-- A phone that shows a trace behind the monitor and not without it: its first step is suppressed there, so the second can be seen alone.
 use Prim.Native.Nat.{ℕ, _≤_}
 use mathlib.Core.Path.{_≡_, refl, sym}
 use mathlib.Core.Bool.{false, true≢false}
@@ -12,11 +12,10 @@ use Rattle.synthesis.specs.Answering.{firstOf, answerOf, unsatisfiable}
 use Rattle.synthesis.specs.Search.{explored, found}
 use Rattle.synthesis.specs.Monitor.{rowOf, lookup}
 use Rattle.synthesis.specs.Table.{entriesOf}
-use Rattle.synthesis.specs.Building.{equationsOf}
+use Rattle.synthesis.specs.Building.{equationsOf, tableLeft}
 use Rattle.enforcement.specs.Model.{Label, silent, code, Walk, stay, silent-first, code-first}
 use Rattle.enforcement.specs.Model.{Response, passed, suppressed, suppressing, passed-step, suppressed-step}
 use Rattle.models.specs.Phone.{StepIn, modelOf, statesOf, phoneOf}
-use Rattle.examples.specs.Examples.{tableLeft}
 use Rattle.examples.specs.ModelExamples.{behind, neverFile, neverRule, shorteningFile, shorteningPhone, Shortening}
 use Rattle.examples.proofs.FileAnswers.{reads, row-left}
 use Rattle.examples.proofs.PhoneSteps.{step-at, every-step}
@@ -27,19 +26,19 @@ never-read : ruleOf neverFile ≡ accepted neverRule
 unfolding ruleOf recordsAt formulaOf formulaAt
 never-read = refl
 
-never-hopeful : unsatisfiable neverRule ≡ false
+never-satisfiable : unsatisfiable neverRule ≡ false
 unfolding unsatisfiable firstOf
-never-hopeful = refl
+never-satisfiable = refl
 
 -- {0} and the empty set
 never-equations : equationsOf 128 neverRule ≡ 1 ∷ 0 ∷ []
 unfolding equationsOf found explored firstOf answerOf bit covers
 never-equations = refl
 
-never-row : (table : List ℕ) → 32768 ≤ length table → rowOf 256 (tableLeft neverFile table) 0 ≡ replicate 5 1 ++ 255 ∷ replicate 250 1
+never-row : (table : List ℕ) → 32768 ≤ length table → rowOf 256 (tableLeft 128 255 neverFile table) 0 ≡ replicate 5 1 ++ 255 ∷ replicate 250 1
 unfolding entriesOf answerOf bit covers
 never-row table room =
-    row-left neverFile neverRule never-read never-hopeful (1 ∷ 0 ∷ []) never-equations (omega arith) table room 0 (omega arith)
+    row-left neverFile neverRule never-read never-satisfiable (1 ∷ 0 ∷ []) never-equations (omega arith) table room 0 (omega arith)
 
 violating : ViolatesRule neverRule (5 ∷ 6 ∷ [])
 unfolding bit covers
@@ -81,7 +80,7 @@ not-bare t (code-first h k) = six-not-first (shortening-step h)
 
 module _ (table : List ℕ) (room : 32768 ≤ length table) where
   abbrev respond : ℕ → ℕ → Response ℕ
-  respond = suppressing (lookup 256 255 (tableLeft neverFile table))
+  respond = suppressing (lookup 256 255 (tableLeft 128 255 neverFile table))
 
   five-suppressed : respond 0 5 ≡ suppressed
   five-suppressed = rw (never-row table room)
@@ -98,7 +97,7 @@ module _ (table : List ℕ) (room : 32768 ≤ length table) where
 
 pub shortening : Shortening
 shortening = record {
-  rule-file = reads neverFile neverRule never-read never-hopeful (1 ∷ 0 ∷ []) never-equations (omega arith);
+  rule-file = reads neverFile neverRule never-read never-satisfiable (1 ∷ 0 ∷ []) never-equations (omega arith);
   model-file = shortening-read;
   bare = bare;
   violating = violating;

@@ -12,10 +12,10 @@ use Rattle.reading.specs.File.{Outcome, accepted, refused, ruleOf}
 use Rattle.reading.specs.declared.Pattern.{Pattern}
 use Rattle.reading.specs.declared.Extent.{Extent}
 use Rattle.synthesis.specs.Monitor.{rowOf}
-use Rattle.synthesis.specs.Building.{synthesisOf, buildingOf, countedOf, tableAfter}
+use Rattle.synthesis.specs.Building.{synthesisOf, buildingOf, countedOf, tableLeft}
 use Rattle.synthesis.specs.declared.Counted.{Counted}
 use Rattle.synthesis.specs.declared.Counted.the-variants.{Equations, Refused}
-use Rattle.running.specs.Running.{start, Run, runOf, checkedOf, resultOf, outputAfter, verdictsAfter}
+use Rattle.running.specs.Running.{start, moved, Run, runOf, checkedOf, resultOf, outputAfter, verdictsAfter}
 use Rattle.running.specs.declared.Checked.the-variants.{Fit, Refused as Unfit}
 use Rattle.listing.specs.Text.{text, decimal}
 use Rattle.listing.specs.Lines.{refusalLine, judgmentLine, listing}
@@ -49,10 +49,6 @@ pub record Codes : Type 0 where
   pub handovers : IsKind handover 7 31 255
 
 -- ---- what is said of a file
-
--- what building leaves in a table
-abbrev pub tableLeft : (s table : List ℕ) → List ℕ
-tableLeft s table = tableAfter 255 (buildingOf 128 s (length table)) table
 
 -- Counting answers so, and building too with every table of at least 32,768 bytes.
 pub record Answers (s : List ℕ) (answer : Counted) : Type 0 where
@@ -138,7 +134,7 @@ pub record SmallFiles : Type 0 where
   pub empty : Refuses [] 1 0
   -- * 2: one equation, every entry 0
   pub truth-alone : Reads (2 ∷ []) (rule [] truth) (Equations 1)
-  pub truth-entries : (table : List ℕ) → 32768 ≤ length table → rowOf 256 (tableLeft (2 ∷ []) table) 0 ≡ replicate 256 0
+  pub truth-entries : (table : List ℕ) → 32768 ≤ length table → rowOf 256 (tableLeft 128 255 (2 ∷ []) table) 0 ≡ replicate 256 0
   -- * 3: 8 at 0
   pub falsity-alone : Reads (3 ∷ []) (rule [] falsity) (Refused 8 0)
   -- * 2 2: 3 at 1
@@ -167,7 +163,7 @@ poolScans = 37 ∷ 5 ∷ 128 ∷ 5 ∷ 37 ∷ 5 ∷ []
 
 abbrev pub poolRun : Run
 poolRun = record {
-  state = record { equation = 1 };
+  state = moved start 1;
   kept = 37 ∷ 128 ∷ 5 ∷ 37 ∷ 5 ∷ [];
   verdicts = 0 ∷ 1 ∷ 0 ∷ 0 ∷ 0 ∷ 0 ∷ [];
 }
@@ -175,7 +171,7 @@ poolRun = record {
 -- The outcome is this run: what it hands back, and what it leaves in an output and in verdicts.
 pub record RunsPool (outcome : Outcome Run) : Type 0 where
   pub accepts : outcome ≡ accepted poolRun
-  pub ran : resultOf start outcome ≡ record { checked = Fit; state = record { equation = 1 }; kept = 5; dropped = 1 }
+  pub handed-back : resultOf start outcome ≡ record { checked = Fit; state = moved start 1; kept = 5; dropped = 1 }
   pub output : (bytes : List ℕ) → outputAfter outcome bytes ≡ 37 ∷ 128 ∷ 5 ∷ 37 ∷ 5 ∷ drop 5 bytes
   pub verdicts : (bytes : List ℕ) → verdictsAfter outcome bytes ≡ 0 ∷ 1 ∷ 0 ∷ 0 ∷ 0 ∷ 0 ∷ drop 6 bytes
 
@@ -191,7 +187,7 @@ pub record PaperExamples : Type 0 where
   pub codes : Codes
   pub short-table : ShortTable
   pub number-pool : NumberPool
-  pub pool-table : (table : List ℕ) → 32768 ≤ length table → PoolTable (tableLeft poolFile table)
+  pub pool-table : (table : List ℕ) → 32768 ≤ length table → PoolTable (tableLeft 128 255 poolFile table)
   pub texts : Texts
   pub small-files : SmallFiles
-  pub pool-scans : (table : List ℕ) → 32768 ≤ length table → PoolScans (tableLeft poolFile table)
+  pub pool-scans : (table : List ℕ) → 32768 ≤ length table → PoolScans (tableLeft 128 255 poolFile table)

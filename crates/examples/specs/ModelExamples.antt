@@ -9,6 +9,7 @@ use Rattle.reading.specs.Rule.{falsity, necessity, Rule}
 use Rattle.reading.specs.File.{accepted}
 use Rattle.synthesis.specs.Violation.{ViolatesRule}
 use Rattle.synthesis.specs.Monitor.{lookup}
+use Rattle.synthesis.specs.Building.{tableLeft}
 use Rattle.synthesis.specs.declared.Counted.the-variants.{Equations}
 use Rattle.enforcement.specs.Model.{code, Model, Walk, Finite, Satisfies, Bisimilar, suppressing, monitored}
 use Rattle.models.specs.Phone.{Phone, modelOf, phoneOf}
@@ -16,7 +17,7 @@ use Rattle.models.specs.Judging.{judgingOf, JudgedAs}
 use Rattle.models.specs.declared.Step.{Step}
 use Rattle.models.specs.declared.Judged.{Judged}
 use Rattle.models.specs.declared.Judged.the-variants.{Meets, Breaks}
-use Rattle.examples.specs.Examples.{pattern, rule, tableLeft, Reads, poolFile, poolRule}
+use Rattle.examples.specs.Examples.{pattern, rule, Reads, poolFile, poolRule}
 
 -- label 256 is silent
 abbrev pub step : (from label to : ℕ) → Step
@@ -24,12 +25,14 @@ step from label to = record { from = from; label = label; to = to }
 
 -- a model behind the table that building leaves of a rule file
 abbrev pub behind : (s table : List ℕ) → Model → Model
-behind s table = monitored (suppressing (lookup 256 255 (tableLeft s table))) 0
+behind s table = monitored (suppressing (lookup 256 255 (tableLeft 128 255 s table))) 0
 
 -- With every table of at least 32,768 bytes this is an answer of judging, and it is the only one.
 abbrev pub JudgesPool : (model : List ℕ) → Judged → Type 0
 JudgesPool f answer =
     (table : List ℕ) → 32768 ≤ length table → (r : Judged) → JudgedAs (judgingOf 128 poolFile (length table) f) r ↔ (r ≡ answer)
+
+-- ---- a model that breaks the rule
 
 -- Model 16 3, 17 0 37 1, 18 1 2, 17 2 5 0 under the number-pool rule: breaks
 abbrev pub breakingFile : List ℕ
@@ -53,6 +56,8 @@ pub record Breaking : Type 1 where
   pub changed : (table : List ℕ) → 32768 ≤ length table → Bisimilar (modelOf breakingPhone) (behind poolFile table (modelOf breakingPhone)) → ⊥
   pub drawn : (table : List ℕ) → 32768 ≤ length table → Bisimilar (behind poolFile table (modelOf breakingPhone)) (modelOf drawnPhone)
 
+-- ---- a model that meets it
+
 -- Not in the paper: a phone that cancels number 5 and syncs, again and again, meets the rule. The monitor doesn't change it.
 abbrev pub meetingFile : List ℕ
 meetingFile = 16 ∷ 2 ∷ 17 ∷ 0 ∷ 37 ∷ 1 ∷ 17 ∷ 1 ∷ 128 ∷ 0 ∷ []
@@ -65,6 +70,8 @@ pub record Meeting : Type 1 where
   pub satisfied : Satisfies (modelOf meetingPhone) poolRule
   pub judged : JudgesPool meetingFile Meets
   pub unchanged : (table : List ℕ) → 32768 ≤ length table → Bisimilar (modelOf meetingPhone) (behind poolFile table (modelOf meetingPhone))
+
+-- ---- a trace behind a monitor only
 
 -- The paper's last reading that leads astray: the second half of the article's Proposition 24, which has every trace behind the monitor that
 -- doesn't violate the rule be one of the bare model too. Suppression makes a step silent, and with weak steps a walk may pass over it: the phone
@@ -90,6 +97,8 @@ pub record Shortening : Type 0 where
   pub shown : (table : List ℕ) → 32768 ≤ length table → Walk (behind neverFile table (modelOf shorteningPhone)) (0, 0) (6 ∷ []) (2, 1)
   pub not-bare : (t : ℕ) → Walk (modelOf shorteningPhone) 0 (6 ∷ []) t → ⊥
   pub not-violating : ViolatesRule neverRule (6 ∷ []) → ⊥
+
+-- ---- what tells definitions apart
 
 -- Not in the paper: what isn't finite, and what isn't strongly bisimilar.
 

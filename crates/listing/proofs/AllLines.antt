@@ -15,14 +15,13 @@ use Rattle.reading.specs.declared.Extent.{Extent}
 use Rattle.reading.specs.declared.NumberedRule.{NumberedRule}
 use Rattle.reading.proofs.Numbering.NumberedLaws.{padded-long}
 use Rattle.synthesis.specs.Monitor.{rowOf, meaning}
-use Rattle.synthesis.proofs.Tables.Rows.{row-none}
+use Rattle.synthesis.proofs.Tables.Rows.{row-none, row-inside, row-short}
 use Rattle.listing.specs.Text.{text, decimal}
 use Rattle.listing.specs.Runs.{runsFrom, RunTo}
 use Rattle.listing.specs.Lines.{spaced, line, answerText, runLines, rowLines, patternLine, patternLines, listing}
 use Rattle.listing.specs.Positions.{lineThen, noLine, rowLineAt, lineAt, patternCount, extentsOf, listingLineAt, linesFrom}
 use Rattle.listing.specs.Promises.{ListsAll, ListsRule}
 use Rattle.listing.proofs.RunLaws.{first-run, no-runs, some-run}
-use Rattle.listing.proofs.RowLaws.{row-inside, row-short}
 use Rattle.listing.proofs.LineLaws.{past-last, past-row, at-run, at-patterns, at-pattern, at-equations, at-row}
 
 -- after a row that isn't wholly inside the table there is no line

@@ -13,7 +13,7 @@ use Rattle.synthesis.specs.Monitor.{rowOf}
 use Rattle.listing.specs.Positions.{noLine, lineAt, patternCount, listingLineAt}
 use Rattle.listing.specs.declared.ListingLine.{ListingLine}
 use Rattle.listing.proofs.RunLaws.{some-run}
-use Rattle.listing.proofs.RowLaws.{row-inside}
+use Rattle.synthesis.proofs.Tables.Rows.{row-inside}
 use Rattle.listing.proofs.LineLaws.{past-last, past-row, at-run, at-patterns, at-pattern, at-equations, at-row}
 
 -- ---- one position

@@ -3,19 +3,17 @@
 use Prim.Native.Nat.{ℕ, _*_, _≤_}
 use mathlib.Core.Path.{_≡_}
 use mathlib.Core.Logic.{_↔_, _⊎_}
-use mathlib.Core.List.{List, [], _∷_}
+use mathlib.Core.List.{List}
 use lib.ListN.{length, getD, take}
 use Rattle.reading.specs.Rule.{Rule, RuleWithinLimits, encode, Bytes}
 use Rattle.reading.specs.File.{accepted, refused, ruleOf}
 use Rattle.reading.specs.Promises.{OneFault}
 use Rattle.reading.specs.declared.Acceptance.the-variants.{Accepted, Refused as NotAccepted}
-use Rattle.synthesis.specs.Violation.{ViolatesRule}
-use Rattle.synthesis.specs.Monitor.{Answer, kept, ended, Suppresses, Monitors, lookup}
-use Rattle.synthesis.specs.Building.{buildingOf, countedOf, tableAfter}
+use Rattle.synthesis.specs.Monitor.{lookup}
+use Rattle.synthesis.specs.Building.{buildingOf, countedOf, tableLeft, Builds}
 use Rattle.synthesis.specs.Promises.{Closed}
 use Rattle.synthesis.specs.declared.Counted.the-variants.{Equations, Refused}
-use Rattle.enforcement.specs.Model.{Model, Walk, Weak, Finite, ByteCodes, Satisfies, SatisfiesDecided, Bisimilar}
-use Rattle.enforcement.specs.Model.{Response, suppressing, PassesKept, monitored}
+use Rattle.enforcement.specs.Model.{Model, Finite, Satisfies, SatisfiesDecided, suppressing}
 use Rattle.enforcement.specs.Promises.{Enforces, WalksBehind}
 use Rattle.models.specs.Phone.{Phone, noStep, modelOf, PhoneWithinLimits, encodePhone, phoneOf}
 use Rattle.models.specs.Faults.{Fault}
@@ -23,14 +21,17 @@ use Rattle.models.specs.Judging.{stored, modelReadingOf, judgingOf, Judg
 use Rattle.models.specs.declared.Judged.{Judged}
 use Rattle.models.specs.declared.Judged.the-variants.{Meets, Breaks, Refused as NotJudged}
 
+-- ---- enforcing
+
 -- Demand 3 holds for the table that building leaves, whatever the table held before, and every model file that isn't refused, with
 -- dropped scans in the claim.
 abbrev pub TablesEnforce : Type 1
 TablesEnforce =
-    (limit mark : ℕ) (s table f : List ℕ) (r : Rule) (n : ℕ) (y : Phone) → limit ≤ mark → Bytes s → Bytes f
-    → ruleOf s ≡ accepted r → countedOf (buildingOf limit s (length table)) ≡ Equations n → phoneOf f ≡ accepted y →
-    let answer = lookup 256 mark (tableAfter mark (buildingOf limit s (length table)) table) in
-    Enforces r (suppressing answer) 0 (modelOf y) × WalksBehind answer 0 (modelOf y)
+    (limit mark : ℕ) (s table : List ℕ) (r : Rule) (n : ℕ) (left : List ℕ) → Builds limit mark s table r n left
+    → (f : List ℕ) (y : Phone) → Bytes f → phoneOf f ≡ accepted y
+    → Enforces r (suppressing (lookup 256 mark left)) 0 (modelOf y) × WalksBehind (lookup 256 mark left) 0 (modelOf y)
+
+-- ---- judging
 
 -- 3. Judging. For phone models satisfaction with decided sets is satisfaction,
 abbrev pub DecidedSatisfies : Type 1
@@ -43,9 +44,9 @@ pub record JudgedExactly (r : Rule) (y : Phone) (answer : Judged) : Type 1 where
 
 abbrev pub JudgesExactly : Type 1
 JudgesExactly =
-    (limit : ℕ) (s f : List ℕ) (capacity : ℕ) (r : Rule) (n : ℕ) (y : Phone) (answer : Judged)
-    → ruleOf s ≡ accepted r → countedOf (buildingOf limit s capacity) ≡ Equations n → phoneOf f ≡ accepted y
-    → JudgedAs (judgingOf limit s capacity f) answer → JudgedExactly r y answer
+    (limit mark : ℕ) (s table : List ℕ) (r : Rule) (n : ℕ) (left : List ℕ) → Builds limit mark s table r n left
+    → (f : List ℕ) (y : Phone) (answer : Judged) → phoneOf f ≡ accepted y → JudgedAs (judgingOf limit s (length table) f) answer
+    → JudgedExactly r y answer
 
 -- What judging leaves in the table, in the terms of its contract: where the answer is a refusal, of the rule or of the model, all bytes as they were,
 -- and else exactly what building leaves.
@@ -56,8 +57,10 @@ pub record TableLeft (answer : Judged) (before built after : List ℕ) : Type 0 
 abbrev pub RefusedUnchanged : Type 0
 RefusedUnchanged =
     (limit mark : ℕ) (s f table : List ℕ) (answer : Judged) → JudgedAs (judgingOf limit s (length table) f) answer →
-    let built = tableAfter mark (buildingOf limit s (length table)) table in
+    let built = tableLeft limit mark s table in
     TableLeft answer table built (tableJudged (judgingOf limit s (length table) f) built table)
+
+-- ---- which rules are accepted
 
 -- 4. Demand 2, acceptance. With a table that is long enough, building isn't refused exactly when the file is the encoding of a well-formed
 -- rule within 32 patterns and 64 nodes, of which at most `limit` equations are reached, and which some finite model satisfies. All that are
@@ -88,6 +91,8 @@ abbrev pub RefusesUnsatisfiable : Type 1
 RefusesUnsatisfiable =
     (limit : ℕ) (s : List ℕ) (capacity : ℕ) (r : Rule) → Bytes s → 256 * limit ≤ capacity → ruleOf s ≡ accepted r
     → RefusedAsUnsatisfiable limit s capacity r
+
+-- ---- model files
 
 -- 5. A model file is accepted exactly as the encoding of a phone model within the limits, and then as that model.
 abbrev pub AcceptsPhones : Type 0

@@ -6,7 +6,7 @@ use mathlib.Core.Bool.{Bool, false}
 use mathlib.Core.List.{List}
 use lib.ListN.{length, getD}
 use Rattle.synthesis.specs.Monitor.{rowOf, lookup}
-use Rattle.running.specs.Running.{WellFormedTable}
+use Rattle.synthesis.specs.Table.{WellFormedTable}
 use Rattle.models.specs.Phone.{Phone, noStep, modelOf, WellFormedStep}
 use Rattle.models.specs.Exploring.{ReachablePair, NeverDrops, Chains, LinksInRange, Seen, Worklist, Outgoing, Followed, PartlyExpanded}
 use Rattle.models.specs.declared.Step.{Step}

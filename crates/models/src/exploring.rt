@@ -12,7 +12,7 @@ ghost use mathlib.Core.List.{List};
 ghost use Prim.Native.Nat.{ℕ, _+_, _*_, _-_, _≤_, _<_};
 ghost use lib.ListN.{length, getD};
 ghost use Rattle.synthesis.specs.Monitor.{rowOf, lookup};
-ghost use Rattle.running.specs.Running.{WellFormedTable};
+ghost use Rattle.synthesis.specs.Table.{WellFormedTable};
 ghost use Rattle.models.specs.Phone.{Phone, noStep, modelOf};
 ghost use Rattle.models.specs.Judging.{stored};
 ghost use Rattle.models.specs.Exploring.{NeverDrops, HasPhone, linksOf, Worklist, Enqueued, leadsTo};

@@ -1,4 +1,4 @@
--- No scan is lost: of each code, a run's scans are those that it keeps and those that it drops.
+-- No scan is lost: of each code, a run's scans are those that it keeps and those that it drops, by induction on the run and then on the calls.
 use Prim.Native.Nat.{ℕ, suc, _+_}
 use mathlib.Core.Path.{_≡_, refl, ap}
 use mathlib.Core.List.{List, [], _∷_}
@@ -63,8 +63,8 @@ record Conserving (h : History) : Type 0 where
   one-each : length (h .verdicts) ≡ length (h .scans)
   splits : Splits (h .scans) (h .kept) (h .verdicts)
 
-more-conserving : (mark : ℕ) (h : History) (c : Call) → Conserving h → Conserving (withRun mark h c)
-more-conserving mark h c before =
+conserving-next : (mark : ℕ) (h : History) (c : Call) → Conserving h → Conserving (withRun mark h c)
+conserving-next mark h c before =
     let F = answerIn mark (c .table) in
     let w = c .scans in
     let k = kept F (h .state) w in
@@ -84,4 +84,4 @@ more-conserving mark h c before =
 pub calls-conserve : CallsConserve
 calls-conserve limit mark h calls =
     calls-induction limit mark (λ h c. Unit) Conserving (unfold occurrences withVerdict in record { one-each = refl; splits = λ x. refl })
-    (λ h c before bytes may e. more-conserving mark h c before) h calls .splits
+    (λ h c before bytes may e. conserving-next mark h c before) h calls .splits

@@ -1,4 +1,4 @@
--- How many scans a run keeps and drops.
+-- How many scans a run keeps and drops: each is kept or has verdict 1, by induction on the run.
 use Prim.Native.Nat.{ℕ, _+_}
 use mathlib.Core.Path.{_≡_, refl}
 use mathlib.Core.List.{List}

@@ -1,4 +1,5 @@
--- Demand 2: over any number of calls, a scan is dropped exactly where it would make what was kept violate the rule.
+-- Demand 2: over any number of calls, a scan is dropped exactly where it would make what was kept violate the rule. All calls on the table are one
+-- run, and the table monitors the rule.
 use Prim.Native.Nat.{ℕ, _<_}
 use mathlib.Core.Path.{_≡_, refl}
 use mathlib.Core.Logic.{_↔_, _⊎_, inl}
@@ -11,17 +12,17 @@ use Rattle.reading.proofs.Basics.AllLaws.{all-getD, all-of}
 use Rattle.reading.proofs.Basics.ByteLaws.{byte-at}
 use Rattle.synthesis.specs.Violation.{ViolatesRule}
 use Rattle.synthesis.specs.Monitor.{Answer, verdicts, Monitors, lookup}
+use Rattle.synthesis.specs.Table.{WellFormedTable}
 use Rattle.synthesis.proofs.Monitors.Runs.{verdicts-length}
 use Rattle.synthesis.proofs.Monitors.Verdicts.{verdicts-range, verdicts-take, dropped-at}
 use Rattle.synthesis.proofs.Monitors.MonitorLaws.{drops-violations, kept-safe}
 use Rattle.synthesis.proofs.Monitors.Renaming.{renamed-monitors}
-use Rattle.synthesis.proofs.Tables.Built.{left, table-monitors}
-use Rattle.running.specs.Running.{start, moved, answerIn, WellFormedTable}
+use Rattle.synthesis.proofs.Tables.Built.{table-monitors, built-well-formed}
+use Rattle.running.specs.Running.{start, moved, answerIn}
 use Rattle.running.specs.Calls.{History, Calls, OnTableOrRefused, withVerdict}
 use Rattle.running.specs.Promises.{Sifted, DropsExactly}
 use Rattle.running.proofs.WithVerdicts.{kept-with}
 use Rattle.running.proofs.Histories.{OneRun, one-run}
-use Rattle.running.proofs.BuiltTables.{built-well-formed}
 
 -- ---- any monitor
 
@@ -67,6 +68,5 @@ monitors-sift limit mark count table r wf monitors h calls =
     sifted r mark table count h (answer-in-monitors r mark table monitors) (one-run limit mark count table wf h calls)
 
 pub drops-exactly : DropsExactly
-drops-exactly limit mark s table r n below bytes read e =
-    monitors-sift limit mark n (left limit mark s table) r (built-well-formed limit mark s table n e)
-    (table-monitors limit mark s table r n below bytes read e)
+drops-exactly limit mark s table r n left b =
+    monitors-sift limit mark n left r (built-well-formed limit mark s table r n left b) (table-monitors limit mark s table r n left b)

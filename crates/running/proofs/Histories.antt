@@ -1,4 +1,5 @@
--- What a caller has after any number of calls: induction over them, and that calls on one table are one run over all their scans.
+-- What a caller has after any number of calls: induction over them. A refused call changes nothing, and any other is a run that goes on where the
+-- last one ended, so calls on one table are one run over all their scans.
 use Prim.Native.Nat.{ℕ, _*_, _<_}
 use mathlib.Core.Path.{_≡_, refl, sym, _∙_, ap, subst}
 use mathlib.Core.Logic.{inl, inr}
@@ -10,9 +11,10 @@ use Rattle.reading.specs.File.{accepted, refused}
 use Rattle.reading.proofs.Basics.ByteLaws.{bytes-append}
 use Rattle.reading.proofs.Basics.Outcomes.{never-accepted}
 use Rattle.synthesis.specs.Monitor.{kept, verdicts, ended}
+use Rattle.synthesis.specs.Table.{WellFormedTable}
 use Rattle.synthesis.proofs.Monitors.Renaming.{Renames, renamed-runs}
 use Rattle.synthesis.proofs.Monitors.Runs.{kept-append, verdicts-append, ended-append, verdicts-length}
-use Rattle.running.specs.Running.{start, answerIn, WellFormedTable, Run, runFrom}
+use Rattle.running.specs.Running.{start, answerIn, Run, runFrom}
 use Rattle.running.specs.Calls.{Call, History, noCalls, outcomeOf, withOutcome, withCall, Calls, none, call, OnTable, OnTableOrRefused}
 use Rattle.running.specs.declared.State.{State}
 use Rattle.running.proofs.RunCases.{run-cases}
@@ -45,16 +47,16 @@ with-fit mark h c =
 -- What holds before the first call, and after each run that may be made, holds after any number of calls.
 pub calls-induction : (limit mark : ℕ) (May : History → Call → Type 0) (P : History → Type 0) → P noCalls
     → ((h : History) (c : Call) → P h → Bytes (c .scans) → May h c
-    → outcomeOf limit mark h c ≡ accepted (runFrom mark (c .table) (h .state) (c .scans)) → P (withRun mark h c))
+    → outcomeOf limit mark (h .state) c ≡ accepted (runFrom mark (c .table) (h .state) (c .scans)) → P (withRun mark h c))
     → (h : History) → Calls limit mark May h → P h
 calls-induction limit mark May P first more h none = first
 calls-induction limit mark May P first more h (call before c calls bytes may) =
-    step (calls-induction limit mark May P first more before calls)
+    call-step (calls-induction limit mark May P first more before calls)
   where
-    step : P before → P (withCall limit mark before c)
-    step p =
+    call-step : P before → P (withCall limit mark before c)
+    call-step p =
         run-cases limit mark (c .table) (c .count) (before .state) (c .scans) (length (c .output)) (length (c .verdicts))
-        (λ o. outcomeOf limit mark before c ≡ o → P (withOutcome before c o))
+        (λ o. outcomeOf limit mark (before .state) c ≡ o → P (withOutcome before c o))
         (λ r e. subst P (sym (with-refused before c 15 0)) p)
         (λ r f e. subst P (sym (with-refused before c 16 0)) p)
         (λ r f e. subst P (sym (with-fit mark before c)) (more before c p bytes may e))
@@ -79,21 +81,21 @@ pub record OneRun (mark : ℕ) (table : List ℕ) (count : ℕ) (h : History) : 
 
 module _ (limit mark count : ℕ) (table : List ℕ) (wf : WellFormedTable limit mark count table) where
   -- The states of a run on the table go by the same names on any other with these rows.
-  renames : (t : List ℕ) → take (256 * count) t ≡ take (256 * count) table
+  same-rows-rename : (t : List ℕ) → take (256 * count) t ≡ take (256 * count) table
       → Renames 256 (λ s. s .equation < count) (answerIn mark table) (answerIn mark t) (λ s. s)
-  renames t same = record {
+  same-rows-rename t same = record {
     stays = λ s s′ c inside b q. next-inside limit mark count table wf s s′ c inside q;
-    drops = λ s c inside b q. same-answer-in limit mark count table wf t same s c inside b ∙ q;
-    follows = λ s s′ c inside b q. same-answer-in limit mark count table wf t same s c inside b ∙ q;
+    drops = λ s c inside b q. same-answer-in wf t same s c inside ∙ q;
+    follows = λ s s′ c inside b q. same-answer-in wf t same s c inside ∙ q;
   }
 
-  one-more : (h : History) (c : Call) → OneRun mark table count h → Bytes (c .scans) → OnTable table count c
+  one-run-next : (h : History) (c : Call) → OneRun mark table count h → Bytes (c .scans) → OnTable table count c
       → OneRun mark table count (withRun mark h c)
-  one-more h c before bytes on =
+  one-run-next h c before bytes on =
       let F = answerIn mark table in
       let w = c .scans in
       let run =
-      renamed-runs 256 (λ s. s .equation < count) F (answerIn mark (c .table)) (λ s. s) (renames (c .table) (on .same-rows)) (h .state) w
+      renamed-runs 256 (λ s. s .equation < count) F (answerIn mark (c .table)) (λ s. s) (same-rows-rename (c .table) (on .same-rows)) (h .state) w
       (before .inside) bytes in
       rw (run .keeps, run .judges, run .ends)
       (record {
@@ -108,9 +110,9 @@ module _ (limit mark count : ℕ) (table : List ℕ) (wf : WellFormedTable limit
   one-run =
       calls-induction limit mark (OnTableOrRefused limit mark table count) (OneRun mark table count)
       (record { bytes = tt; state = refl; kept = refl; verdicts = refl; inside = wf .some })
-      (λ h c before bytes may e. one-more h c before bytes (taken h c may e))
+      (λ h c before bytes may e. one-run-next h c before bytes (accepted-on-table h c may e))
     where
-      taken : (h : History) (c : Call) {y : Run} → OnTableOrRefused limit mark table count h c → outcomeOf limit mark h c ≡ accepted y
+      accepted-on-table : (h : History) (c : Call) {y : Run} → OnTableOrRefused limit mark table count h c → outcomeOf limit mark (h .state) c ≡ accepted y
           → OnTable table count c
-      taken h c (inl on) e = on
-      taken h c (inr refusal) e = absurd (never-accepted (sym (refusal .2) ∙ e))
+      accepted-on-table h c (inl on) e = on
+      accepted-on-table h c (inr refusal) e = absurd (never-accepted (sym (refusal .2) ∙ e))

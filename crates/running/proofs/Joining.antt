@@ -1,4 +1,4 @@
--- Two calls do what one call on both lists of scans does.
+-- Two calls do what one call on both lists of scans does: the second run goes on in the state in which the first ended, which fits the table too.
 use Prim.Native.Nat.{ℕ}
 use mathlib.Core.Path.{_≡_, refl}
 use mathlib.Core.Bool.{Bool, true, false}
@@ -12,7 +12,7 @@ use Rattle.running.specs.Promises.{Together, TwoCalls}
 use Rattle.running.specs.declared.State.{State}
 use Rattle.running.proofs.WithVerdicts.{occurrences-append}
 use Rattle.running.proofs.RunCases.{run-unfit, run-fit}
-use Rattle.running.proofs.Tables.{fits-well, well-fits, ends-inside}
+use Rattle.running.proofs.Tables.{fits-well-formed, well-formed-fits, ends-inside}
 
 -- two runs, the second from where the first ended
 followed-together : (mark : ℕ) (table : List ℕ) (s : State) (v w : List ℕ)
@@ -23,7 +23,7 @@ followed-together mark table s v w =
     let e = ended F s v in
     record {
       checked = refl;
-      ran = rw (
+      handed-back = rw (
         ended-append F s v w,
         kept-append F s v w,
         verdicts-append F s v w,
@@ -41,9 +41,9 @@ two-calls limit mark table count s v w o₁ v₁ o₂ v₂ o₃ v₃ r₁ r₂ r
         → let one = runOf limit mark table count s v o₁ v₁ in
         Together s one (runOf limit mark table count (resultOf s one .state) w o₂ v₂) (runOf limit mark table count s (v ++ w) o₃ v₃)
     on true f =
-        let well = fits-well limit mark table count s f in
+        let well = fits-well-formed limit mark table count s f in
         let e = ended (answerIn mark table) s v in
-        let f′ = well-fits limit mark table count e (well .0) (ends-inside limit mark count table (well .0) s v (well .1)) in
+        let f′ = well-formed-fits limit mark table count e (well .0) (ends-inside limit mark count table (well .0) s v (well .1)) in
         rw (
           run-fit limit mark table count s v o₁ v₁ r₁ f,
           run-fit limit mark table count e w o₂ v₂ r₂ f′,
@@ -56,4 +56,4 @@ two-calls limit mark table count s v w o₁ v₁ o₂ v₂ o₃ v₃ r₁ r₂ r
           run-unfit limit mark table count s w o₂ v₂ r₂ f,
           run-unfit limit mark table count s (v ++ w) o₃ v₃ r₃ f,
         )
-        (record { checked = refl; ran = refl; kept = refl; verdicts = refl })
+        (record { checked = refl; handed-back = refl; kept = refl; verdicts = refl })

@@ -1,4 +1,4 @@
--- What a run that isn't refused has passed, and what each outcome leaves.
+-- What a run that isn't refused has passed, and what each outcome leaves: by the three ways of a run.
 use Prim.Native.Nat.{ℕ, _-_, _≤_, _<_}
 use mathlib.Core.Path.{_≡_, refl, sym, _∙_, ap}
 use mathlib.Core.Bool.{true}
@@ -14,7 +14,7 @@ use Rattle.running.specs.declared.Checked.the-variants.{Fit, Refused}
 use Rattle.running.specs.declared.RunResult.{RunResult}
 use Rattle.running.proofs.Counting.{kept-dropped}
 use Rattle.running.proofs.RunCases.{run-fit, run-cases}
-use Rattle.running.proofs.Tables.{fits-well}
+use Rattle.running.proofs.Tables.{fits-well-formed}
 use Rattle.running.proofs.Refusals.{has-room-lengths}
 
 -- ---- what a run that isn't refused has passed
@@ -27,9 +27,9 @@ module _ (limit mark : ℕ) (table : List ℕ) (count : ℕ) (s : State) (scans 
     pub is : runOf limit mark table count s scans output verdicts ≡ accepted (runFrom mark table s scans)
 
   -- both tests
-  tests : checkedOf (runOf limit mark table count s scans output verdicts) ≡ Fit
+  passed-tests : checkedOf (runOf limit mark table count s scans output verdicts) ≡ Fit
       → (hasRoom scans output verdicts ≡ true) × (fits limit mark table count s ≡ true)
-  tests =
+  passed-tests =
       run-cases limit mark table count s scans output verdicts
       (λ o. checkedOf o ≡ Fit → (hasRoom scans output verdicts ≡ true) × (fits limit mark table count s ≡ true))
       (λ r e. absurd (refused-fit e)) (λ r f e. absurd (refused-fit e)) (λ r f e. (r, f))
@@ -39,9 +39,9 @@ module _ (limit mark : ℕ) (table : List ℕ) (count : ℕ) (s : State) (scans 
 
   pub passed : {checked : Checked} → checked ≡ checkedOf (runOf limit mark table count s scans output verdicts) → checked ≡ Fit → Passed
   passed e f =
-      let test = tests (sym e ∙ f) in
+      let test = passed-tests (sym e ∙ f) in
       let room = has-room-lengths scans output verdicts (test .0) in
-      let well = fits-well limit mark table count s (test .1) in
+      let well = fits-well-formed limit mark table count s (test .1) in
       record {
         output-room = room .0;
         verdicts-room = room .1;

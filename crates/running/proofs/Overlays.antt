@@ -1,4 +1,4 @@
--- A law of lists over the front of a buffer.
+-- A law of lists over the front of a buffer: what is written right behind the front makes the front longer.
 use Prim.Native.Nat.{ℕ, _<_}
 use mathlib.Core.Path.{_≡_}
 use mathlib.Core.List.{List, [], _∷_, _++_}

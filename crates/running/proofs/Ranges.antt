@@ -1,4 +1,4 @@
--- Entries in range, with one more.
+-- A list with one more entry is in range where the list and the entry are, by induction on the list.
 use Prim.Native.Nat.{ℕ}
 use mathlib.Core.Path.{_≡_, ap, sym, _∙_}
 use mathlib.Core.Bool.{Bool, _&&_, and-true, and-assoc}

@@ -1,4 +1,4 @@
--- The three ways of a run: refused with 15, refused with 16, or over its scans.
+-- The three ways of a run, by its two tests: refused with 15, refused with 16, or over its scans.
 use Prim.Native.Nat.{ℕ}
 use mathlib.Core.Path.{_≡_, refl}
 use mathlib.Core.Bool.{Bool, true, false, not}

@@ -1,4 +1,5 @@
--- The loop over the scans: what it has at the start, after one more scan, and at the end.
+-- The loop over the scans: after i of them it has what a run over the first i leaves, so after one more scan it has what a run over one more leaves,
+-- and at the end what the whole run leaves.
 use Prim.Native.Nat.{ℕ, _+_, _*_, _/_, _≤_, _<_}
 use mathlib.Core.Path.{_≡_, refl, sym, _∙_, ap}
 use mathlib.Core.Bool.{Bool, true, false, cond}
@@ -11,17 +12,17 @@ use lib.ListN.{length, getD, take, set, length-append, length-set}
 use lib.Seq.{take-all, take-suc, length-take-le, set-getD}
 use Rattle.synthesis.specs.Monitor.{dropped, next, kept, verdicts, ended, rowOf}
 use Rattle.synthesis.proofs.Monitors.Runs.{kept-last, ended-last, verdicts-last, kept-drop, ended-drop, verdicts-drop, verdicts-length}
-use Rattle.running.specs.Running.{answerIn, runFrom, overlay}
+use Rattle.running.specs.Running.{start, moved, answerIn, runFrom, overlay}
 use Rattle.running.specs.declared.State.{State}
 use Rattle.running.proofs.Overlays.{overlay-set}
 
 -- ---- one more scan
 
 -- what the table answers, from the entry
-answers : (mark : ℕ) (table : List ℕ) (s : State) (c entry : ℕ) → entry ≡ getD (rowOf 256 table (s .equation)) c mark → (b : Bool)
-    → eqb entry mark ≡ b → answerIn mark table s c ≡ cond b dropped (next (record { equation = entry }))
-answers mark table s c entry h true q = rw (← h, q)
-answers mark table s c entry h false q = rw (← h, q)
+answer-by-entry : (mark : ℕ) (table : List ℕ) (s : State) (c entry : ℕ) → entry ≡ getD (rowOf 256 table (s .equation)) c mark → (b : Bool)
+    → eqb entry mark ≡ b → answerIn mark table s c ≡ cond b dropped (next (moved s entry))
+answer-by-entry mark table s c entry h true q = rw (← h, q)
+answer-by-entry mark table s c entry h false q = rw (← h, q)
 
 module _ (mark : ℕ) (table : List ℕ) (s : State) (output₀ judged₀ : List ℕ) where
   -- what the loop has when it has gone over the scans w: where the row of the equation begins, how many were kept, and the buffers
@@ -45,17 +46,17 @@ module _ (mark : ℕ) (table : List ℕ) (s : State) (output₀ judged₀ : List
     module _ (entry : ℕ) (is : entry ≡ getD (rowOf 256 table (from / 256)) c mark) where
       -- the table's answer where the run stands
       answer-is : (b : Bool) → eqb entry mark ≡ b
-          → answerIn mark table (ended (answerIn mark table) s w) c ≡ cond b dropped (next (record { equation = entry }))
+          → answerIn mark table (ended (answerIn mark table) s w) c ≡ cond b dropped (next (moved (ended (answerIn mark table) s w) entry))
       answer-is =
           let k = ended (answerIn mark table) s w .equation in
           let e : from / 256 ≡ k = rw (h .from-is) (mul-div-right k (omega arith)) in
-          answers mark table (ended (answerIn mark table) s w) c entry (rw e at is)
+          answer-by-entry mark table (ended (answerIn mark table) s w) c entry (rw e at is)
 
       -- with the entry for c, the loop has what it should after w and c
-      has-more : (n : ℕ) → length w ≡ n → keeps < length output₀ → n < length judged₀ → (b : Bool) → eqb entry mark ≡ b
+      has-next : (n : ℕ) → length w ≡ n → keeps < length output₀ → n < length judged₀ → (b : Bool) → eqb entry mark ≡ b
           → Has (w ++ (c ∷ [])) (set output keeps (cond b (getD output keeps 0) c)) (set judged n (cond b 1 0))
           (cond b from (256 * entry)) (keeps + cond b 0 1)
-      has-more n l ro rj true q =
+      has-next n l ro rj true q =
           let F = answerIn mark table in
           let d = answer-is true q in
           record {
@@ -64,7 +65,7 @@ module _ (mark : ℕ) (table : List ℕ) (s : State) (output₀ judged₀ : List
             output-is = rw (kept-drop F s w c d) (set-getD output keeps 0 ∙ h .output-is);
             judged-is = rw (verdicts-drop F s w c d) (judged-last n 1 l rj);
           }
-      has-more n l ro rj false q =
+      has-next n l ro rj false q =
           let F = answerIn mark table in
           let d = answer-is false q in
           record {
@@ -86,12 +87,12 @@ module _ (mark : ℕ) (table : List ℕ) (s : State) (output₀ judged₀ : List
 
     module _ (output judged : List ℕ) (from keeps i : ℕ) (h : After output judged from keeps i) (more : i < length scans) where
       -- what the turn writes and goes on with is told by equations, as its calls tell it
-      pub one-more : length scans ≤ length output₀ → length scans ≤ length judged₀ → (entry : ℕ) → entry < 256
+      pub after-next : length scans ≤ length output₀ → length scans ≤ length judged₀ → (entry : ℕ) → entry < 256
           → entry ≡ getD (rowOf 256 table (from / 256)) (getD scans i 0) mark
           → {x v from′ k : ℕ} → x ≡ cond (eqb entry mark) (getD output keeps 0) (getD scans i 0) → v ≡ cond (eqb entry mark) 1 0
           → from′ ≡ cond (eqb entry mark) from (256 * entry) → k ≡ cond (eqb entry mark) 0 1
           → After (set output keeps x) (set judged i v) from′ (keeps + k) (i + 1)
-      one-more ro rj entry below is ex ev ef ek =
+      after-next ro rj entry below is ex ev ef ek =
           let l = length-take-le i scans (omega arith) in
           let grown : take (i + 1) scans ≡ take i scans ++ (getD scans i 0 ∷ []) = rw (add-one, take-suc scans i 0) in
           record {
@@ -101,7 +102,7 @@ module _ (mark : ℕ) (table : List ℕ) (s : State) (output₀ judged₀ : List
             output-length = simp length-set (h .output-length);
             judged-length = simp length-set (h .judged-length);
             has = rw (grown, ex, ev, ef, ek)
-                (has-more (take i scans) output judged from keeps (getD scans i 0) (h .has) entry is i l (omega arith) (omega arith)
+                (has-next (take i scans) output judged from keeps (getD scans i 0) (h .has) entry is i l (omega arith) (omega arith)
                 (eqb entry mark) refl);
           }
         where
@@ -115,34 +116,38 @@ module _ (mark : ℕ) (table : List ℕ) (s : State) (output₀ judged₀ : List
 
 -- ---- where the loop begins and ends
 
+-- the state of a run that stands where a row begins
+abbrev pub stateAt : (from : ℕ) → State
+stateAt from = moved start (from / 256)
+
 -- what the function hands back after all scans
-abbrev Ends : (mark : ℕ) → (table : List ℕ) → State → (output₀ judged₀ scans output judged : List ℕ) → (from keeps : ℕ) → Type 0
-Ends mark table s output₀ judged₀ scans output judged from keeps =
+abbrev HandsBack : (mark : ℕ) → (table : List ℕ) → State → (output₀ judged₀ scans output judged : List ℕ) → (from keeps : ℕ) → Type 0
+HandsBack mark table s output₀ judged₀ scans output judged from keeps =
     let run = runFrom mark table s scans in
-    (_≡_ {A = State} (record { equation = from / 256 }) (run .state))
+    (stateAt from ≡ run .state)
     × ((keeps ≡ length (run .kept)) × ((output ≡ overlay (run .kept) output₀) × (judged ≡ overlay (run .verdicts) judged₀)))
 
 module _ (mark : ℕ) (table : List ℕ) (s : State) (output₀ judged₀ scans : List ℕ) where
   -- from the beginning of a row back to its equation
-  row-begin : 256 * s .equation / 256 ≡ s .equation
-  row-begin = mul-div-right (s .equation) (omega arith)
+  row-begin-is : 256 * s .equation / 256 ≡ s .equation
+  row-begin-is = mul-div-right (s .equation) (omega arith)
 
-  pub begins : s .equation < 256
-      → After mark table (record { equation = 256 * s .equation / 256 }) output₀ judged₀ scans output₀ judged₀ (256 * s .equation) 0 0
-  begins r = record {
+  pub after-none : s .equation < 256
+      → After mark table (stateAt (256 * s .equation)) output₀ judged₀ scans output₀ judged₀ (256 * s .equation) 0 0
+  after-none r = record {
     inside = omega arith;
     few = omega arith;
     small = omega arith;
     output-length = refl;
     judged-length = refl;
-    has = record { from-is = rw row-begin; keeps-is = refl; output-is = refl; judged-is = refl };
+    has = record { from-is = rw row-begin-is; keeps-is = refl; output-is = refl; judged-is = refl };
   }
 
-  pub ends : (output judged : List ℕ) (from keeps i : ℕ)
-      → After mark table (record { equation = 256 * s .equation / 256 }) output₀ judged₀ scans output judged from keeps i → length scans ≤ i
-      → Ends mark table s output₀ judged₀ scans output judged from keeps
-  ends output judged from keeps i h r =
+  pub after-all : (output judged : List ℕ) (from keeps i : ℕ)
+      → After mark table (stateAt (256 * s .equation)) output₀ judged₀ scans output judged from keeps i → length scans ≤ i
+      → HandsBack mark table s output₀ judged₀ scans output judged from keeps
+  after-all output judged from keeps i h r =
       let all = take-all i scans r in
-      let e = rw (row-begin, all) at (h .has) in
+      let e = rw (row-begin-is, all) at (h .has) in
       let row : from / 256 ≡ ended (answerIn mark table) s scans .equation = rw (e .from-is) (mul-div-right _ (omega arith)) in
-      (ap (λ (n : ℕ). record { equation = n }) row, (e .keeps-is, (e .output-is, e .judged-is)))
+      (ap (moved start) row, (e .keeps-is, (e .output-is, e .judged-is)))

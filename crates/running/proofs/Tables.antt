@@ -1,130 +1,108 @@
--- Well-formed tables: the test for them, their entries, and where a run on one ends.
-use Prim.Native.Nat.{ℕ, zero, suc, _+_, _*_, _/_, _%_, _≤_, _<_}
-use mathlib.Core.Path.{_≡_, refl, sym, _∙_, ap}
-use mathlib.Core.Logic.{_↔_, _⊎_, inl, inr}
+-- The test of a table holds exactly where the table is well formed, since the bytes that it looks at are the entries of the rows. A run on a
+-- well-formed table never leaves its equations, and goes alike on every table with the same rows.
+use Prim.Native.Nat.{ℕ, zero, suc, _+_, _*_, _≤_, _<_}
+use mathlib.Core.Path.{_≡_, refl, ap}
+use mathlib.Core.Logic.{_↔_, inl, inr}
 use mathlib.Core.Bool.{Bool, true, false, _&&_, and-eq-true-iff}
 use mathlib.Core.List.{List, [], _∷_}
-use native.Mathlib.Decide.{decLt}
-use native.Mathlib.Nat.{div-add-mod, mod-lt}
 use native.Mathlib.Omega.{arith}
 use lib.Dec.{eqb, ltb, leb}
-use lib.ListN.{length, getD, take, drop, length-take, List·getD-eq-default}
+use lib.ListN.{length, getD, take}
 use lib.Seq.{length-take-le, getD-take}
 use borrow.Author.Tests.{eqb-true, eqb-false, ltb-true, lt-ltb, leb-true, le-leb}
 use Rattle.synthesis.specs.Monitor.{dropped, next, cases, ended, rowOf, meaning}
-use Rattle.synthesis.proofs.Tables.Rows.{row-is, row-at}
+use Rattle.synthesis.specs.Table.{InRange, WellFormedTable}
+use Rattle.synthesis.proofs.Tables.Rows.{row-at}
+use Rattle.synthesis.proofs.Tables.WellFormedTables.{well-formed-room, well-formed-row, well-formed-byte, well-formed-by-bytes}
+use Rattle.synthesis.proofs.Tables.WellFormedTables.{row-entry-in-range, same-row}
 use Rattle.synthesis.proofs.Monitors.Runs.{run-induction}
-use Rattle.running.specs.Running.{moved, answerIn, inRange, entriesInRange, isWellFormed, WellFormedTable, fits}
+use Rattle.running.specs.Running.{moved, answerIn, inRange, entriesInRange, isWellFormed, fits}
 use Rattle.running.specs.declared.State.{State}
 
 -- ---- the test of a table
 
 module _ (mark count : ℕ) where
-  -- an entry that is the mark or a number under the count
-  abbrev pub InRange : ℕ → Type 0
-  InRange x = (x ≡ mark) ⊎ (x < count)
-
-  pub in-range : (x : ℕ) → (inRange mark count x ≡ true) ↔ InRange x
+  pub in-range : (x : ℕ) → (inRange mark count x ≡ true) ↔ InRange mark count x
   in-range x = on (eqb x mark) refl
     where
-      on : (b : Bool) → eqb x mark ≡ b → (inRange mark count x ≡ true) ↔ InRange x
+      on : (b : Bool) → eqb x mark ≡ b → (inRange mark count x ≡ true) ↔ InRange mark count x
       on true q = (λ e. inl (eqb-true x mark q), λ h. rw q)
       on false q = (λ e. inr (ltb-true x count (rw q at e)), λ h. rw q (under h))
         where
-          under : InRange x → ltb x count ≡ true
+          under : InRange mark count x → ltb x count ≡ true
           under (inl z) = absurd (eqb-false x mark q z)
           under (inr h) = lt-ltb x count h
 
   -- a list is in range where each of its elements is
-  all-in-range : (l : List ℕ) → (entriesInRange mark count l ≡ true) ↔ ((i : ℕ) → i < length l → InRange (getD l i 0))
+  all-in-range : (l : List ℕ) → (entriesInRange mark count l ≡ true) ↔ ((i : ℕ) → i < length l → InRange mark count (getD l i 0))
   unfolding entriesInRange
   all-in-range [] = (λ e i h. absurd (omega arith), λ h. refl)
   all-in-range (x ∷ l) = (
-    λ e. each (both .0 e) (all-in-range l .0),
-    λ h. both .1 (in-range x .1 (h 0 (omega arith)), all-in-range l .1 (λ i b. h (suc i) (omega arith))),
+    λ e. entries-in-range-at (both-tests .0 e) (all-in-range l .0),
+    λ h. both-tests .1 (in-range x .1 (h 0 (omega arith)), all-in-range l .1 (λ i b. h (suc i) (omega arith))),
   )
     where
-      both : ((inRange mark count x && entriesInRange mark count l) ≡ true) ↔ ((inRange mark count x ≡ true) × (entriesInRange mark count l ≡ true))
-      both = and-eq-true-iff (inRange mark count x) (entriesInRange mark count l)
+      both-tests : ((inRange mark count x && entriesInRange mark count l) ≡ true) ↔ ((inRange mark count x ≡ true) × (entriesInRange mark count l ≡ true))
+      both-tests = and-eq-true-iff (inRange mark count x) (entriesInRange mark count l)
 
-      each : (inRange mark count x ≡ true) × (entriesInRange mark count l ≡ true)
-          → (entriesInRange mark count l ≡ true → (i : ℕ) → i < length l → InRange (getD l i 0))
-          → (i : ℕ) → i < length (x ∷ l) → InRange (getD (x ∷ l) i 0)
-      each e rest zero h = in-range x .0 (e .0)
-      each e rest (suc i) h = rest (e .1) i (omega arith)
+      entries-in-range-at : (inRange mark count x ≡ true) × (entriesInRange mark count l ≡ true)
+          → (entriesInRange mark count l ≡ true → (i : ℕ) → i < length l → InRange mark count (getD l i 0))
+          → (i : ℕ) → i < length (x ∷ l) → InRange mark count (getD (x ∷ l) i 0)
+      entries-in-range-at e rest zero h = in-range x .0 (e .0)
+      entries-in-range-at e rest (suc i) h = rest (e .1) i (omega arith)
 
 module _ (limit mark : ℕ) (table : List ℕ) (count : ℕ) where
-  -- the entries by their place, and not by row and code
-  by-place : WellFormedTable limit mark count table → (i : ℕ) → i < 256 * count → InRange mark count (getD table i 0)
-  by-place wf i h =
-      let is : 256 * (i / 256) + i % 256 ≡ i = div-add-mod i 256 in
-      let code : i % 256 < 256 = mod-lt i (omega arith) in
-      rw is at (wf .range (i / 256) (i % 256) (omega arith) code)
-
   -- what is left of the test after each of its parts
-  abbrev entries-fit : Bool
-  entries-fit = entriesInRange mark count (take (256 * count) table)
+  abbrev entriesTest : Bool
+  entriesTest = entriesInRange mark count (take (256 * count) table)
 
-  abbrev rows-fit : Bool
-  rows-fit = leb (256 * count) (length table) && entries-fit
+  abbrev rowsTest : Bool
+  rowsTest = leb (256 * count) (length table) && entriesTest
 
-  test-well : isWellFormed limit mark table count ≡ true → WellFormedTable limit mark count table
+  test-well-formed : isWellFormed limit mark table count ≡ true → WellFormedTable limit mark count table
   unfolding isWellFormed
-  test-well e =
-      let one = and-eq-true-iff (leb 1 count) (leb count limit && rows-fit) .0 e in
-      let two = and-eq-true-iff (leb count limit) rows-fit .0 (one .1) in
-      let three = and-eq-true-iff (leb (256 * count) (length table)) entries-fit .0 (two .1) in
+  test-well-formed e =
+      let one = and-eq-true-iff (leb 1 count) (leb count limit && rowsTest) .0 e in
+      let two = and-eq-true-iff (leb count limit) rowsTest .0 (one .1) in
+      let three = and-eq-true-iff (leb (256 * count) (length table)) entriesTest .0 (two .1) in
       let room : 256 * count ≤ length table = leb-true (256 * count) (length table) (three .0) in
       let long : length (take (256 * count) table) ≡ 256 * count = length-take-le (256 * count) table room in
-      let each = all-in-range mark count (take (256 * count) table) .0 (three .1) in
-      record {
-        some = leb-true 1 count (one .0);
-        few = leb-true count limit (two .0);
-        room = room;
-        range = λ k c h b. rw (getD-take (256 * count) table (256 * k + c) 0 (omega arith)) at (each (256 * k + c) (omega arith));
-      }
+      let entries-in-range-at = all-in-range mark count (take (256 * count) table) .0 (three .1) in
+      well-formed-by-bytes limit mark count table (leb-true 1 count (one .0)) (leb-true count limit (two .0)) room
+      (λ i h. rw (getD-take (256 * count) table i 0 h) at (entries-in-range-at i (omega arith)))
 
-  well-tests : WellFormedTable limit mark count table → isWellFormed limit mark table count ≡ true
+  well-formed-test : WellFormedTable limit mark count table → isWellFormed limit mark table count ≡ true
   unfolding isWellFormed
-  well-tests wf =
-      let long : length (take (256 * count) table) ≡ 256 * count = length-take-le (256 * count) table (wf .room) in
-      rw (le-leb 1 count (wf .some), le-leb count limit (wf .few), le-leb (256 * count) (length table) (wf .room))
+  well-formed-test wf =
+      let room = well-formed-room wf in
+      let long : length (take (256 * count) table) ≡ 256 * count = length-take-le (256 * count) table room in
+      rw (le-leb 1 count (wf .some), le-leb count limit (wf .few), le-leb (256 * count) (length table) room)
       (all-in-range mark count (take (256 * count) table) .1
-      (λ i h. rw (getD-take (256 * count) table i 0 (omega arith)) (by-place wf i (omega arith))))
+      (λ i h. rw (getD-take (256 * count) table i 0 (omega arith)) (well-formed-byte wf i (omega arith))))
+
+  pub is-well-formed-iff : (isWellFormed limit mark table count ≡ true) ↔ WellFormedTable limit mark count table
+  is-well-formed-iff = (test-well-formed, well-formed-test)
 
   module _ (s : State) where
-    pub fits-well : fits limit mark table count s ≡ true → WellFormedTable limit mark count table × (s .equation < count)
+    pub fits-well-formed : fits limit mark table count s ≡ true → WellFormedTable limit mark count table × (s .equation < count)
     unfolding fits
-    fits-well e =
-        let both = and-eq-true-iff (isWellFormed limit mark table count) (ltb (s .equation) count) .0 e in
-        (test-well (both .0), ltb-true (s .equation) count (both .1))
+    fits-well-formed e =
+        let both-tests = and-eq-true-iff (isWellFormed limit mark table count) (ltb (s .equation) count) .0 e in
+        (is-well-formed-iff .0 (both-tests .0), ltb-true (s .equation) count (both-tests .1))
 
-    pub well-fits : WellFormedTable limit mark count table → s .equation < count → fits limit mark table count s ≡ true
+    pub well-formed-fits : WellFormedTable limit mark count table → s .equation < count → fits limit mark table count s ≡ true
     unfolding fits
-    well-fits wf inside = rw (well-tests wf) (lt-ltb (s .equation) count inside)
+    well-formed-fits wf inside = rw (well-formed-test wf) (lt-ltb (s .equation) count inside)
 
--- ---- the entries of a well-formed table
+-- ---- a run on a well-formed table
 
 module _ (limit mark count : ℕ) (table : List ℕ) (wf : WellFormedTable limit mark count table) where
-  row-inside : (k : ℕ) → k < count → 256 * k + 256 ≤ length table
-  row-inside k h = omega (arith, wf .room)
-
   pub answer-in-is : (s : State) (c : ℕ) → s .equation < count → c < 256
       → answerIn mark table s c ≡ cases (meaning mark (getD table (256 * (s .equation) + c) 0)) dropped (λ e. next (moved s e))
-  answer-in-is s c h b = rw (row-at table (s .equation) c mark (row-inside (s .equation) h) b)
-
-  -- every scan has an entry in range, also one that isn't a byte
-  entry-range : (k c : ℕ) → k < count → InRange mark count (getD (rowOf 256 table k) c mark)
-  entry-range k c h = on (decLt c 256)
-    where
-      on : Dec (c < 256) → InRange mark count (getD (rowOf 256 table k) c mark)
-      on (yes b) = rw (row-at table k c mark (row-inside k h) b) (wf .range k c h b)
-      on (no b) =
-          inl (List·getD-eq-default (rowOf 256 table k) mark
-          (rw (row-is 256 table k (row-inside k h), length-take 256 (drop (256 * k) table)) (omega arith)))
+  answer-in-is s c h b = rw (row-at table (s .equation) c mark (well-formed-row wf (s .equation) h) b)
 
   pub next-inside : (s s′ : State) (c : ℕ) → s .equation < count → answerIn mark table s c ≡ next s′ → s′ .equation < count
-  next-inside s s′ c h e = on (eqb x mark) refl (entry-range (s .equation) c h)
+  next-inside s s′ c h e = on (eqb x mark) refl (row-entry-in-range wf (s .equation) c h)
     where
       x : ℕ
       x = getD (rowOf 256 table (s .equation)) c mark
@@ -133,8 +111,8 @@ module _ (limit mark count : ℕ) (table : List ℕ) (wf : WellFormedTable limit
       on true q r = let z : dropped ≡ next s′ = rw q at e in let y : _≡_ {A = ℕ} 0 1 = cc in absurd (omega arith)
       on false q (inl z) = absurd (eqb-false x mark q z)
       on false q (inr l) =
-          let z : next (record { equation = x }) ≡ next s′ = rw q at e in
-          let is : _≡_ {A = State} (record { equation = x }) s′ = cc in
+          let z : next (moved s x) ≡ next s′ = rw q at e in
+          let is : moved s x ≡ s′ = cc in
           omega (arith, ap (λ (s : State). s .equation) is)
 
   pub ends-inside : (s : State) (scans : List ℕ) → s .equation < count → ended (answerIn mark table) s scans .equation < count
@@ -144,26 +122,7 @@ module _ (limit mark count : ℕ) (table : List ℕ) (wf : WellFormedTable limit
 
 -- ---- tables with the same rows
 
-module _ (limit mark count : ℕ) (table : List ℕ) (wf : WellFormedTable limit mark count table) (other : List ℕ)
-    (same : take (256 * count) other ≡ take (256 * count) table) where
-  -- the other has all of them
-  other-room : 256 * count ≤ length other
-  other-room =
-      let long = length-take-le (256 * count) table (wf .room) in
-      omega (arith, length-take (256 * count) other, ap length same)
-
-  same-entry : (i : ℕ) → i < 256 * count → getD other i 0 ≡ getD table i 0
-  same-entry i h = rw (← getD-take (256 * count) other i 0 h, ← getD-take (256 * count) table i 0 h, same)
-
-  pub other-well-formed : WellFormedTable limit mark count other
-  other-well-formed = record {
-    some = wf .some;
-    few = wf .few;
-    room = other-room;
-    range = λ k c h b. rw (same-entry (256 * k + c) (omega arith)) (wf .range k c h b);
-  }
-
-  pub same-answer-in : (s : State) (c : ℕ) → s .equation < count → c < 256 → answerIn mark other s c ≡ answerIn mark table s c
-  same-answer-in s c h b =
-      answer-in-is limit mark count other other-well-formed s c h b
-      ∙ rw (same-entry (256 * (s .equation) + c) (omega arith)) (sym (answer-in-is limit mark count table wf s c h b))
+pub same-answer-in : {limit mark count : ℕ} {table : List ℕ} → WellFormedTable limit mark count table → (other : List ℕ)
+    → take (256 * count) other ≡ take (256 * count) table → (s : State) (c : ℕ) → s .equation < count
+    → answerIn mark other s c ≡ answerIn mark table s c
+same-answer-in wf other same s c h = rw (same-row wf other same (s .equation) h)

@@ -1,4 +1,5 @@
--- The scans that have a verdict, and how often a number stands in a list.
+-- The scans that have a verdict, and how often a number stands in a list: laws by induction on the lists, among them that the kept scans are those
+-- with verdict 0.
 use Prim.Native.Nat.{ℕ, suc, _+_}
 use mathlib.Core.Path.{_≡_, refl, ap}
 use mathlib.Core.Bool.{Bool, true, false, cond}

@@ -13,6 +13,8 @@ use Rattle.running.specs.declared.State.{State}
 use Rattle.running.specs.declared.Checked.{Checked}
 use Rattle.running.specs.declared.Checked.the-variants.{Fit, Refused}
 
+-- ---- one call, and what its caller has
+
 -- what a call is handed beside the state; the buffers as they were before it
 pub record Call : Type 0 where
   pub table : List ℕ
@@ -37,9 +39,9 @@ abbrev pub taken : Checked → (scans : List ℕ) → List ℕ
 taken Fit scans = scans
 taken (Refused number place) scans = []
 
--- the outcome of a call after others
-abbrev pub outcomeOf : (limit mark : ℕ) → History → Call → Outcome Run
-outcomeOf limit mark h c = runOf limit mark (c .table) (c .count) (h .state) (c .scans) (length (c .output)) (length (c .verdicts))
+-- the outcome of a call with this state
+abbrev pub outcomeOf : (limit mark : ℕ) → State → Call → Outcome Run
+outcomeOf limit mark s c = runOf limit mark (c .table) (c .count) s (c .scans) (length (c .output)) (length (c .verdicts))
 
 -- what the caller has after one more call: as many bytes from the front of each buffer as were written to it
 abbrev pub withOutcome : History → Call → Outcome Run → History
@@ -54,7 +56,9 @@ withOutcome h c outcome =
     }
 
 abbrev pub withCall : (limit mark : ℕ) → History → Call → History
-withCall limit mark h c = withOutcome h c (outcomeOf limit mark h c)
+withCall limit mark h c = withOutcome h c (outcomeOf limit mark (h .state) c)
+
+-- ---- any number of calls
 
 -- What a caller has after any number of calls, each of them one that may be made where the caller stands. Their scans are bytes.
 pub data Calls (limit mark : ℕ) (May : History → Call → Type 0) : History → Type 0 where
@@ -68,7 +72,9 @@ pub record OnTable (table : List ℕ) (count : ℕ) (c : Call) : Type 0 where
 
 -- the same, and any others that are refused
 abbrev pub OnTableOrRefused : (limit mark : ℕ) → (table : List ℕ) → (count : ℕ) → History → Call → Type 0
-OnTableOrRefused limit mark table count h c = OnTable table count c ⊎ ((number place : ℕ) × (outcomeOf limit mark h c ≡ refused number place))
+OnTableOrRefused limit mark table count h c = OnTable table count c ⊎ ((number place : ℕ) × (outcomeOf limit mark (h .state) c ≡ refused number place))
+
+-- ---- verdicts
 
 -- the scans that have this verdict
 unfoldable pub withVerdict : (verdict : ℕ) → (verdicts scans : List ℕ) → List ℕ

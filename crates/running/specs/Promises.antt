@@ -6,17 +6,19 @@ use mathlib.Core.Logic.{_↔_, _⊎_}
 use mathlib.Core.Bool.{true}
 use mathlib.Core.List.{List, [], _∷_, _++_}
 use lib.ListN.{length, getD, take, drop}
-use Rattle.reading.specs.Rule.{Rule, Bytes}
-use Rattle.reading.specs.File.{Outcome, accepted, ruleOf}
+use Rattle.reading.specs.Rule.{Rule}
+use Rattle.reading.specs.File.{Outcome, accepted}
 use Rattle.synthesis.specs.Violation.{ViolatesRule}
 use Rattle.synthesis.specs.Monitor.{dropped, cases, next, meaning}
-use Rattle.synthesis.specs.Building.{buildingOf, countedOf, tableAfter}
-use Rattle.synthesis.specs.declared.Counted.the-variants.{Equations}
-use Rattle.running.specs.Running.{moved, answerIn, WellFormedTable, hasRoom, Run, runFrom, runOf, checkedOf, occurrences, resultOf}
+use Rattle.synthesis.specs.Table.{WellFormedTable}
+use Rattle.synthesis.specs.Building.{Builds}
+use Rattle.running.specs.Running.{moved, answerIn, hasRoom, Run, runFrom, runOf, checkedOf, occurrences, resultOf}
 use Rattle.running.specs.Running.{keptOf, verdictsOf, outputAfter, verdictsAfter}
 use Rattle.running.specs.Calls.{Call, History, taken, outcomeOf, Calls, OnTable, OnTableOrRefused, withVerdict}
 use Rattle.running.specs.declared.State.{State}
 use Rattle.running.specs.declared.Checked.the-variants.{Fit, Refused}
+
+-- ---- scans are dropped by the rule
 
 -- 1. Demand 2. After any number of calls on the table that building leaves, a scan has verdict 1 exactly when the scans kept before it,
 -- with it after them, violate the rule. What was kept doesn't.
@@ -31,14 +33,15 @@ pub record Sifted (r : Rule) (h : History) : Type 0 where
 
 abbrev pub DropsExactly : Type 0
 DropsExactly =
-    (limit mark : ℕ) (s table : List ℕ) (r : Rule) (n : ℕ) → limit ≤ mark → Bytes s → ruleOf s ≡ accepted r
-    → countedOf (buildingOf limit s (length table)) ≡ Equations n
-    → (h : History) → Calls limit mark (OnTableOrRefused limit mark (tableAfter mark (buildingOf limit s (length table)) table) n) h → Sifted r h
+    (limit mark : ℕ) (s table : List ℕ) (r : Rule) (n : ℕ) (left : List ℕ) → Builds limit mark s table r n left
+    → (h : History) → Calls limit mark (OnTableOrRefused limit mark left n) h → Sifted r h
+
+-- ---- runs over some scans and then over others
 
 -- 2. Two calls, the second with the state of the first, do what one call on both lists of scans does.
 pub record Together (s : State) (one two both : Outcome Run) : Type 0 where
   pub checked : resultOf (resultOf s one .state) two .checked ≡ resultOf s one .checked
-  pub ran : resultOf s both ≡ record {
+  pub handed-back : resultOf s both ≡ record {
     checked = resultOf s one .checked;
     state = resultOf (resultOf s one .state) two .state;
     kept = resultOf s one .kept + resultOf (resultOf s one .state) two .kept;
@@ -54,6 +57,8 @@ TwoCalls =
     let one = runOf limit mark table count s first o₁ v₁ in
     let two = runOf limit mark table count (resultOf s one .state) second o₂ v₂ in
     Together s one two (runOf limit mark table count s (first ++ second) o₃ v₃)
+
+-- ---- no scan is lost
 
 -- 3. Of each code, the scans that a run took are those that it kept and those with verdict 1. The counts are as the verdicts say.
 pub record Conserved (s : State) (scans : List ℕ) (outcome : Outcome Run) : Type 0 where
@@ -75,6 +80,8 @@ CallsConserve =
     (limit mark : ℕ) (h : History) → Calls limit mark (λ h c. Unit) h → (c : ℕ)
     → occurrences c (h .scans) ≡ occurrences c (h .kept) + occurrences c (withVerdict 1 (h .verdicts) (h .scans))
 
+-- ---- refusals
+
 -- 4. 15 is for buffers that are too short, and comes first; 16 for a count, a state or a table that is unfit. Any other run follows the
 -- entries, and ends in an equation of the table.
 pub record RunsOn (limit mark : ℕ) (table : List ℕ) (count : ℕ) (s : State) (scans : List ℕ) (output verdicts : ℕ) : Type 0 where
@@ -94,47 +101,43 @@ RunsOnTables =
     (limit mark : ℕ) (table : List ℕ) (count : ℕ) (s : State) (scans : List ℕ) (output verdicts : ℕ)
     → RunsOn limit mark table count s scans output verdicts
 
--- A table that building leaves is well formed for its count,
-abbrev pub BuiltWellFormed : Type 0
-BuiltWellFormed =
-    (limit mark : ℕ) (s table : List ℕ) (n : ℕ) → countedOf (buildingOf limit s (length table)) ≡ Equations n
-    → WellFormedTable limit mark n (tableAfter mark (buildingOf limit s (length table)) table)
-
--- and no call on it is refused with 16, after any calls as in 1.
+-- No call on the table that building leaves is refused with 16, after any calls as in 1.
 abbrev pub NeverUnfit : Type 0
 NeverUnfit =
-    (limit mark : ℕ) (s table : List ℕ) (n : ℕ) → countedOf (buildingOf limit s (length table)) ≡ Equations n
-    → (h : History) → Calls limit mark (OnTableOrRefused limit mark (tableAfter mark (buildingOf limit s (length table)) table) n) h
-    → (c : Call) → OnTable (tableAfter mark (buildingOf limit s (length table)) table) n c
-    → checkedOf (outcomeOf limit mark h c) ≡ Refused 16 0 → ⊥
+    (limit mark : ℕ) (s table : List ℕ) (r : Rule) (n : ℕ) (left : List ℕ) → Builds limit mark s table r n left
+    → (h : History) → Calls limit mark (OnTableOrRefused limit mark left n) h → (c : Call) → OnTable left n c
+    → checkedOf (outcomeOf limit mark (h .state) c) ≡ Refused 16 0 → ⊥
 
--- 5. The buffers, in the terms of the contract of `run`. A refused run hands back the state that it was given and counts of 0, and leaves every
--- byte of both buffers as it was.
-pub record Unchanged (s : State) (output verdicts : List ℕ) (number place : ℕ) (outcome : Outcome Run) : Type 0 where
-  pub ran : resultOf s outcome ≡ record { checked = Refused number place; state = s; kept = 0; dropped = 0 }
-  pub same-output : outputAfter outcome output ≡ output
-  pub same-verdicts : verdictsAfter outcome verdicts ≡ verdicts
+-- ---- lent buffers
+
+-- 5. The lent buffers, in the terms of the contract of `run`: those of a call, with one field here for each. A refused run hands back the state that
+-- it was given and counts of 0, and leaves every byte of every buffer as it was.
+pub record Unchanged (s : State) (c : Call) (outcome : Outcome Run) : Type 0 where
+  pub handed-back : resultOf s outcome ≡ record { checked = resultOf s outcome .checked; state = s; kept = 0; dropped = 0 }
+  pub output : outputAfter outcome (c .output) ≡ c .output
+  pub verdicts : verdictsAfter outcome (c .verdicts) ≡ c .verdicts
 
 abbrev pub RefusedUnchanged : Type 0
 RefusedUnchanged =
-    (limit mark : ℕ) (table : List ℕ) (count : ℕ) (s : State) (scans output verdicts : List ℕ) (number place : ℕ) →
-    let outcome = runOf limit mark table count s scans (length output) (length verdicts) in
-    resultOf s outcome .checked ≡ Refused number place → Unchanged s output verdicts number place outcome
+    (limit mark : ℕ) (s : State) (c : Call) (number place : ℕ) → resultOf s (outcomeOf limit mark s c) .checked ≡ Refused number place
+    → Unchanged s c (outcomeOf limit mark s c)
 
--- Any other has one verdict a scan, 0 or 1, at the front of the verdicts, and the scans with verdict 0 at the front of the output, as many as it
+-- This list stands at the front of a buffer, and behind it the buffer is as it was.
+pub record OnlyFront (front before after : List ℕ) : Type 0 where
+  pub same-length : length after ≡ length before
+  pub front-is : take (length front) after ≡ front
+  pub rest : drop (length front) after ≡ drop (length front) before
+
+-- Any other run has one verdict a scan, 0 or 1, at the front of the verdicts, and the scans with verdict 0 at the front of the output, as many as it
 -- says. Behind these both buffers are as they were.
-pub record OnlyFronts (s : State) (scans output verdicts : List ℕ) (outcome : Outcome Run) : Type 0 where
-  pub same-lengths : (length (outputAfter outcome output) ≡ length output) × (length (verdictsAfter outcome verdicts) ≡ length verdicts)
-  pub verdicts-front : take (length scans) (verdictsAfter outcome verdicts) ≡ verdictsOf outcome
-  pub one-each : length (verdictsOf outcome) ≡ length scans
-  pub zero-or-one : (i : ℕ) → i < length scans → (getD (verdictsOf outcome) i 0 ≡ 0) ⊎ (getD (verdictsOf outcome) i 0 ≡ 1)
-  pub output-front : take (resultOf s outcome .kept) (outputAfter outcome output) ≡ keptOf outcome
-  pub kept-are : keptOf outcome ≡ withVerdict 0 (verdictsOf outcome) scans
-  pub output-rest : drop (resultOf s outcome .kept) (outputAfter outcome output) ≡ drop (resultOf s outcome .kept) output
-  pub verdicts-rest : drop (length scans) (verdictsAfter outcome verdicts) ≡ drop (length scans) verdicts
+pub record OnlyFronts (s : State) (c : Call) (outcome : Outcome Run) : Type 0 where
+  pub one-each : length (verdictsOf outcome) ≡ length (c .scans)
+  pub zero-or-one : (i : ℕ) → i < length (c .scans) → (getD (verdictsOf outcome) i 0 ≡ 0) ⊎ (getD (verdictsOf outcome) i 0 ≡ 1)
+  pub kept-are : keptOf outcome ≡ withVerdict 0 (verdictsOf outcome) (c .scans)
+  pub kept-count : resultOf s outcome .kept ≡ length (keptOf outcome)
+  pub output : OnlyFront (keptOf outcome) (c .output) (outputAfter outcome (c .output))
+  pub verdicts : OnlyFront (verdictsOf outcome) (c .verdicts) (verdictsAfter outcome (c .verdicts))
 
 abbrev pub RestUnchanged : Type 0
 RestUnchanged =
-    (limit mark : ℕ) (table : List ℕ) (count : ℕ) (s : State) (scans output verdicts : List ℕ) →
-    let outcome = runOf limit mark table count s scans (length output) (length verdicts) in
-    resultOf s outcome .checked ≡ Fit → OnlyFronts s scans output verdicts outcome
+    (limit mark : ℕ) (s : State) (c : Call) → resultOf s (outcomeOf limit mark s c) .checked ≡ Fit → OnlyFronts s c (outcomeOf limit mark s c)

@@ -1,12 +1,10 @@
 -- A run over scans, on any table: when it is refused, and else what it keeps, judges and leaves. The limit on equations and the mark for
 -- dropped are any; the paper's are 128 and 255.
-use Prim.Native.Nat.{ℕ, suc, _+_, _*_, _≤_, _<_}
-use mathlib.Core.Path.{_≡_}
-use mathlib.Core.Logic.{_⊎_}
+use Prim.Native.Nat.{ℕ, suc, _*_}
 use mathlib.Core.Bool.{Bool, true, not, cond, _&&_, _||_}
 use mathlib.Core.List.{List, [], _∷_, _++_}
 use lib.Dec.{eqb, ltb, leb}
-use lib.ListN.{length, getD, take, drop}
+use lib.ListN.{length, take, drop}
 use Rattle.reading.specs.File.{Outcome, accepted, refused, refuse}
 use Rattle.synthesis.specs.Monitor.{Answer, dropped, next, cases, kept, verdicts, ended, lookup}
 use Rattle.running.specs.declared.State.{State}
@@ -24,7 +22,7 @@ start = record { equation = 0 }
 abbrev pub moved : State → ℕ → State
 moved s e = record { equation = e }
 
--- What a table answers to a scan in a state: the entry of the state's equation for its code.
+-- What a table answers to a scan in a state, by the entry of the state's equation for its code: dropped, or kept with the state that comes next.
 abbrev pub answerIn : (mark : ℕ) → (table : List ℕ) → State → ℕ → Answer State
 answerIn mark table s c = cases (lookup 256 mark table (s .equation) c) dropped (λ e. next (moved s e))
 
@@ -34,23 +32,18 @@ answerIn mark table s c = cases (lookup 256 mark table (s .equation) c) dropped 
 abbrev pub inRange : (mark count : ℕ) → ℕ → Bool
 inRange mark count x = eqb x mark || ltb x count
 
+-- all entries of a list are
 unfoldable pub entriesInRange : (mark count : ℕ) → List ℕ → Bool
 entriesInRange mark count [] = true
 entriesInRange mark count (x ∷ xs) = inRange mark count x && entriesInRange mark count xs
 
--- The table is well formed for a count of equations: it has from 1 to `limit` of them, and their rows, with each entry in range.
+-- The test of a table for a count of equations: there are from 1 to `limit` of them, the table has their rows, and each entry is in range. It
+-- holds exactly of well-formed tables.
 unfoldable pub isWellFormed : (limit mark : ℕ) → (table : List ℕ) → (count : ℕ) → Bool
 isWellFormed limit mark table count =
     leb 1 count && (leb count limit && (leb (256 * count) (length table) && entriesInRange mark count (take (256 * count) table)))
 
--- the same in words: byte 256 × k + c is the entry of equation k for code c
-pub record WellFormedTable (limit mark count : ℕ) (table : List ℕ) : Type 0 where
-  pub some : 1 ≤ count
-  pub few : count ≤ limit
-  pub room : 256 * count ≤ length table
-  pub range : (k c : ℕ) → k < count → c < 256 → (getD table (256 * k + c) 0 ≡ mark) ⊎ (getD table (256 * k + c) 0 < count)
-
--- the table is well formed, and the state's equation is one of its own
+-- the same, and the state's equation is one of them
 unfoldable pub fits : (limit mark : ℕ) → (table : List ℕ) → (count : ℕ) → State → Bool
 fits limit mark table count s = isWellFormed limit mark table count && ltb (s .equation) count
 
@@ -66,6 +59,7 @@ pub record Run : Type 0 where
   pub kept : List ℕ
   pub verdicts : List ℕ
 
+-- the run from a state over scans, by what the table answers to each
 abbrev pub runFrom : (mark : ℕ) → (table : List ℕ) → State → (scans : List ℕ) → Run
 runFrom mark table s scans = record {
   state = ended (answerIn mark table) s scans;
@@ -73,7 +67,8 @@ runFrom mark table s scans = record {
   verdicts = verdicts (answerIn mark table) s scans;
 }
 
--- with an output and verdicts of these sizes: 15 comes before 16
+-- The outcome of a run with an output and verdicts of these sizes: 15 where they have no room for the scans, else 16 where the table, the count or the
+-- state is unfit, and else the run.
 unfoldable pub runOf : (limit mark : ℕ) → (table : List ℕ) → (count : ℕ) → State → (scans : List ℕ) → (output verdicts : ℕ) → Outcome Run
 runOf limit mark table count s scans output verdicts =
     refuse (not (hasRoom scans output verdicts)) 15 0

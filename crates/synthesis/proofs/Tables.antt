@@ -1,5 +1,7 @@
 -- Rows, tables as monitors, and what counting and building promise.
 pub mod Rows
+pub mod WellFormedTables
+pub mod FilledTables
 pub mod TableMonitors
 pub mod Synthesized
 pub mod Equations

@@ -10,6 +10,8 @@ use Rattle.synthesis.specs.Violation.{coveredBy}
 use Rattle.synthesis.specs.Monitor.{Answer, dropped, next}
 use Rattle.synthesis.specs.NodeSet.{has, emptySet, singleton, union, intersection}
 
+-- ---- sets of nodes along a formula
+
 -- What opening f gives. f begins at node k, and `around` has what opening each max around it gives, innermost first. A max stands
 -- in for itself with nothing while it is opened: its variable comes only below a necessity.
 abbrev pub opening : (k : ℕ) → (around : List ℕ) → Formula → ℕ
@@ -44,6 +46,8 @@ reached covered e c k around (necessity p f) =
     union (cond (has e k && covered p c) (opening (suc k) around f) emptySet) (reached covered e c (suc k) around f)
 reached covered e c k around (max f) = reached covered e c (suc k) (opening k around (max f) ∷ around) f
 reached covered e c k around (variable d) = emptySet
+
+-- ---- equations and their answers
 
 -- the first equation
 unfoldable pub firstOf : Rule → ℕ

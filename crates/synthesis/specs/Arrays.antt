@@ -114,7 +114,7 @@ abbrev pub gathered : List ℕ → (live : ℕ) → ℕ
 gathered [] live = emptySet
 gathered (x ∷ xs) live = union (cond (has live 0) x emptySet) (gathered xs (live / 2))
 
--- The answer of the equation e to the code c from the arrays of a graph: `after` for each node, `waiting` for each code.
+-- The answer of the equation e to the code c from the arrays of a graph: `after` for each node, `enabled` for each code.
 unfoldable pub answerBy : (after enabled : List ℕ) (falsities e c : ℕ) → Answer ℕ
 answerBy after enabled falsities e c = answerFrom falsities (gathered after (intersection e (getD enabled c 0)))
 

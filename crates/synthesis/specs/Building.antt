@@ -1,10 +1,11 @@
 -- What counting and building answer, and what building leaves in the table that it is lent. The limit on equations and the mark for
 -- dropped are any; the paper's are 128 and 255.
-use Prim.Native.Nat.{ℕ, _*_}
+use Prim.Native.Nat.{ℕ, _*_, _≤_}
+use mathlib.Core.Path.{_≡_}
 use mathlib.Core.List.{List}
 use lib.Dec.{ltb}
 use lib.ListN.{length}
-use Rattle.reading.specs.Rule.{Rule}
+use Rattle.reading.specs.Rule.{Rule, Bytes}
 use Rattle.reading.specs.File.{Outcome, accepted, refused, refuse, andThen, ruleOf}
 use Rattle.synthesis.specs.Answering.{firstOf, answerOf, unsatisfiable}
 use Rattle.synthesis.specs.Search.{found}
@@ -21,18 +22,22 @@ pub record Synthesis : Type 0 where
   pub rule : Rule
   pub equations : List ℕ
 
--- after reading: 8 where opening node 0 gives ff, 9 where the equations are over the limit
+-- a rule with the equations that the search finds
+abbrev pub withEquations : (limit : ℕ) → Rule → Synthesis
+withEquations limit r = record { rule = r; equations = equationsOf limit r }
+
+-- The outcome of a rule: 8 where opening node 0 gives ff, 9 where the equations are over the limit.
 abbrev pub synthesisOfRule : (limit : ℕ) → Rule → Outcome Synthesis
 synthesisOfRule limit r =
     refuse (unsatisfiable r) 8 0
     (refuse (ltb limit (length (equationsOf limit r))) 9 0
-    (accepted (record { rule = r; equations = equationsOf limit r })))
+    (accepted (withEquations limit r)))
 
--- what is made of a rule file
+-- The outcome of counting the equations of a rule file: that of reading it, and then that of its rule.
 unfoldable pub synthesisOf : (limit : ℕ) → List ℕ → Outcome Synthesis
 synthesisOf limit s = andThen (ruleOf s) (synthesisOfRule limit)
 
--- the same with a table of so many bytes for the rows: 10 comes first
+-- The outcome of building, with a table of so many bytes for the rows: 10 where it is too short, and else that of counting.
 unfoldable pub buildingOf : (limit : ℕ) → List ℕ → (capacity : ℕ) → Outcome Synthesis
 buildingOf limit s capacity = refuse (ltb capacity (256 * limit)) 10 0 (synthesisOf limit s)
 
@@ -45,3 +50,15 @@ countedOf (refused number place) = Refused number place
 abbrev pub tableAfter : (mark : ℕ) → Outcome Synthesis → List ℕ → List ℕ
 tableAfter mark (accepted y) table = filled mark (answerOf (y .rule)) (y .equations) 256 table
 tableAfter mark (refused number place) table = table
+
+-- what building leaves in a table
+abbrev pub tableLeft : (limit mark : ℕ) → (s table : List ℕ) → List ℕ
+tableLeft limit mark s table = tableAfter mark (buildingOf limit s (length table)) table
+
+-- Building accepts the file s as the rule r, answers n equations and leaves `left` in the table. The mark is no equation's number.
+pub record Builds (limit mark : ℕ) (s table : List ℕ) (r : Rule) (n : ℕ) (left : List ℕ) : Type 0 where
+  pub below : limit ≤ mark
+  pub bytes : Bytes s
+  pub read : ruleOf s ≡ accepted r
+  pub counted : countedOf (buildingOf limit s (length table)) ≡ Equations n
+  pub left-is : left ≡ tableLeft limit mark s table

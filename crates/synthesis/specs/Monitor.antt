@@ -1,5 +1,6 @@
--- Monitors with equations of any type, of which the paper's sets and the numbers of a table's rows are two; their runs over lists of codes; tables
--- as monitors; and what it is to monitor a rule. The number of codes and the mark for dropped are any; the paper's are 256 and 255.
+-- Monitors that suppress: their runs over lists of codes, tables as monitors, and what it is to monitor a rule. The states of a monitor are of any
+-- type; the paper calls them equations, and its sets of nodes and the numbers of a table's rows are two such types. The number of codes and the mark
+-- for dropped are any; the paper's are 256 and 255.
 use Prim.Native.Nat.{ℕ, _+_, _*_}
 use mathlib.Core.Path.{_≡_}
 use mathlib.Core.Logic.{_↔_}
@@ -12,7 +13,8 @@ use Rattle.synthesis.specs.Violation.{ViolatesRule}
 
 -- ---- runs
 
--- What an equation answers to a code: the scan is dropped and the equation stays, or the scan is kept and this is the next equation.
+-- What an equation (a state of the monitor) answers to a code: the scan is dropped (suppressed) and the equation stays, or the scan is kept and this
+-- is the next equation.
 pub data Answer (E : Type 0) : Type 0 where
   dropped : Answer E
   next : E → Answer E
@@ -27,7 +29,7 @@ module _ {E : Type 0} (answer : E → ℕ → Answer E) where
   kept e [] = []
   kept e (c ∷ w) = cases (answer e c) (kept e w) (λ e′. c ∷ kept e′ w)
 
-  -- a verdict for each scan: 1 dropped, 0 kept
+  -- The verdict on each scan, which is what the monitor does with it: 1 dropped, 0 kept. (In the field a verdict is often on a whole trace.)
   abbrev pub verdicts : E → List ℕ → List ℕ
   verdicts e [] = []
   verdicts e (c ∷ w) = cases (answer e c) (1 ∷ verdicts e w) (λ e′. 0 ∷ verdicts e′ w)
@@ -48,7 +50,7 @@ module _ {E : Type 0} (answer : E → ℕ → Answer E) where
 unfoldable pub rowOf : (codes : ℕ) → List ℕ → ℕ → List ℕ
 rowOf codes table k = cond (leb (codes * k + codes) (length table)) (take codes (drop (codes * k) table)) []
 
--- An entry is the mark for dropped, or else the number of the next equation.
+-- An entry of a table is the mark, a number that stands for dropped and is no equation's, or else the number of the next equation.
 abbrev pub meaning : (mark : ℕ) → ℕ → Answer ℕ
 meaning mark x = cond (eqb x mark) dropped (next x)
 

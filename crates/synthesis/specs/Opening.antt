@@ -1,4 +1,5 @@
--- Opening a node, equations and what they answer, as the paper says it under "Equations".
+-- Opening a node (in the field: unfolding, with each max unfolded to its body), equations and what they answer, as the paper says it under
+-- "Equations".
 use Prim.Native.Nat.{ℕ, suc, _+_, _<_}
 use mathlib.Core.Path.{_≡_}
 use mathlib.Core.Logic.{_↔_}

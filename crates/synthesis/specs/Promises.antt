@@ -6,15 +6,18 @@ use mathlib.Core.Bool.{Bool}
 use mathlib.Core.List.{List, [], _∷_, _++_}
 use lib.ListN.{length, getD, drop}
 use Rattle.reading.specs.Rule.{Formula, necessity, WellFormed, Rule, Bytes}
-use Rattle.reading.specs.File.{accepted, refused, ruleOf}
+use Rattle.reading.specs.File.{Outcome, accepted, refused, ruleOf}
 use Rattle.reading.specs.Nodes.{EnclosingMax, Node}
 use Rattle.synthesis.specs.Violation.{Violates, ViolatesRule}
 use Rattle.synthesis.specs.Monitor.{Answer, dropped, next, cases, kept, ended, Monitors, rowOf, lookup}
 use Rattle.synthesis.specs.NodeSet.{Has, emptySet}
 use Rattle.synthesis.specs.Opening.{Opens, OpensToFalsity, Answers, IsFirst, ViolatesEquation}
 use Rattle.synthesis.specs.Answering.{opening, opensAround, firstOf, answerOf}
-use Rattle.synthesis.specs.Building.{equationsOf, synthesisOf, buildingOf, countedOf, tableAfter}
+use Rattle.synthesis.specs.Table.{WellFormedTable}
+use Rattle.synthesis.specs.Building.{equationsOf, Synthesis, synthesisOf, buildingOf, countedOf, tableAfter, tableLeft, Builds}
 use Rattle.synthesis.specs.declared.Counted.the-variants.{Equations, Refused}
+
+-- ---- violation
 
 -- 1. A list that violates a formula violates it however it goes on.
 abbrev pub ClosedUnderExtension : Type 0
@@ -73,19 +76,29 @@ pub record ChecksTable (limit : ℕ) (s : List ℕ) (capacity : ℕ) : Type 0 wh
   pub short : capacity < 256 * limit → buildingOf limit s capacity ≡ refused 10 0
   pub enough : 256 * limit ≤ capacity → buildingOf limit s capacity ≡ synthesisOf limit s
 
--- A building that is refused leaves the table as it was, every byte.
+-- A building that is refused leaves every byte of what it is lent as it was: the table.
+pub record Unchanged (mark : ℕ) (before : List ℕ) (outcome : Outcome Synthesis) : Type 0 where
+  pub table : tableAfter mark outcome before ≡ before
+
 abbrev pub RefusedUnchanged : Type 0
 RefusedUnchanged =
     (limit mark : ℕ) (s table : List ℕ) (number place : ℕ) → countedOf (buildingOf limit s (length table)) ≡ Refused number place
-    → tableAfter mark (buildingOf limit s (length table)) table ≡ table
+    → Unchanged mark table (buildingOf limit s (length table))
+
+-- ---- the table that building leaves, as a monitor
+
+-- Where building answers with a count, it builds: what is promised of each file that builds is promised of each that isn't refused.
+abbrev pub BuildsAccepted : Type 0
+BuildsAccepted =
+    (limit mark : ℕ) (s table : List ℕ) (n : ℕ) → limit ≤ mark → Bytes s → countedOf (buildingOf limit s (length table)) ≡ Equations n
+    → (r : Rule) × Builds limit mark s table r n (tableLeft limit mark s table)
 
 -- 4. The table that building leaves monitors the rule, whatever it held before. The mark for dropped is any number that no equation
 -- has; with 128 and 255 these are the terms of building's contract.
 abbrev pub TableMonitors : Type 0
 TableMonitors =
-    (limit mark : ℕ) (s table : List ℕ) (r : Rule) (n : ℕ) → limit ≤ mark → Bytes s → ruleOf s ≡ accepted r
-    → countedOf (buildingOf limit s (length table)) ≡ Equations n
-    → Monitors r (lookup 256 mark (tableAfter mark (buildingOf limit s (length table)) table)) 0
+    (limit mark : ℕ) (s table : List ℕ) (r : Rule) (n : ℕ) (left : List ℕ) → Builds limit mark s table r n left
+    → Monitors r (lookup 256 mark left) 0
 
 -- A monitor drops a code exactly where the codes kept until then, with this one after them, violate the rule.
 abbrev pub DropsViolations : {E : Type 0} → Rule → (answer : E → ℕ → Answer E) → (first : E) → Type 0
@@ -99,9 +112,10 @@ MonitorsDrop = (E : Type 0) (r : Rule) (answer : E → ℕ → Answer E) (first 
 -- So does the table.
 abbrev pub TableDrops : Type 0
 TableDrops =
-    (limit mark : ℕ) (s table : List ℕ) (r : Rule) (n : ℕ) → limit ≤ mark → Bytes s → ruleOf s ≡ accepted r
-    → countedOf (buildingOf limit s (length table)) ≡ Equations n
-    → DropsViolations r (lookup 256 mark (tableAfter mark (buildingOf limit s (length table)) table)) 0
+    (limit mark : ℕ) (s table : List ℕ) (r : Rule) (n : ℕ) (left : List ℕ) → Builds limit mark s table r n left
+    → DropsViolations r (lookup 256 mark left) 0
+
+-- ---- refusals of rules
 
 -- 5. A rule is refused with 8 exactly when the empty list violates it,
 abbrev pub RefusesViolatedByEmpty : Type 0
@@ -119,6 +133,8 @@ abbrev pub RefusesTooMany : Type 0
 RefusesTooMany =
     (limit : ℕ) (s : List ℕ) (r : Rule) → ruleOf s ≡ accepted r → (countedOf (synthesisOf limit s) ≡ Refused 8 0 → ⊥)
     → (countedOf (synthesisOf limit s) ≡ Refused 9 0) ↔ ((es : List ℕ) → length es ≤ limit → Closed r es → ⊥)
+
+-- ---- the equations and their numbers
 
 -- 6. The equations that are counted: they are sets of necessities, no two are the same, kept codes lead from the first to each, and the
 -- codes lead to no other.
@@ -168,15 +184,13 @@ OneNumbering =
     (r : Rule) (es es′ : List ℕ) → Reachable r es → Reachable r es′ → AsFound 256 (answerOf r) (firstOf r) es
     → AsFound 256 (answerOf r) (firstOf r) es′ → es ≡ es′
 
--- Each equation has a whole row in the table, whose entries are the mark or under the count.
-pub record RowInRange (mark count : ℕ) (row : List ℕ) : Type 0 where
-  pub whole : length row ≡ 256
-  pub range : (c : ℕ) → c < 256 → (getD row c 0 ≡ mark) ⊎ (getD row c 0 < count)
+-- ---- the bytes of the table
 
-abbrev pub EntriesInRange : Type 0
-EntriesInRange =
-    (limit mark : ℕ) (s table : List ℕ) (n : ℕ) → countedOf (buildingOf limit s (length table)) ≡ Equations n → (k : ℕ) → k < n
-    → RowInRange mark n (rowOf 256 (tableAfter mark (buildingOf limit s (length table)) table) k)
+-- The table is well formed for its count: each equation has a whole row, whose entries are the mark or under the count.
+abbrev pub BuiltWellFormed : Type 0
+BuiltWellFormed =
+    (limit mark : ℕ) (s table : List ℕ) (r : Rule) (n : ℕ) (left : List ℕ) → Builds limit mark s table r n left
+    → WellFormedTable limit mark n left
 
 -- Row k is that of equation k: each entry, with the equation of its number for the number, is what equation k answers to the code.
 pub record EntryAnswers (r : Rule) (es : List ℕ) (k c : ℕ) (a : Answer ℕ) : Type 0 where
@@ -185,9 +199,8 @@ pub record EntryAnswers (r : Rule) (es : List ℕ) (k c : ℕ) (a : Answer ℕ) 
 
 abbrev pub EntriesAnswer : Type 0
 EntriesAnswer =
-    (limit mark : ℕ) (s table : List ℕ) (r : Rule) (n : ℕ) → limit ≤ mark → Bytes s → ruleOf s ≡ accepted r
-    → countedOf (buildingOf limit s (length table)) ≡ Equations n → (k c : ℕ) → k < n → c < 256
-    → EntryAnswers r (equationsOf limit r) k c (lookup 256 mark (tableAfter mark (buildingOf limit s (length table)) table) k c)
+    (limit mark : ℕ) (s table : List ℕ) (r : Rule) (n : ℕ) (left : List ℕ) → Builds limit mark s table r n left
+    → (k c : ℕ) → k < n → c < 256 → EntryAnswers r (equationsOf limit r) k c (lookup 256 mark left k c)
 
 -- Behind the last row nothing changes, and the table keeps its length.
 pub record SameAfterRows (count : ℕ) (before after : List ℕ) : Type 0 where
@@ -196,14 +209,14 @@ pub record SameAfterRows (count : ℕ) (before after : List ℕ) : Type 0 where
 
 abbrev pub TableRest : Type 0
 TableRest =
-    (limit mark : ℕ) (s table : List ℕ) (n : ℕ) → countedOf (buildingOf limit s (length table)) ≡ Equations n
-    → SameAfterRows n table (tableAfter mark (buildingOf limit s (length table)) table)
+    (limit mark : ℕ) (s table : List ℕ) (r : Rule) (n : ℕ) (left : List ℕ) → Builds limit mark s table r n left
+    → SameAfterRows n table left
 
 -- What `row` hands back, of any table and for any number: the entries of the row, byte 256 × k + c for the code c, where it is wholly inside the table,
 -- and else an empty part.
 pub record RowPart (table : List ℕ) (k : ℕ) : Type 0 where
   pub whole : 256 * k + 256 ≤ length table → length (rowOf 256 table k) ≡ 256
-  pub entriesOf : 256 * k + 256 ≤ length table → (c : ℕ) → c < 256 → getD (rowOf 256 table k) c 0 ≡ getD table (256 * k + c) 0
+  pub entries : 256 * k + 256 ≤ length table → (c : ℕ) → c < 256 → getD (rowOf 256 table k) c 0 ≡ getD table (256 * k + c) 0
   pub none : length table < 256 * k + 256 → rowOf 256 table k ≡ []
 
 abbrev pub HandsBackRows : Type 0

@@ -1,9 +1,31 @@
--- The rows that building fills in. The number of codes and the mark for dropped are any; the paper's are 256 and 255.
-use Prim.Native.Nat.{ℕ, zero, suc, _*_}
+-- Tables: which are well formed, and the rows that building fills in. The mark is the entry that stands for dropped, any number that no equation has;
+-- the paper's is 255. Rows are filled for any number of codes; the paper's is 256.
+use Prim.Native.Nat.{ℕ, zero, suc, _*_, _≤_, _<_}
+use mathlib.Core.Path.{_≡_}
+use mathlib.Core.Logic.{_⊎_}
 use mathlib.Core.List.{List, [], _∷_, _++_}
 use lib.ListN.{length, getD, drop}
-use Rattle.synthesis.specs.Monitor.{Answer, cases}
+use Rattle.synthesis.specs.Monitor.{Answer, cases, rowOf}
 use Rattle.synthesis.specs.Search.{indexOf}
+
+-- ---- well-formed tables
+
+-- an entry is the mark, or the number of an equation
+abbrev pub InRange : (mark count : ℕ) → ℕ → Type 0
+InRange mark count x = (x ≡ mark) ⊎ (x < count)
+
+-- a whole row, each entry in range
+pub record RowInRange (mark count : ℕ) (row : List ℕ) : Type 0 where
+  pub whole : length row ≡ 256
+  pub range : (c : ℕ) → c < 256 → InRange mark count (getD row c 0)
+
+-- A table is well formed for a count of equations: there are from 1 to `limit` of them, and each has its row.
+pub record WellFormedTable (limit mark count : ℕ) (table : List ℕ) : Type 0 where
+  pub some : 1 ≤ count
+  pub few : count ≤ limit
+  pub row : (k : ℕ) → k < count → RowInRange mark count (rowOf 256 table k)
+
+-- ---- the rows of equations
 
 -- the entry for an answer: where its equation stands among those found
 abbrev pub entryOf : (mark : ℕ) → (found : List ℕ) → Answer ℕ → ℕ

@@ -3,7 +3,7 @@ use mathlib.Core.Path.{_≡_}
 use Prim.Native.Nat.{ℕ, _+_, _*_, _-_}
 use native.Mathlib.Omega.{arith}
 use borrow.Author.Needs.{needs}
-use Rattle.commands.proofs.Leading.{Leads, LeadsOn, no-lines, one-more}
+use Rattle.commands.proofs.Leading.{Leads, LeadsOn, leads-none, leads-next}
 use Rattle.commands.proofs.print_listing.Statement.{statement}
 use Rattle.commands.proofs.print_listing.Tie as tie
 
@@ -21,10 +21,10 @@ turn : (c : tie.Else2 Inv-loop μ-loop) →
     LeadsOn (x .rule) (x .table .now) (x .count) (now .lines) (now .at) (line .listing-line .result .next)
 turn c =
     let line = c .before .before .before .before .before .before in
-    one-more (line .before .loop .inv) (line .listing-line .ensures .0) (c .before .before .before .if1 .left)
+    leads-next (line .before .loop .inv) (line .listing-line .ensures .0) (c .before .before .before .if1 .left)
 
 loop-holds : tie.Need-loop-holds Inv-loop μ-loop
-loop-holds c = no-lines
+loop-holds c = leads-none
 
 listing-line-requires : tie.Need-listing-line-requires Inv-loop μ-loop
 listing-line-requires c κs = search needs

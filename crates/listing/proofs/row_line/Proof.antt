@@ -11,7 +11,7 @@ use Rattle.listing.specs.Lines.{runLine}
 use Rattle.listing.specs.LineParts.{Prints, Gives}
 use Rattle.listing.specs.Positions.{rowLineAt}
 use Rattle.listing.specs.declared.Line.{Line}
-use Rattle.listing.proofs.RowLaws.{row-inside}
+use Rattle.synthesis.proofs.Tables.Rows.{row-inside}
 use Rattle.listing.proofs.LineLaws.{past-last, past-row, at-run, gives, gives-line}
 use Rattle.listing.proofs.row_line.Statement.{statement}
 use Rattle.listing.proofs.row_line.Tie as tie

@@ -10,7 +10,7 @@ use native.Mathlib.Omega.{arith}
 use lib.ListN.{getD, replicate}
 use Rattle.reading.proofs.Numbering.NumberedLaws.{repeated-at}
 use Rattle.synthesis.specs.Monitor.{lookup}
-use Rattle.running.specs.Running.{WellFormedTable}
+use Rattle.synthesis.specs.Table.{WellFormedTable}
 use Rattle.enforcement.specs.Model.{Label}
 use Rattle.models.specs.Phone.{Phone, noStep, labelOf, StepIn, modelOf, WellFormedStep}
 use Rattle.models.specs.Exploring.{ReachablePair, begin, silently, keeping, NeverDrops}
@@ -19,7 +19,7 @@ use Rattle.models.specs.Searching.{OfPhone, rowAt, ReachablePairNumber, 
 use Rattle.models.specs.declared.Step.{Step}
 use Rattle.models.specs.declared.links.Links.{Links}
 use Rattle.models.proofs.Pairs.Chains.{chain-empty, chain-step, step-on-chain}
-use Rattle.models.proofs.Pairs.Leading.{leads-inside, row-in-range, stepsTo}
+use Rattle.models.proofs.Pairs.Leading.{leads-inside, stepsTo}
 use Rattle.models.proofs.Pairs.Leading.{steps-silent, steps-kept, steps-dropped, reachable-step, dropped-step-refutes}
 
 module _ (steps : List Step) (l : Links) (table : List ℕ) (steps-range : (i : ℕ) → WellFormedStep 64 (getD steps i noStep)) where
@@ -41,7 +41,7 @@ module _ (steps : List Step) (l : Links) (table : List ℕ) (steps-range : (i : 
     successor-inside count wf inside p h =
         rw (successor-is p h .1)
         (leads-inside (rowAt table pair) (pair / 64) (getD steps (h .step) noStep .label) count
-        (row-in-range 128 count table wf (pair / 64) inside count (omega arith)) inside (steps-range (h .step) .label) (h .kept))
+        (wf .row (pair / 64) inside) inside (steps-range (h .step) .label) (h .kept))
 
     successor-reachable : (y : Phone) → OfPhone steps l y → ReachablePairNumber table y pair
         → (p : ℕ) → Successor steps l (rowAt table pair) pair p → ReachablePairNumber table y p

@@ -1,19 +1,16 @@
 -- Where a step leads beside an equation, by its label and the equation's row: by cases on whether the label is 256 and the entry 255.
-use Prim.Native.Nat.{ℕ, _+_, _*_, _≤_, _<_}
+use Prim.Native.Nat.{ℕ, _≤_, _<_}
 use mathlib.Core.Path.{_≡_, refl, _∙_}
 use mathlib.Core.Logic.{_⊎_, inl, inr}
 use mathlib.Core.Bool.{Bool, true, false}
 use mathlib.Core.List.{List}
 use native.Mathlib.Omega.{arith}
 use lib.Dec.{eqb}
-use lib.ListN.{length, getD, drop, length-take, length-drop}
+use lib.ListN.{getD}
 use borrow.Author.Tests.{eqb-true, eqb-false, eq-eqb, ne-eqb}
 use Rattle.reading.proofs.Basics.ListLaws.{getD-inside}
 use Rattle.synthesis.specs.Monitor.{dropped, next, rowOf, meaning, lookup}
-use Rattle.synthesis.specs.Promises.{RowInRange}
-use Rattle.synthesis.proofs.Tables.Rows.{row-is}
-use Rattle.running.specs.Running.{WellFormedTable}
-use Rattle.synthesis.proofs.Tables.Rows.{row-at}
+use Rattle.synthesis.specs.Table.{RowInRange}
 use Rattle.enforcement.specs.Model.{silent, code, Model}
 use Rattle.models.specs.Phone.{labelOf}
 use Rattle.models.specs.Exploring.{ReachablePair, silently, keeping, NeverDrops, leadsTo}
@@ -60,21 +57,6 @@ module _ (row : List ℕ) (e label : ℕ) where
           known (inr a) other = a
 
 -- ---- the rows of a table
-
--- in range for its count, and so for a limit on it
-pub row-in-range : (limit count : ℕ) (table : List ℕ) → WellFormedTable limit 255 count table → (k : ℕ) → k < count
-    → (most : ℕ) → count ≤ most → RowInRange 255 most (rowOf 256 table k)
-row-in-range limit count table wf k h most under = record {
-  whole = rw (row-is 256 table k room) (omega (arith, length-take 256 (drop (256 * k) table), length-drop (256 * k) table));
-  range = λ c b. rw (row-at table k c 0 room b) (wider (getD table (256 * k + c) 0) (wf .range k c h b));
-}
-  where
-    room : 256 * k + 256 ≤ length table
-    room = omega (arith, wf .room)
-
-    wider : (x : ℕ) → (x ≡ 255) ⊎ (x < count) → (x ≡ 255) ⊎ (x < most)
-    wider x (inl e) = inl e
-    wider x (inr a) = inr (omega arith)
 
 module _ (table : List ℕ) where
   abbrev pub stepsTo : (e label : ℕ) → ℕ

@@ -9,9 +9,9 @@ use native.Mathlib.Decide.{decLt}
 use native.Mathlib.Omega.{arith}
 use lib.ListN.{length, getD, replicate}
 use borrow.Author.Tests.{not-true}
-use Rattle.synthesis.specs.Promises.{RowInRange}
+use Rattle.synthesis.proofs.Tables.WellFormedTables.{row-in-range-weaken, well-formed-row}
 use Rattle.synthesis.specs.Monitor.{lookup}
-use Rattle.running.specs.Running.{WellFormedTable}
+use Rattle.synthesis.specs.Table.{RowInRange, WellFormedTable}
 use Rattle.models.specs.Phone.{Phone, noStep, modelOf}
 use Rattle.models.specs.Judging.{stored}
 use Rattle.models.specs.Exploring.{NeverDrops, HasPhone, Chains, LinksInRange, Worklist, Enqueued, leadsTo, equationAfter, PartlyExpanded}
@@ -23,7 +23,7 @@ use Rattle.models.specs.declared.exploring.Cursor.{Cursor}
 use Rattle.models.proofs.Pairs.WorklistLaws.{found-at-most}
 use Rattle.models.proofs.Pairs.Chains.{chain-empty}
 use Rattle.models.proofs.Pairs.LinkLaws.{stored-alike, stored-step, stored-length}
-use Rattle.models.proofs.Pairs.Leading.{leads-inside, row-in-range}
+use Rattle.models.proofs.Pairs.Leading.{leads-inside}
 use Rattle.models.proofs.Pairs.Expanding.{expanded-none, next-outgoing, expanded-next}
 use Rattle.models.proofs.Pairs.Exploration.{explored-start, pair-seen, explored-next, ends-dropped, ends-undropped}
 
@@ -108,12 +108,12 @@ module _ {steps : List Step} {l : Links} {table seen pairs : List ℕ} {at : Cur
 
   -- the row of its equation
   pub row-inside : 256 * (at .pair / 64) + 256 ≤ length table
-  row-inside = omega (arith, equation-inside, s .searchable .well-formed .room)
+  row-inside = well-formed-row (s .searchable .well-formed) (at .pair / 64) equation-inside
 
   row-range : RowInRange 255 128 (rowAt table (at .pair))
   row-range =
       let wf = s .searchable .well-formed in
-      row-in-range 128 _ table wf (at .pair / 64) equation-inside 128 (wf .few)
+      row-in-range-weaken 255 _ 128 (wf .few) (rowAt table (at .pair)) (wf .row (at .pair / 64) equation-inside)
 
   -- the step that is followed
   module _ {step : Step} (is : step ≡ getD steps (at .step - 1) noStep) where

@@ -1,4 +1,5 @@
--- Which rules building accepts: those that some finite model satisfies, with no more equations than the limit.
+-- Which rules building accepts: those that some finite model satisfies, with no more equations than the limit. A rule that the empty list doesn't
+-- violate is satisfied by the phone that does nothing, and one that it violates by no model.
 use Prim.Native.Nat.{ℕ}
 use mathlib.Core.Path.{_≡_, refl, sym, _∙_}
 use mathlib.Core.Bool.{Bool, true, false, true≢false}
@@ -11,10 +12,10 @@ use Rattle.reading.specs.File.{Outcome, accepted, refuse, ruleOf}
 use Rattle.reading.proofs.Accepting.Accepted.{reading-accepts}
 use Rattle.synthesis.specs.Violation.{ViolatesRule}
 use Rattle.synthesis.specs.Answering.{unsatisfiable}
-use Rattle.synthesis.specs.Building.{equationsOf, Synthesis, synthesisOf, countedOf}
+use Rattle.synthesis.specs.Building.{equationsOf, Synthesis, withEquations, synthesisOf, countedOf}
 use Rattle.synthesis.specs.declared.Counted.the-variants.{Equations, Refused}
 use Rattle.synthesis.proofs.Monitors.RuleMonitor.{unsatisfiable-iff}
-use Rattle.synthesis.proofs.Tables.Synthesized.{withEquations, synthesis-of}
+use Rattle.synthesis.proofs.Tables.Synthesized.{synthesis-of}
 use Rattle.synthesis.proofs.Tables.Equations.{file-well-formed, answers-count, checks-table, reaches-equations, refuses-too-many}
 use Rattle.synthesis.proofs.Tables.Built.{refuses-violated-by-empty}
 use Rattle.enforcement.specs.Model.{Model, Finite, Satisfies}
@@ -44,20 +45,20 @@ still-satisfies r = quiet-satisfies still (λ s t a x. absurd (omega (arith, x .
 -- ---- a file that is a rule
 
 -- accepted, where neither of the two checks refuses
-unrefused : (y : Synthesis) (b b′ : Bool) (o : Outcome Synthesis) → o ≡ refuse b 8 0 (refuse b′ 9 0 (accepted y))
+unrefused-counted : (y : Synthesis) (b b′ : Bool) (o : Outcome Synthesis) → o ≡ refuse b 8 0 (refuse b′ 9 0 (accepted y))
     → (countedOf o ≡ Refused 8 0 → ⊥) → (countedOf o ≡ Refused 9 0 → ⊥) → (n : ℕ) × (countedOf o ≡ Equations n)
-unrefused y true b′ o e eight nine = absurd (eight (rw e))
-unrefused y false true o e eight nine = absurd (nine (rw e))
-unrefused y false false o e eight nine = (length (y .equations), rw e)
+unrefused-counted y true b′ o e eight nine = absurd (eight (rw e))
+unrefused-counted y false true o e eight nine = absurd (nine (rw e))
+unrefused-counted y false false o e eight nine = (length (y .equations), rw e)
 
 module _ (limit : ℕ) (s : List ℕ) (bytes : Bytes s) where
   unrefused-satisfies : (r : Rule) → ruleOf s ≡ accepted r → (countedOf (synthesisOf limit s) ≡ Refused 8 0 → ⊥) → Satisfies still r
   unrefused-satisfies r read other = still-satisfies r (λ v. other (refuses-violated-by-empty limit s bytes r read .1 v))
 
   -- so some finite model satisfies a rule that isn't refused with 8
-  pub satisfiable : (r : Rule) → ruleOf s ≡ accepted r → (countedOf (synthesisOf limit s) ≡ Refused 8 0 → ⊥)
+  pub unrefused-satisfiable : (r : Rule) → ruleOf s ≡ accepted r → (countedOf (synthesisOf limit s) ≡ Refused 8 0 → ⊥)
       → (m : Model) × Finite m × Satisfies m r
-  satisfiable r read other = (still, phones-finite stillPhone, unrefused-satisfies r read other)
+  unrefused-satisfiable r read other = (still, phones-finite stillPhone, unrefused-satisfies r read other)
 
   counted-acceptable : (n : ℕ) → countedOf (synthesisOf limit s) ≡ Equations n → Acceptable limit s
   counted-acceptable n e =
@@ -92,7 +93,7 @@ module _ (limit : ℕ) (s : List ℕ) (bytes : Bytes s) where
       let r = a .rule in
       let read : ruleOf s ≡ accepted r = reading-accepts s bytes r .1 (a .within-limits, a .encoded) in
       let eight : countedOf (synthesisOf limit s) ≡ Refused 8 0 → ⊥ = λ e. refused-unsatisfiable r read e (a .model) (a .satisfied) in
-      unrefused (withEquations limit r) (unsatisfiable r) (ltb limit (length (equationsOf limit r))) (synthesisOf limit s) (synthesis-of limit s r read)
+      unrefused-counted (withEquations limit r) (unsatisfiable r) (ltb limit (length (equationsOf limit r))) (synthesisOf limit s) (synthesis-of limit s r read)
       eight (λ e. refuses-too-many limit s r read eight .0 e (a .equations) (a .few) (a .closed))
 
 -- ---- the promises

@@ -1,16 +1,16 @@
--- Judging an accepted rule and model answers exactly whether the model satisfies the rule, and what judging leaves in the table hangs on its answer.
+-- Judging an accepted rule and model answers exactly whether the model satisfies the rule, since decided satisfaction is satisfaction; and what
+-- judging leaves in the table hangs on its answer.
 use Prim.Native.Nat.{ℕ}
-use mathlib.Core.Path.{_≡_, refl, ap, _∙_}
+use mathlib.Core.Path.{_≡_, refl}
 use mathlib.Core.Logic.{_⊎_, inl, inr}
 use mathlib.Core.List.{List}
 use native.Mathlib.Omega.{arith}
 use lib.ListN.{length}
 use Rattle.reading.specs.Rule.{Rule}
-use Rattle.reading.specs.File.{Outcome, accepted, refused, ruleOf}
+use Rattle.reading.specs.File.{Outcome, accepted, refused}
 use Rattle.reading.proofs.Basics.Outcomes.{andThen-accepts}
-use Rattle.synthesis.specs.Building.{buildingOf, countedOf, tableAfter}
-use Rattle.synthesis.specs.declared.Counted.the-variants.{Equations}
-use Rattle.synthesis.proofs.Tables.Synthesized.{building-accepts, counted-accepts, accepts-as}
+use Rattle.synthesis.specs.Building.{tableLeft, Builds}
+use Rattle.synthesis.proofs.Tables.Built.{builds-outcome}
 use Rattle.models.specs.Phone.{Phone, phoneOf}
 use Rattle.models.specs.Judging.{RuleAndModel, judgingOf, JudgedAs, tableJudged}
 use Rattle.models.specs.Promises.{JudgedExactly, JudgesExactly, TableLeft, RefusedUnchanged}
@@ -19,14 +19,10 @@ use Rattle.models.specs.declared.Judged.the-variants.{Meets, Breaks}
 use Rattle.models.proofs.Phones.DecidedSets.{decided-satisfies}
 
 -- what is judged is the file's rule and the file's model
-pub judging-case : (limit : ℕ) (s f : List ℕ) (capacity : ℕ) (r : Rule) (n : ℕ) (y : Phone) → ruleOf s ≡ accepted r
-    → countedOf (buildingOf limit s capacity) ≡ Equations n → phoneOf f ≡ accepted y
-    → judgingOf limit s capacity f ≡ accepted (record { rule = r; phone = y })
+pub judging-case : {limit mark : ℕ} {s table : List ℕ} {r : Rule} {n : ℕ} {left : List ℕ} → Builds limit mark s table r n left
+    → (f : List ℕ) (y : Phone) → phoneOf f ≡ accepted y → judgingOf limit s (length table) f ≡ accepted (record { rule = r; phone = y })
 unfolding judgingOf
-judging-case limit s f capacity r n y read e read′ =
-    let (z, built, long) = counted-accepts (buildingOf limit s capacity) n e in
-    let same = accepts-as limit s r read z (building-accepts limit s capacity z built .1) in
-    andThen-accepts _ (built ∙ ap accepted same) (andThen-accepts _ read′ refl)
+judging-case b f y read = andThen-accepts _ (builds-outcome b) (andThen-accepts _ read refl)
 
 judged-case : (r : Rule) (y : Phone) (answer : Judged) → JudgedAs (accepted (record { rule = r; phone = y })) answer → JudgedExactly r y answer
 judged-case r y answer (inl (q, sat)) =
@@ -42,8 +38,7 @@ judged-case r y answer (inr (q, none)) =
     }
 
 pub judges-exactly : JudgesExactly
-judges-exactly limit s f capacity r n y answer read e read′ judged =
-    judged-case r y answer (rw (judging-case limit s f capacity r n y read e read′) at judged)
+judges-exactly limit mark s table r n left b f y answer read judged = judged-case r y answer (rw (judging-case b f y read) at judged)
 
 -- ---- the table
 
@@ -61,4 +56,4 @@ table-left (refused number place) answer before built q = record { refused = λ 
 
 pub refused-unchanged : RefusedUnchanged
 refused-unchanged limit mark s f table answer judged =
-    table-left (judgingOf limit s (length table) f) answer table (tableAfter mark (buildingOf limit s (length table)) table) judged
+    table-left (judgingOf limit s (length table) f) answer table (tableLeft limit mark s table) judged

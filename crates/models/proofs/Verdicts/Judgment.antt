@@ -1,4 +1,5 @@
--- What judging answers and leaves, a row for each way out, and what its calls ask for.
+-- What judging answers and leaves: a law for each way out, and what its calls ask for. For an accepted rule and model, the search finds a dropped
+-- step exactly where the model doesn't satisfy the rule, since the table monitors the rule.
 use Prim.Native.Nat.{ℕ}
 use mathlib.Core.Path.{_≡_, refl, sym, _∙_, ap, subst}
 use mathlib.Core.Logic.{_↔_, inl, inr}
@@ -7,16 +8,15 @@ use mathlib.Core.List.{List}
 use native.Mathlib.Omega.{arith}
 use lib.ListN.{length}
 use Rattle.reading.specs.Rule.{Rule, Bytes}
-use Rattle.reading.specs.File.{Outcome, accepted, refused, ruleOf}
+use Rattle.reading.specs.File.{Outcome, accepted, refused}
 use Rattle.reading.specs.declared.Acceptance as Acceptance′
 use Rattle.synthesis.specs.Monitor.{lookup}
-use Rattle.synthesis.specs.Building.{Synthesis, buildingOf, countedOf, tableAfter}
+use Rattle.synthesis.specs.Table.{WellFormedTable}
+use Rattle.synthesis.specs.Building.{Synthesis, buildingOf, countedOf, tableAfter, tableLeft, Builds}
 use Rattle.synthesis.specs.declared.Counted.{Counted}
 use Rattle.synthesis.specs.declared.Counted.the-variants.{Equations, Refused}
-use Rattle.synthesis.proofs.Tables.Synthesized.{building-accepts, counted-accepts, counted-refuses, synthesis-accepts}
-use Rattle.synthesis.proofs.Tables.Built.{table-monitors}
-use Rattle.running.specs.Running.{WellFormedTable}
-use Rattle.running.proofs.BuiltTables.{built-well-formed}
+use Rattle.synthesis.proofs.Tables.Synthesized.{counted-refuses}
+use Rattle.synthesis.proofs.Tables.Built.{builds-accepted, table-monitors, built-well-formed}
 use Rattle.enforcement.specs.Model.{SatisfiesDecided}
 use Rattle.models.specs.Phone.{Phone, modelOf, PhoneWithinLimits, phoneOf}
 use Rattle.models.specs.Judging.{stored, modelReadingOf, judgingOf, JudgedAs, tableJudged}
@@ -39,7 +39,7 @@ module _ (s table f : List ℕ) where
   abbrev Judges : (answer : Judged) → (after : List ℕ) → Type 0
   Judges answer after =
       JudgedAs (judgingOf 128 s (length table) f) answer
-      × (after ≡ tableJudged (judgingOf 128 s (length table) f) (tableAfter 255 (buildingOf 128 s (length table)) table) table)
+      × (after ≡ tableJudged (judgingOf 128 s (length table) f) (tableLeft 128 255 s table) table)
 
   -- ---- a refusal
 
@@ -47,15 +47,15 @@ module _ (s table f : List ℕ) where
       → Judges (Judged′.the-variants.Refused number place) table
   refused-judges e = rw e (refl, refl)
 
-  rule-first : {number place : ℕ} → buildingOf 128 s (length table) ≡ refused number place
+  building-refused-judges : {number place : ℕ} → buildingOf 128 s (length table) ≡ refused number place
       → Judges (Judged′.the-variants.Refused number place) table
   unfolding judgingOf
-  rule-first e = refused-judges (rw e)
+  building-refused-judges e = refused-judges (rw e)
 
-  model-second : {y : Synthesis} {number place : ℕ} → buildingOf 128 s (length table) ≡ accepted y → phoneOf f ≡ refused number place
+  phone-refused-judges : {y : Synthesis} {number place : ℕ} → buildingOf 128 s (length table) ≡ accepted y → phoneOf f ≡ refused number place
       → Judges (Judged′.the-variants.Refused number place) table
   unfolding judgingOf
-  model-second e q = refused-judges (rw (e, q))
+  phone-refused-judges e q = refused-judges (rw (e, q))
 
   pub judges-model-refused : {reading : ModelReading} {number place : ℕ} {r : Judged} → reading ≡ modelReadingOf (phoneOf f)
       → reading .answer ≡ Acceptance′.the-variants.Refused number place
@@ -65,15 +65,15 @@ module _ (s table f : List ℕ) where
       on : (o : Outcome Synthesis) → buildingOf 128 s (length table) ≡ o
           → r ≡ refusalBefore (countedOf o) (Acceptance′.the-variants.Refused number place) → Judges r table
       on (accepted y) built e =
-          rw e (model-second built (model-refused (phoneOf f) number place .1 (sym (ap (λ (x : ModelReading). x .answer) read) ∙ told)))
-      on (refused number′ place′) built e = rw e (rule-first built)
+          rw e (phone-refused-judges built (model-refused (phoneOf f) number place .1 (sym (ap (λ (x : ModelReading). x .answer) read) ∙ told)))
+      on (refused number′ place′) built e = rw e (building-refused-judges built)
 
   pub judges-rule-refused : {built : Counted} {number place : ℕ} {r : Judged} {after : List ℕ}
-      → built ≡ countedOf (buildingOf 128 s (length table)) → after ≡ tableAfter 255 (buildingOf 128 s (length table)) table
+      → built ≡ countedOf (buildingOf 128 s (length table)) → after ≡ tableLeft 128 255 s table
       → built ≡ Refused number place → r ≡ ruleRefusal built → Judges r after
   judges-rule-refused {number = number} {place} is left told e =
       let building = counted-refuses (buildingOf 128 s (length table)) number place (sym is ∙ told) in
-      rw (e, told, left ∙ ap (λ (o : Outcome Synthesis). tableAfter 255 o table) building) (rule-first building)
+      rw (e, told, left ∙ ap (λ (o : Outcome Synthesis). tableAfter 255 o table) building) (building-refused-judges building)
 
   -- ---- a rule and a model that were accepted
 
@@ -82,31 +82,23 @@ module _ (s table f : List ℕ) where
     pub rule : Rule
     pub count : ℕ
     pub phone : Phone
-    pub rule-bytes : Bytes s
-    pub rule-is : ruleOf s ≡ accepted rule
-    pub counted : countedOf (buildingOf 128 s (length table)) ≡ Equations count
-    pub left : after ≡ tableAfter 255 (buildingOf 128 s (length table)) table
+    pub builds : Builds 128 255 s table rule count after
     pub phone-is : phoneOf f ≡ accepted phone
     pub within-limits : PhoneWithinLimits phone
     pub is-stored : model ≡ stored phone
 
   pub both-accepted : {reading : ModelReading} {built : Counted} {after : List ℕ} (n : ℕ) → Bytes s → Bytes f
       → reading ≡ modelReadingOf (phoneOf f) → reading .answer ≡ Acceptance′.the-variants.Accepted
-      → built ≡ countedOf (buildingOf 128 s (length table)) → after ≡ tableAfter 255 (buildingOf 128 s (length table)) table
+      → built ≡ countedOf (buildingOf 128 s (length table)) → after ≡ tableLeft 128 255 s table
       → built ≡ Equations n → Accepts after (reading .model)
   both-accepted n rule-bytes bytes read told is left counted =
-      let e = sym is ∙ counted in
-      let y = counted-accepts (buildingOf 128 s (length table)) n e in
-      let synthesis = building-accepts 128 s (length table) (y .0) (y .1) .1 in
+      let (rule, builds) = builds-accepted 128 255 s table n (omega arith) rule-bytes (sym is ∙ counted) in
       let p = phone-accepted (phoneOf f) (sym (ap (λ (x : ModelReading). x .answer) read) ∙ told) in
       record {
-        rule = y .0 .rule;
+        rule = rule;
         count = n;
         phone = p .0;
-        rule-bytes = rule-bytes;
-        rule-is = synthesis-accepts 128 s (λ y. ruleOf s ≡ accepted (y .rule)) (λ r is hopeful few. is) (y .0) synthesis;
-        counted = e;
-        left = left;
+        builds = subst (Builds 128 255 s table rule n) (sym left) builds;
         phone-is = p .1;
         within-limits = phone-within-limits f (p .0) bytes (p .1);
         is-stored = ap (λ (x : ModelReading). x .model) read ∙ p .2;
@@ -117,34 +109,33 @@ module _ (s table f : List ℕ) where
     model-has-phone = record { phone = a .phone; within-limits = a .within-limits; is-stored = a .is-stored }
 
     pub table-well-formed : (count : ℕ) × WellFormedTable 128 255 count after
-    table-well-formed =
-        (a .count, subst (WellFormedTable 128 255 (a .count)) (sym (a .left)) (built-well-formed 128 255 s table (a .count) (a .counted)))
+    table-well-formed = (a .count, built-well-formed 128 255 s table (a .rule) (a .count) after (a .builds))
 
     -- nothing is dropped exactly where the model satisfies the rule
     never-drops-satisfies :
         NeverDrops (lookup 256 255 after) 0 (modelOf (a .phone)) ↔ SatisfiesDecided (modelOf (a .phone)) (a .rule)
     never-drops-satisfies =
         let m = modelOf (a .phone) in
-        let monitors = table-monitors 128 255 s table (a .rule) (a .count) (omega arith) (a .rule-bytes) (a .rule-is) (a .counted) in
-        let safe = never-drops-safe ℕ (a .rule) (lookup 256 255 after) 0 (rw (a .left) monitors) m (phone-codes (a .phone) (a .within-limits .well-formed)) in
+        let monitors = table-monitors 128 255 s table (a .rule) (a .count) after (a .builds) in
+        let safe = never-drops-safe ℕ (a .rule) (lookup 256 255 after) 0 monitors m (phone-codes (a .phone) (a .within-limits .well-formed)) in
         let satisfies = satisfies-safe m (a .rule) in
         let decided = decided-satisfies (a .phone) (a .rule) in
         (λ never. decided .1 (satisfies .1 (safe .0 never)), λ sat. safe .1 (satisfies .0 (decided .0 sat)))
 
     module _ {r : Bool}
         (never : (y : Phone) → model ≡ stored y → (r ≡ true) ↔ NeverDrops (lookup 256 255 after) 0 (modelOf y)) where
-      case : judgingOf 128 s (length table) f ≡ accepted (record { rule = a .rule; phone = a .phone })
-      case = judging-case 128 s f (length table) (a .rule) (a .count) (a .phone) (a .rule-is) (a .counted) (a .phone-is)
+      judging-is : judgingOf 128 s (length table) f ≡ accepted (record { rule = a .rule; phone = a .phone })
+      judging-is = judging-case (a .builds) f (a .phone) (a .phone-is)
 
       -- the answer of the search
-      searched : (r ≡ true) ↔ NeverDrops (lookup 256 255 after) 0 (modelOf (a .phone))
-      searched = never (a .phone) (a .is-stored)
+      search-iff : (r ≡ true) ↔ NeverDrops (lookup 256 255 after) 0 (modelOf (a .phone))
+      search-iff = never (a .phone) (a .is-stored)
 
       pub judges-meets : r ≡ true → Judges Judged′.the-variants.Meets after
-      judges-meets e = rw case (inl (refl, never-drops-satisfies .0 (searched .0 e)), a .left)
+      judges-meets e = rw judging-is (inl (refl, never-drops-satisfies .0 (search-iff .0 e)), a .builds .left-is)
 
       pub judges-breaks : r ≡ false → Judges Judged′.the-variants.Breaks after
-      judges-breaks e = rw case (inr (refl, λ sat. never-true (searched .1 (never-drops-satisfies .1 sat))), a .left)
+      judges-breaks e = rw judging-is (inr (refl, λ sat. never-true (search-iff .1 (never-drops-satisfies .1 sat))), a .builds .left-is)
         where
           never-true : r ≡ true → ⊥
           never-true e′ = let z : _≡_ {A = ℕ} 0 1 = cc in omega arith

@@ -1,4 +1,4 @@
--- What is said where a model is refused, a row for each way out: 10, a refusal of the rule, or else that of the model.
+-- What is said where a model is refused: 10, a refusal of the rule, or else that of the model, a law for each way out.
 use Prim.Native.Nat.{ℕ, _≤_, _<_}
 use mathlib.Core.Path.{_≡_}
 use mathlib.Core.List.{List}

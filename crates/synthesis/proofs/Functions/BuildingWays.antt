@@ -1,4 +1,4 @@
--- What building answers and leaves, a row for each way out.
+-- What building answers and leaves: a law for each way out of the code, from what the plan is.
 use Prim.Native.Nat.{ℕ, _≤_, _<_}
 use mathlib.Core.Path.{_≡_, refl, sym, _∙_, ap}
 use mathlib.Core.List.{List}
@@ -13,17 +13,17 @@ use Rattle.synthesis.specs.Plans.{Fills, CanFill, IsPlan}
 use Rattle.synthesis.specs.declared.Counted.{Counted}
 use Rattle.synthesis.specs.declared.Counted.the-variants.{Equations, Refused}
 use Rattle.synthesis.specs.declared.Plan.{Plan}
-use Rattle.synthesis.proofs.Tables.Rows.{filled-cong}
+use Rattle.synthesis.proofs.Tables.FilledTables.{filled-cong}
 use Rattle.synthesis.proofs.Tables.Synthesized.{building-enough, building-short}
 use Rattle.synthesis.proofs.Functions.GraphLaws.{graph-answers}
 
 -- the answer and the table after a call
-abbrev Builds : (s table : List ℕ) → (answer : Counted) → (after : List ℕ) → Type 0
-Builds s table answer after =
+abbrev BuildLeaves : (s table : List ℕ) → (answer : Counted) → (after : List ℕ) → Type 0
+BuildLeaves s table answer after =
     (answer ≡ countedOf (buildingOf 128 s (length table))) × (after ≡ tableAfter 255 (buildingOf 128 s (length table)) table)
 
-pub too-short : (s table : List ℕ) → length table < 32768 → Builds s table (Refused 10 0) table
-too-short s table h = rw (building-short 128 s (length table) h) (refl, refl)
+pub short-leaves : (s table : List ℕ) → length table < 32768 → BuildLeaves s table (Refused 10 0) table
+short-leaves s table h = rw (building-short 128 s (length table) h) (refl, refl)
 
 -- ---- a table that is long enough
 
@@ -32,30 +32,30 @@ refused-leaves : (o : Outcome Synthesis) (table : List ℕ) (number place : ℕ)
 refused-leaves (accepted y) table number place e = let z : _≡_ {A = ℕ} 0 1 = cc in absurd (omega arith)
 refused-leaves (refused number′ place′) table number place e = refl
 
-pub not-counted : (s table : List ℕ) (p : Plan) → IsPlan (synthesisOf 128 s) p → {number place : ℕ} → p .answer ≡ Refused number place
-    → 32768 ≤ length table → Builds s table (p .answer) table
-not-counted s table p is e h =
+pub refused-plan-leaves : (s table : List ℕ) (p : Plan) → IsPlan (synthesisOf 128 s) p → {number place : ℕ} → p .answer ≡ Refused number place
+    → 32768 ≤ length table → BuildLeaves s table (p .answer) table
+refused-plan-leaves s table p is e h =
     rw (building-enough 128 s (length table) h)
     (is .answer-is, refused-leaves (synthesisOf 128 s) table _ _ (sym (is .answer-is) ∙ e))
 
 -- what a plan with a count has
-pub record Counts (o : Outcome Synthesis) (p : Plan) (n : ℕ) : Type 0 where
+pub record CountedPlan (o : Outcome Synthesis) (p : Plan) (n : ℕ) : Type 0 where
   pub synthesis : Synthesis
   pub is : o ≡ accepted synthesis
   pub fills : Fills synthesis p
   pub count-is : n ≡ length (synthesis .equations)
 
-counts-of : (o : Outcome Synthesis) (p : Plan) (n : ℕ) → Equations n ≡ countedOf o → CanFill o p → Counts o p n
-counts-of (accepted y) p n e f = record { synthesis = y; is = refl; fills = f; count-is = cc }
-counts-of (refused number place) p n e f = let z : _≡_ {A = ℕ} 0 1 = cc in absurd (omega arith)
+outcome-counted : (o : Outcome Synthesis) (p : Plan) (n : ℕ) → Equations n ≡ countedOf o → CanFill o p → CountedPlan o p n
+outcome-counted (accepted y) p n e f = record { synthesis = y; is = refl; fills = f; count-is = cc }
+outcome-counted (refused number place) p n e f = let z : _≡_ {A = ℕ} 0 1 = cc in absurd (omega arith)
 
-pub counts : {o : Outcome Synthesis} (p : Plan) (n : ℕ) → IsPlan o p → p .answer ≡ Equations n → Counts o p n
-counts {o} p n is e = counts-of o p n (sym e ∙ is .answer-is) (is .fills)
+pub plan-counted : {o : Outcome Synthesis} (p : Plan) (n : ℕ) → IsPlan o p → p .answer ≡ Equations n → CountedPlan o p n
+plan-counted {o} p n is e = outcome-counted o p n (sym e ∙ is .answer-is) (is .fills)
 
-pub is-filled : (s table after : List ℕ) (p : Plan) (n : ℕ) → Counts (synthesisOf 128 s) p n → 32768 ≤ length table
+pub filled-leaves : (s table after : List ℕ) (p : Plan) (n : ℕ) → CountedPlan (synthesisOf 128 s) p n → 32768 ≤ length table
     → after ≡ filled 255 (answerBy (p .graph .after) (p .graph .enabled) (p .graph .falsities)) (take n (p .found)) 256 table
-    → Builds s table (Equations n) after
-is-filled s table after p n c h e =
+    → BuildLeaves s table (Equations n) after
+filled-leaves s table after p n c h e =
     let answers = answerBy (p .graph .after) (p .graph .enabled) (p .graph .falsities) in
     let agree = graph-answers (p .graph) (c .fills .graph-is) in
     let same : take n (p .found) ≡ c .synthesis .equations = ap (λ (k : ℕ). take k (p .found)) (c .count-is) ∙ c .fills .found-is in

@@ -1,4 +1,5 @@
--- Putting a node into the sets of the codes that a pattern covers, one code after the other.
+-- Putting a node into the sets of the codes that a pattern covers, one code after the other: the sets before the code are done, and those from it on
+-- are as they were.
 use Prim.Native.Nat.{ℕ, _+_, _≤_, _<_}
 use mathlib.Core.Path.{_≡_, refl, _∙_}
 use mathlib.Core.Bool.{Bool}

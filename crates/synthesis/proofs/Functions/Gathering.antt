@@ -1,4 +1,5 @@
--- Gathering the sets of the members of a set, its lowest member first.
+-- Gathering the sets of the members of a set, its lowest member first: what is gathered has the members of the members' sets, so with the lowest
+-- member's set the rest of the members give what all give.
 use Prim.Native.Nat.{ℕ, zero, suc, _/_, _^_, _<_}
 use mathlib.Core.Path.{_≡_}
 use mathlib.Core.Logic.{_↔_}
@@ -14,8 +15,8 @@ use Rattle.reading.proofs.Measures.Counting.{least-holds}
 use Rattle.reading.proofs.Measures.Bits.{isSet, trailing-is-least, trailing-lt}
 use Rattle.synthesis.specs.NodeSet.{Has, has, emptySet, union}
 use Rattle.synthesis.specs.Arrays.{gathered}
-use Rattle.synthesis.proofs.Unfolding.NodeSetLaws.{has-none, half-has, has-true, true-has, has-ext, none-of, toggled, toggled-other}
-use Rattle.synthesis.proofs.Unfolding.MemberLaws.{cond-has, in-first, in-second, union-cases}
+use Rattle.synthesis.proofs.Unfolding.NodeSetLaws.{has-none, half-has, has-true, true-has, has-ext, no-member-empty, toggled, toggled-other}
+use Rattle.synthesis.proofs.Unfolding.MemberLaws.{cond-has, has-union-first, has-union-second, union-cases}
 
 -- ---- which nodes are gathered
 
@@ -24,27 +25,27 @@ abbrev pub Gathers : List ℕ → (live m : ℕ) → Type 0
 Gathers xs live m = (n : ℕ) × Has live n × Has (getD xs n 0) m
 
 pub gathered-has : (xs : List ℕ) (live m : ℕ) → Has (gathered xs live) m ↔ Gathers xs live m
-gathered-has xs live m = (there xs live, λ g. back xs live (g .0) (g .1) (g .2))
+gathered-has xs live m = (has-gathers xs live, λ g. gathers-has xs live (g .0) (g .1) (g .2))
   where
-    there : (xs : List ℕ) (live : ℕ) → Has (gathered xs live) m → Gathers xs live m
-    there [] live h = absurd (has-none m h)
-    there (x ∷ xs) live h =
+    has-gathers : (xs : List ℕ) (live : ℕ) → Has (gathered xs live) m → Gathers xs live m
+    has-gathers [] live h = absurd (has-none m h)
+    has-gathers (x ∷ xs) live h =
         union-cases (cond (has live 0) x emptySet) (gathered xs (live / 2)) m
         (λ a. let (test, k) = cond-has (has live 0) x m a in (0, has-true live 0 test, k))
-        (λ a. let (n, l, k) = there xs (live / 2) a in (suc n, half-has live n .0 l, k)) h
+        (λ a. let (n, l, k) = has-gathers xs (live / 2) a in (suc n, half-has live n .0 l, k)) h
 
-    back : (xs : List ℕ) (live n : ℕ) → Has live n → Has (getD xs n 0) m → Has (gathered xs live) m
-    back [] live n h k = k
-    back (x ∷ xs) live zero h k = in-first (cond (has live 0) x emptySet) (gathered xs (live / 2)) m (rw (true-has live 0 h) k)
-    back (x ∷ xs) live (suc n) h k =
-        in-second (cond (has live 0) x emptySet) (gathered xs (live / 2)) m (back xs (live / 2) n (half-has live n .1 h) k)
+    gathers-has : (xs : List ℕ) (live n : ℕ) → Has live n → Has (getD xs n 0) m → Has (gathered xs live) m
+    gathers-has [] live n h k = k
+    gathers-has (x ∷ xs) live zero h k = has-union-first (cond (has live 0) x emptySet) (gathered xs (live / 2)) m (rw (true-has live 0 h) k)
+    gathers-has (x ∷ xs) live (suc n) h k =
+        has-union-second (cond (has live 0) x emptySet) (gathered xs (live / 2)) m (gathers-has xs (live / 2) n (half-has live n .1 h) k)
 
 -- ---- one member at a time
 
 -- with the set of a member, what the other members have is what all have
 pub gather-step : (xs : List ℕ) (all rest i : ℕ) → Has rest i
     → union (union all (getD xs i 0)) (gathered xs (toggled rest i)) ≡ union all (gathered xs rest)
-gather-step xs all rest i h = has-ext _ _ (λ m. (there m, back m))
+gather-step xs all rest i h = has-ext _ _ (λ m. (stepped-in-whole m, whole-in-stepped m))
   where
     one : ℕ
     one = getD xs i 0
@@ -52,32 +53,32 @@ gather-step xs all rest i h = has-ext _ _ (λ m. (there m, back m))
     others : ℕ
     others = gathered xs (toggled rest i)
 
-    kept : (n : ℕ) → Has (toggled rest i) n → Dec (i ≡ n) → Has rest n
-    kept n k (yes q) = rw (← q) h
-    kept n k (no q) = toggled-other rest i n q .0 k
+    toggled-member : (n : ℕ) → Has (toggled rest i) n → Dec (i ≡ n) → Has rest n
+    toggled-member n k (yes q) = rw (← q) h
+    toggled-member n k (no q) = toggled-other rest i n q .0 k
 
-    inside : (m n : ℕ) → Has rest n → Has (getD xs n 0) m → Has (union all (gathered xs rest)) m
-    inside m n r a = in-second all (gathered xs rest) m (gathered-has xs rest m .1 (n, r, a))
+    gathered-in-whole : (m n : ℕ) → Has rest n → Has (getD xs n 0) m → Has (union all (gathered xs rest)) m
+    gathered-in-whole m n r a = has-union-second all (gathered xs rest) m (gathered-has xs rest m .1 (n, r, a))
 
-    there : (m : ℕ) → Has (union (union all one) others) m → Has (union all (gathered xs rest)) m
-    there m =
-        union-cases (union all one) others m (union-cases all one m (in-first all (gathered xs rest) m) (inside m i h))
-        (λ a. let (n, k, x) = gathered-has xs (toggled rest i) m .0 a in inside m n (kept n k (ℕ-discrete i n)) x)
+    stepped-in-whole : (m : ℕ) → Has (union (union all one) others) m → Has (union all (gathered xs rest)) m
+    stepped-in-whole m =
+        union-cases (union all one) others m (union-cases all one m (has-union-first all (gathered xs rest) m) (gathered-in-whole m i h))
+        (λ a. let (n, k, x) = gathered-has xs (toggled rest i) m .0 a in gathered-in-whole m n (toggled-member n k (ℕ-discrete i n)) x)
 
-    member : (m n : ℕ) → Has rest n → Has (getD xs n 0) m → Dec (i ≡ n) → Has (union (union all one) others) m
-    member m n r a (yes q) = in-first (union all one) others m (in-second all one m (rw q a))
-    member m n r a (no q) = in-second (union all one) others m (gathered-has xs (toggled rest i) m .1 (n, toggled-other rest i n q .1 r, a))
+    gathered-in-stepped : (m n : ℕ) → Has rest n → Has (getD xs n 0) m → Dec (i ≡ n) → Has (union (union all one) others) m
+    gathered-in-stepped m n r a (yes q) = has-union-first (union all one) others m (has-union-second all one m (rw q a))
+    gathered-in-stepped m n r a (no q) = has-union-second (union all one) others m (gathered-has xs (toggled rest i) m .1 (n, toggled-other rest i n q .1 r, a))
 
-    back : (m : ℕ) → Has (union all (gathered xs rest)) m → Has (union (union all one) others) m
-    back m =
-        union-cases all (gathered xs rest) m (λ a. in-first (union all one) others m (in-first all one m a))
-        (λ a. let (n, r, x) = gathered-has xs rest m .0 a in member m n r x (ℕ-discrete i n))
+    whole-in-stepped : (m : ℕ) → Has (union all (gathered xs rest)) m → Has (union (union all one) others) m
+    whole-in-stepped m =
+        union-cases all (gathered xs rest) m (λ a. has-union-first (union all one) others m (has-union-first all one m a))
+        (λ a. let (n, r, x) = gathered-has xs rest m .0 a in gathered-in-stepped m n r x (ℕ-discrete i n))
 
 pub gather-none : (xs : List ℕ) (all : ℕ) → union all (gathered xs emptySet) ≡ all
-gather-none xs all = rw nothing (or-zero-r all)
+gather-none xs all = rw gathered-empty (or-zero-r all)
   where
-    nothing : gathered xs emptySet ≡ emptySet
-    nothing = none-of (gathered xs emptySet) (λ m a. let (n, h, x) = gathered-has xs emptySet m .0 a in has-none n h)
+    gathered-empty : gathered xs emptySet ≡ emptySet
+    gathered-empty = no-member-empty (gathered xs emptySet) (λ m a. let (n, h, x) = gathered-has xs emptySet m .0 a in has-none n h)
 
 -- ---- the lowest member
 

@@ -1,4 +1,5 @@
--- A graph has what the definitions say of its rule, and so its answers are the rule's.
+-- A graph has what the definitions say of its rule, and so its answers are the rule's: two sets are the same where they have the same members, and
+-- for both these are what the members of an equation lead to.
 use Prim.Native.Nat.{ℕ, _<_}
 use mathlib.Core.Path.{_≡_, sym, ap, subst}
 use mathlib.Core.Logic.{_↔_}
@@ -19,7 +20,7 @@ use Rattle.synthesis.specs.declared.graph.Graph.{Graph}
 use Rattle.synthesis.proofs.Unfolding.NodeSetLaws.{has-ext, has-common}
 use Rattle.synthesis.proofs.Unfolding.NodeWise.{falsities-has, reached-has}
 use Rattle.synthesis.proofs.Functions.Gathering.{gathered-has}
-use Rattle.synthesis.proofs.Functions.NodeArrays.{node-below, kind-at, resolved}
+use Rattle.synthesis.proofs.Functions.NodeArrays.{node-below, kind-at, node-resolves}
 
 pub some-node : {n : NumberedRule} {k : ℕ} → SomeNumbered n k → SomeNode (n .kinds) (n .args) k
 some-node s = record { rule = s .rule; is-rule = s .is-numbered .is-rule; below = s .below }
@@ -30,20 +31,20 @@ module _ {r : Rule} {kinds args : List ℕ} (ir : IsRule r kinds args) where
   first-opened n o = o .is r ir (λ j h. repeated-at 0 n j) [] (r .formula) whole
 
   pub falsities-by-kind : {e n : ℕ} → n ≡ size (r .formula) → HasKind 3 kinds n e → e ≡ falsities 0 (r .formula)
-  falsities-by-kind {e} {n} q h = has-ext e (falsities 0 (r .formula)) (λ j. (there j, back j))
+  falsities-by-kind {e} {n} q h = has-ext e (falsities 0 (r .formula)) (λ j. (kind-in-falsities j, falsities-of-kind j))
     where
-      of-kind-3 : {k x : ℕ} {ms : List EnclosingMax} {f : Formula} → Node (r .formula) k ms f → Resolves (r .formula) k ms 3 x f
+      kind-3-falsity : {k x : ℕ} {ms : List EnclosingMax} {f : Formula} → Node (r .formula) k ms f → Resolves (r .formula) k ms 3 x f
           → IsFalsity (r .formula) k
-      of-kind-3 {ms = ms} node is-falsity = (ms, node)
+      kind-3-falsity {ms = ms} node is-falsity = (ms, node)
 
-      there : (j : ℕ) → Has e j → Has (falsities 0 (r .formula)) j
-      there j x =
+      kind-in-falsities : (j : ℕ) → Has e j → Has (falsities 0 (r .formula)) j
+      kind-in-falsities j x =
           let y = h .is j .0 x in
           let node = node-exists (r .formula) j (omega (arith, y .0, q)) in
-          falsities-has (r .formula) j .1 (of-kind-3 (node .2) (resolved ir (node .2) (y .1)))
+          falsities-has (r .formula) j .1 (kind-3-falsity (node .2) (node-resolves ir (node .2) (y .1)))
 
-      back : (j : ℕ) → Has (falsities 0 (r .formula)) j → Has e j
-      back j x =
+      falsities-of-kind : (j : ℕ) → Has (falsities 0 (r .formula)) j → Has e j
+      falsities-of-kind j x =
           let y = falsities-has (r .formula) j .0 x in
           h .is j .1 (omega (arith, node-below (y .1), q), kind-at ir (y .1))
 
@@ -58,19 +59,19 @@ module _ {r : Rule} (g : Graph) (is : IsGraph r g) (e c : ℕ) (code : c < 256) 
   abbrev led : ℕ
   led = reached (coveredBy (r .patterns)) e c 0 [] (r .formula)
 
-  gathers-led : (m : ℕ) → Has (gathered (g .after) live) m ↔ Has led m
-  gathers-led m = (there, back)
+  gathered-reached : (m : ℕ) → Has (gathered (g .after) live) m ↔ Has led m
+  gathered-reached m = (gathered-in-reached, reached-in-gathered)
     where
-      there : Has (gathered (g .after) live) m → Has led m
-      there h =
+      gathered-in-reached : Has (gathered (g .after) live) m → Has led m
+      gathered-in-reached h =
           let (n, shared, opened) = gathered-has (g .after) live m .0 h in
           let (member, waits) = has-common e (getD (g .enabled) c 0) n .0 shared in
           let (p, ms, f, node, covers) = is .enabled-is .is c n code .0 waits in
           reached-has (coveredBy (r .patterns)) (r .formula) e c m .1
           (n, p, ms, f, node, member, covers, subst (λ s. Has s m) (is .after-is .is n p ms f node) opened)
 
-      back : Has led m → Has (gathered (g .after) live) m
-      back h =
+      reached-in-gathered : Has led m → Has (gathered (g .after) live) m
+      reached-in-gathered h =
           let (n, p, ms, f, node, member, covers, opened) = reached-has (coveredBy (r .patterns)) (r .formula) e c m .0 h in
           gathered-has (g .after) live m .1 (
             n,
@@ -81,4 +82,4 @@ module _ {r : Rule} (g : Graph) (is : IsGraph r g) (e c : ℕ) (code : c < 256) 
   -- What the arrays of a graph answer is what the rule's equations answer.
   pub graph-answers : answerBy (g .after) (g .enabled) (g .falsities) e c ≡ answerOf r e c
   unfolding answerBy answerOf
-  graph-answers = rw (is .falsities-are) (ap (answerFrom (falsities 0 (r .formula))) (has-ext _ _ gathers-led))
+  graph-answers = rw (is .falsities-are) (ap (answerFrom (falsities 0 (r .formula))) (has-ext _ _ gathered-reached))

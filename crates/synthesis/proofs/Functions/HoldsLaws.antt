@@ -1,4 +1,4 @@
--- Laws of an array that holds the found equations.
+-- Laws of an array that holds the found equations: as long as they are within the limit its front is their list, and then it stays over the limit.
 use Prim.Native.Nat.{ℕ, suc, _+_, _≤_, _<_}
 use mathlib.Core.Path.{_≡_, refl}
 use mathlib.Core.Logic.{inl, inr}
@@ -25,37 +25,37 @@ module _ (limit : ℕ) (a : List ℕ) (n : ℕ) (l : List ℕ) where
   held-many (inr p) h = p .1
 
   -- over the limit it stays so
-  pub held-still : (m : List ℕ) → Holds limit a n l → limit < n → Grows l m → Holds limit a n m
-  held-still m (inl p) h g = absurd (omega arith)
-  held-still m (inr p) h g = inr (p .0, omega (arith, grows-length l m g))
+  pub held-over-limit : (m : List ℕ) → Holds limit a n l → limit < n → Grows l m → Holds limit a n m
+  held-over-limit m (inl p) h g = absurd (omega arith)
+  held-over-limit m (inr p) h g = inr (p .0, omega (arith, grows-length l m g))
 
 module _ (limit : ℕ) (a : List ℕ) (n : ℕ) (l : List ℕ) (room : length a ≡ limit) (held : Holds limit a n l) where
-  few : n ≤ limit → take n a ≡ l
-  few = held-few limit a n l held
+  held-list : n ≤ limit → take n a ≡ l
+  held-list = held-few limit a n l held
 
   length-is : n ≤ limit → length (take n a) ≡ n
   length-is h = length-take-le n a (omega arith)
 
   -- ---- one more equation
 
-  pub held-old : (e : ℕ) → n ≤ limit → indexOf e (take n a) < n → Holds limit a n (insert l e)
-  held-old e h old = rw (← few h, insert-old (take n a) e (omega (arith, length-is h))) (inl (h, refl))
+  pub held-insert-old : (e : ℕ) → n ≤ limit → indexOf e (take n a) < n → Holds limit a n (insert l e)
+  held-insert-old e h old = rw (← held-list h, insert-old (take n a) e (omega (arith, length-is h))) (inl (h, refl))
 
-  new : (e : ℕ) → n ≤ limit → n ≤ indexOf e (take n a) → insert l e ≡ take n a ++ (e ∷ [])
-  new e h absent = rw (← few h) (insert-new (take n a) e (λ m. omega (arith, length-is h)))
+  insert-absent : (e : ℕ) → n ≤ limit → n ≤ indexOf e (take n a) → insert l e ≡ take n a ++ (e ∷ [])
+  insert-absent e h absent = rw (← held-list h) (insert-new (take n a) e (λ m. omega (arith, length-is h)))
 
-  pub held-full : (e : ℕ) → n ≡ limit → n ≤ indexOf e (take n a) → Holds limit a (suc limit) (insert l e)
-  held-full e h absent =
-      rw (new e (omega arith) absent) (inr (refl, omega (arith, length-is (omega arith), length-append (take n a) (e ∷ []))))
+  pub held-insert-full : (e : ℕ) → n ≡ limit → n ≤ indexOf e (take n a) → Holds limit a (suc limit) (insert l e)
+  held-insert-full e h absent =
+      rw (insert-absent e (omega arith) absent) (inr (refl, omega (arith, length-is (omega arith), length-append (take n a) (e ∷ []))))
 
-  pub held-new : (e : ℕ) → n < limit → n ≤ indexOf e (take n a) → Holds limit (set a n e) (n + 1) (insert l e)
-  held-new e h absent = rw (new e (omega arith) absent, add-one n) (inl (omega arith, take-suc-set a n e (omega arith)))
+  pub held-insert-new : (e : ℕ) → n < limit → n ≤ indexOf e (take n a) → Holds limit (set a n e) (n + 1) (insert l e)
+  held-insert-new e h absent = rw (insert-absent e (omega arith) absent, add-one n) (inl (omega arith, take-suc-set a n e (omega arith)))
 
   -- ---- the turn of equation k
 
   module _ (codes : ℕ) (answer : ℕ → ℕ → Answer ℕ) (k : ℕ) where
-    pub held-past : n ≤ limit → n ≤ k → Holds limit a n (expanded codes answer k l)
-    held-past h past = rw (← few h, expanded-none codes answer k (take n a) (omega (arith, length-is h))) (inl (h, refl))
+    pub held-expanded-none : n ≤ limit → n ≤ k → Holds limit a n (expanded codes answer k l)
+    held-expanded-none h past = rw (← held-list h, expanded-none codes answer k (take n a) (omega (arith, length-is h))) (inl (h, refl))
 
-    pub held-expanded : n ≤ limit → k < n → expanded codes answer k l ≡ explored codes answer (getD a k 0) codes l
-    held-expanded h inside = rw (← few h, expanded-some codes answer k (take n a) (omega (arith, length-is h)), getD-take n a k 0 inside)
+    pub held-expanded-some : n ≤ limit → k < n → expanded codes answer k l ≡ explored codes answer (getD a k 0) codes l
+    held-expanded-some h inside = rw (← held-list h, expanded-some codes answer k (take n a) (omega (arith, length-is h)), getD-take n a k 0 inside)

@@ -1,4 +1,5 @@
--- Opening the maxes of a rule and the formulas after its necessities, one node after the other.
+-- Opening the maxes of a rule and the formulas after its necessities, one node after the other: what the arrays have for the nodes so far stays as it
+-- is, and the next node is opened by them.
 use Prim.Native.Nat.{ℕ, suc, _+_, _≤_, _<_}
 use mathlib.Core.Path.{_≡_, refl, sym, _∙_, ap₂}
 use mathlib.Core.List.{List, _∷_}
@@ -15,13 +16,13 @@ use Rattle.synthesis.specs.Arrays.{IsRule, IsOpening, listedAround, Link
 use Rattle.synthesis.proofs.Functions.NodeArrays.{kind-at, node-below}
 
 -- the array has what opening the maxes around a node gives
-around-listed : {r : Rule} {k : ℕ} {opened afters : List ℕ} → Linked r k opened afters → {j : ℕ} {ms : List EnclosingMax} {f : Formula}
+listed-around-is : {r : Rule} {k : ℕ} {opened afters : List ℕ} → Linked r k opened afters → {j : ℕ} {ms : List EnclosingMax} {f : Formula}
     → Node (r .formula) j ms f → j ≤ k → listedAround opened ms ≡ opensAround ms
-around-listed l whole h = refl
-around-listed l (first n) h = around-listed l n (omega arith)
-around-listed l (second n) h = around-listed l n (omega arith)
-around-listed l (after n) h = around-listed l n (omega arith)
-around-listed l (body {k = j} {ms = ms} {f = f} n) h = ap₂ _∷_ (l .opened-is j ms f (omega arith) n) (around-listed l n (omega arith))
+listed-around-is l whole h = refl
+listed-around-is l (first n) h = listed-around-is l n (omega arith)
+listed-around-is l (second n) h = listed-around-is l n (omega arith)
+listed-around-is l (after n) h = listed-around-is l n (omega arith)
+listed-around-is l (body {k = j} {ms = ms} {f = f} n) h = ap₂ _∷_ (l .opened-is j ms f (omega arith) n) (listed-around-is l n (omega arith))
 
 -- ---- one node more
 
@@ -50,24 +51,24 @@ linked-next {r} {k} {opened′ = opened′} {afters′} l same-opened same-after
 module _ {kinds args opened afters : List ℕ} {k e : ℕ} (r : Rule) (ir : IsRule r kinds args) (l : Linked r k opened afters) where
   pub linked-max : k < length opened → getD kinds k 0 ≡ 6 → IsOpening kinds args opened (k + 1) e → Linked r (k + 1) (set opened k e) afters
   linked-max h q o =
-      linked-next l (λ j d. getD-set-other opened k j e 0 d) (λ j d. refl) is-open
+      linked-next l (λ j d. getD-set-other opened k j e 0 d) (λ j d. refl) max-opened
       (λ p ms f n. absurd (let z : _≡_ {A = ℕ} 6 5 = sym q ∙ kind-at ir n in omega (arith, z)))
     where
-      is-open : OpenedAt r (set opened k e) k
-      is-open ms f n =
+      max-opened : OpenedAt r (set opened k e) k
+      max-opened ms f n =
           let x = o .is r ir (λ j h. l .unopened j (omega arith)) (record { number = k; body = f } ∷ ms) f (rw (add-one k) (body n)) in
-          getD-set-same opened k e 0 h ∙ rw (add-one k, l .unopened k (omega arith), around-listed l n (omega arith)) at x
+          getD-set-same opened k e 0 h ∙ rw (add-one k, l .unopened k (omega arith), listed-around-is l n (omega arith)) at x
 
   pub linked-necessity : k < length afters → getD kinds k 0 ≡ 5 → IsOpening kinds args opened (k + 1) e
       → Linked r (k + 1) opened (set afters k e)
   linked-necessity h q o =
       linked-next l (λ j d. refl) (λ j d. getD-set-other afters k j e 0 d)
-      (λ ms f n. absurd (let z : _≡_ {A = ℕ} 5 6 = sym q ∙ kind-at ir n in omega (arith, z))) is-after
+      (λ ms f n. absurd (let z : _≡_ {A = ℕ} 5 6 = sym q ∙ kind-at ir n in omega (arith, z))) necessity-after
     where
-      is-after : AfterAt r (set afters k e) k
-      is-after p ms f n =
+      necessity-after : AfterAt r (set afters k e) k
+      necessity-after p ms f n =
           let x = o .is r ir (λ j h. l .unopened j (omega arith)) ms f (rw (add-one k) (after n)) in
-          getD-set-same afters k e 0 h ∙ rw (add-one k, around-listed l n (omega arith)) at x
+          getD-set-same afters k e 0 h ∙ rw (add-one k, listed-around-is l n (omega arith)) at x
 
 pub linked-other : {kinds args opened afters : List ℕ} {k : ℕ} (r : Rule) → IsRule r kinds args → Linked r k opened afters
     → (getD kinds k 0 ≡ 6 → ⊥) → (getD kinds k 0 ≡ 5 → ⊥) → Linked r (k + 1) opened afters

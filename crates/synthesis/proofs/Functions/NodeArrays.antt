@@ -1,4 +1,4 @@
--- What the arrays of kinds and arguments say of the nodes of their rule.
+-- What the arrays of kinds and arguments say of the nodes of their rule: they are the lists of a numbered rule, of which `reading` proves it.
 use Prim.Native.Nat.{ℕ, _≤_, _<_}
 use mathlib.Core.Path.{_≡_}
 use mathlib.Core.List.{List, [], map}
@@ -18,14 +18,14 @@ node-below {f = f} n = omega (arith, node-fits n, size-positive f)
 -- ---- the arrays of a known rule
 
 module _ {r : Rule} {ks xs : List ℕ} (ir : IsRule r ks xs) where
-  few : size (r .formula) ≤ 64
-  few = ir .within-limits .few-nodes
+  few-nodes : size (r .formula) ≤ 64
+  few-nodes = ir .within-limits .few-nodes
 
-  pub kinds-long : length ks ≡ 64
-  kinds-long = rw (ir .kinds-are) (padded-long 0 64 (kinds 0 [] (r .formula)) (rw (kinds-size 0 [] (r .formula)) few))
+  pub kinds-length : length ks ≡ 64
+  kinds-length = rw (ir .kinds-are) (padded-long 0 64 (kinds 0 [] (r .formula)) (rw (kinds-size 0 [] (r .formula)) few-nodes))
 
-  pub args-long : length xs ≡ 64
-  args-long = rw (ir .args-are) (padded-long 0 64 (args 0 [] (r .formula)) (rw (args-size 0 [] (r .formula)) few))
+  pub args-length : length xs ≡ 64
+  args-length = rw (ir .args-are) (padded-long 0 64 (args 0 [] (r .formula)) (rw (args-size 0 [] (r .formula)) few-nodes))
 
   module _ {k : ℕ} {ms : List EnclosingMax} {f : Formula} (n : Node (r .formula) k ms f) where
     pub kind-at : getD ks k 0 ≡ kind f
@@ -34,10 +34,10 @@ module _ {r : Rule} {ks xs : List ℕ} (ir : IsRule r ks xs) where
     pub argument-at : getD xs k 0 ≡ argument k (map numberOf ms) f
     argument-at = rw (ir .args-are) (numbers-nodes r .argument-is n)
 
-    pub in-64 : k < 64
-    in-64 = omega (arith, node-below n, few)
+    pub node-below-64 : k < 64
+    node-below-64 = omega (arith, node-below n, few-nodes)
 
     -- what the node is where its kind is known
-    pub resolved : {kd : ℕ} → getD ks k 0 ≡ kd → Resolves (r .formula) k ms kd (getD xs k 0) f
-    resolved q =
+    pub node-resolves : {kd : ℕ} → getD ks k 0 ≡ kd → Resolves (r .formula) k ms kd (getD xs k 0) f
+    node-resolves q =
         rw (← q, ir .kinds-are, ir .args-are) (numbers-nodes r .resolves (length (r .patterns)) (ir .within-limits .well-formed .formula) n)

@@ -1,4 +1,4 @@
--- Opening a node by the arrays of its rule: a row for each kind.
+-- Opening a node by the arrays of its rule: a law for each kind, each from what opening gives for the node's parts.
 use Prim.Native.Nat.{ℕ, _+_, _<_}
 use mathlib.Core.Path.{_≡_, refl, ap}
 use mathlib.Core.Bool.{Bool, true, _&&_, false≢true}
@@ -16,7 +16,7 @@ use Rattle.reading.proofs.Basics.ListLaws.{mapped-at}
 use Rattle.synthesis.specs.Answering.{opening}
 use Rattle.synthesis.specs.Arrays.{IsRule, SomeNode, ZeroFrom, IsOpening, listedAround}
 use Rattle.synthesis.proofs.Unfolding.NodeSetLaws.{shiftedOne, shl-one}
-use Rattle.synthesis.proofs.Functions.NodeArrays.{node-below, kinds-long, args-long, kind-at, argument-at, in-64, resolved}
+use Rattle.synthesis.proofs.Functions.NodeArrays.{node-below, kinds-length, args-length, kind-at, argument-at, node-below-64, node-resolves}
 
 -- ---- where the parts of a node stand
 
@@ -25,42 +25,42 @@ abbrev pub goesOn : ℕ → Bool
 goesOn kd = ltb 3 kd && ltb kd 7
 
 module _ {kinds args : List ℕ} {k : ℕ} (some : SomeNode kinds args k) where
-  node : Numbers (some .rule .formula) k
-  node = node-exists (some .rule .formula) k (some .below)
+  some-node-of : Numbers (some .rule .formula) k
+  some-node-of = node-exists (some .rule .formula) k (some .below)
 
-  pub node-in-64 : k < 64
-  node-in-64 = in-64 (some .is-rule) (node .2)
+  pub some-below-64 : k < 64
+  some-below-64 = node-below-64 (some .is-rule) (some-node-of .2)
 
-  pub kinds-are-64 : length kinds ≡ 64
-  kinds-are-64 = kinds-long (some .is-rule)
+  pub some-kinds-length : length kinds ≡ 64
+  some-kinds-length = kinds-length (some .is-rule)
 
-  pub args-are-64 : length args ≡ 64
-  args-are-64 = args-long (some .is-rule)
+  pub some-args-length : length args ≡ 64
+  some-args-length = args-length (some .is-rule)
 
-  part : {j : ℕ} {ms : List EnclosingMax} {f : Formula} → Node (some .rule .formula) j ms f → SomeNode kinds args j
-  part n = record { rule = some .rule; is-rule = some .is-rule; below = node-below n }
+  some-part : {j : ℕ} {ms : List EnclosingMax} {f : Formula} → Node (some .rule .formula) j ms f → SomeNode kinds args j
+  some-part n = record { rule = some .rule; is-rule = some .is-rule; below = node-below n }
 
   pub some-next : {kd : ℕ} → getD kinds k 0 ≡ kd → goesOn kd ≡ true → SomeNode kinds args (k + 1)
-  some-next q t = on (resolved (some .is-rule) (node .2) q) t
+  some-next q t = on (node-resolves (some .is-rule) (some-node-of .2) q) t
     where
       on : {ms : List EnclosingMax} {f : Formula} {kd x : ℕ} → Resolves (some .rule .formula) k ms kd x f → goesOn kd ≡ true
           → SomeNode kinds args (k + 1)
       on is-truth t = absurd (false≢true t)
       on is-falsity t = absurd (false≢true t)
-      on (is-both a b) t = rw (add-one k) (part a)
-      on (is-necessity a) t = rw (add-one k) (part a)
-      on (is-max a) t = rw (add-one k) (part a)
+      on (is-both a b) t = rw (add-one k) (some-part a)
+      on (is-necessity a) t = rw (add-one k) (some-part a)
+      on (is-max a) t = rw (add-one k) (some-part a)
       on (is-variable e a b) t = absurd (false≢true t)
 
   pub some-second : getD kinds k 0 ≡ 4 → SomeNode kinds args (getD args k 0) × (k < getD args k 0)
-  some-second q = on (node .2) (resolved (some .is-rule) (node .2) q)
+  some-second q = on (some-node-of .2) (node-resolves (some .is-rule) (some-node-of .2) q)
     where
       on : {ms : List EnclosingMax} {f : Formula} → Node (some .rule .formula) k ms f
           → Resolves (some .rule .formula) k ms 4 (getD args k 0) f → SomeNode kinds args (getD args k 0) × (k < getD args k 0)
-      on n (is-both a b) = (part b, omega (arith, argument-at (some .is-rule) n))
+      on n (is-both a b) = (some-part b, omega (arith, argument-at (some .is-rule) n))
 
   pub some-variable : getD kinds k 0 ≡ 7 → getD args k 0 < 64
-  some-variable q = omega (arith, on (resolved (some .is-rule) (node .2) q), node-in-64)
+  some-variable q = omega (arith, on (node-resolves (some .is-rule) (some-node-of .2) q), some-below-64)
     where
       on : {ms : List EnclosingMax} {f : Formula} {x : ℕ} → Resolves (some .rule .formula) k ms 7 x f → x < k
       on (is-variable e a b) = b
@@ -68,51 +68,51 @@ module _ {kinds args : List ℕ} {k : ℕ} (some : SomeNode kinds args k) where
 -- ---- a row for each kind
 
 -- Where node k is of the kind kd, e is what opening it gives.
-abbrev Row : (kinds args opened : List ℕ) → (k kd e : ℕ) → Type 0
-Row kinds args opened k kd e =
+abbrev OpensByKind : (kinds args opened : List ℕ) → (k kd e : ℕ) → Type 0
+OpensByKind kinds args opened k kd e =
     (r : Rule) → IsRule r kinds args → ZeroFrom k opened → (ms : List EnclosingMax) (f : Formula) → Node (r .formula) k ms f
     → (x : ℕ) → getD args k 0 ≡ x → Resolves (r .formula) k ms kd x f → e ≡ opening k (listedAround opened ms) f
 
 module _ {kinds args opened : List ℕ} {k : ℕ} where
-  by-row : {kd e : ℕ} → getD kinds k 0 ≡ kd → Row kinds args opened k kd e → IsOpening kinds args opened k e
-  by-row q row = record { is = λ r ir z ms f n. row r ir z ms f n (getD args k 0) refl (resolved ir n q) }
+  opening-by-kind : {kd e : ℕ} → getD kinds k 0 ≡ kd → OpensByKind kinds args opened k kd e → IsOpening kinds args opened k e
+  opening-by-kind q row = record { is = λ r ir z ms f n. row r ir z ms f n (getD args k 0) refl (node-resolves ir n q) }
 
   pub opening-both : {e₁ e₂ : ℕ} → k < getD args k 0 → getD kinds k 0 ≡ 4 → IsOpening kinds args opened (k + 1) e₁
       → IsOpening kinds args opened (getD args k 0) e₂ → IsOpening kinds args opened k (bitOr e₁ e₂)
-  opening-both {e₁} {e₂} l q a b = by-row q on
+  opening-both {e₁} {e₂} l q a b = opening-by-kind q on
     where
-      on : Row kinds args opened k 4 (bitOr e₁ e₂)
+      on : OpensByKind kinds args opened k 4 (bitOr e₁ e₂)
       on r ir z ms (both f g) n x is (is-both n₁ n₂) =
           let first = a .is r ir (λ j h. z j (omega arith)) ms f (rw (add-one k) n₁) in
           let second = b .is r ir (λ j h. z j (omega arith)) ms g (rw is n₂) in
           rw (first, second, argument-at ir n, add-one k)
 
   pub opening-max : {e : ℕ} → getD kinds k 0 ≡ 6 → IsOpening kinds args opened (k + 1) e → IsOpening kinds args opened k e
-  opening-max {e} q a = by-row q on
+  opening-max {e} q a = opening-by-kind q on
     where
-      on : Row kinds args opened k 6 e
+      on : OpensByKind kinds args opened k 6 e
       on r ir z ms (max f) n x is (is-max n₁) =
           let inner = a .is r ir (λ j h. z j (omega arith)) (record { number = k; body = f } ∷ ms) f (rw (add-one k) n₁) in
           rw (inner, add-one k, z k (omega arith))
 
   pub opening-variable : getD kinds k 0 ≡ 7 → IsOpening kinds args opened k (getD opened (getD args k 0) 0)
-  opening-variable q = by-row q on
+  opening-variable q = opening-by-kind q on
     where
-      on : Row kinds args opened k 7 (getD opened (getD args k 0) 0)
+      on : OpensByKind kinds args opened k 7 (getD opened (getD args k 0) 0)
       on r ir z ms (variable d) n x is (is-variable m n₁ before) =
           let bound = variable-bound (length (r .patterns)) (ir .within-limits .well-formed .formula) n in
           rw (mapped-at (λ (m : EnclosingMax). getD opened (m .number) 0) ms d noMax 0 bound, ap numberOf m, is)
 
   pub opening-falsity : k < 64 → getD kinds k 0 ≡ 3 → IsOpening kinds args opened k (shiftedOne k)
-  opening-falsity h q = by-row q on
+  opening-falsity h q = opening-by-kind q on
     where
-      on : Row kinds args opened k 3 (shiftedOne k)
+      on : OpensByKind kinds args opened k 3 (shiftedOne k)
       on r ir z ms falsity n x is is-falsity = shl-one k h
 
   pub opening-necessity : k < 64 → getD kinds k 0 ≡ 5 → IsOpening kinds args opened k (shiftedOne k)
-  opening-necessity h q = by-row q on
+  opening-necessity h q = opening-by-kind q on
     where
-      on : Row kinds args opened k 5 (shiftedOne k)
+      on : OpensByKind kinds args opened k 5 (shiftedOne k)
       on r ir z ms (necessity p f) n x is (is-necessity n₁) = shl-one k h
 
   pub opening-truth : (getD kinds k 0 ≡ 3 → ⊥) → (getD kinds k 0 ≡ 4 → ⊥) → (getD kinds k 0 ≡ 5 → ⊥) → (getD kinds k 0 ≡ 6 → ⊥)

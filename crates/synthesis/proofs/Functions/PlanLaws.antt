@@ -1,4 +1,4 @@
--- A plan is that of what is made of a rule file: a row for each way out.
+-- A plan is that of the synthesis of a rule file: a law for each way out of the code, by which check refuses.
 use Prim.Native.Nat.{ℕ, _≤_, _<_}
 use mathlib.Core.Path.{_≡_, refl, sym, _∙_, ap}
 use mathlib.Core.Bool.{false, not}
@@ -39,17 +39,17 @@ refused-plan limit s number place q e = rw q (record { answer-is = e; fills = tt
 
 -- ---- a file that couldn't be read
 
-not-read : (limit : ℕ) (s : List ℕ) (o : Outcome Rule) → ruleOf s ≡ o → (number place : ℕ) → readingOf o .answer ≡ Refused number place
+outcome-unread-plan : (limit : ℕ) (s : List ℕ) (o : Outcome Rule) → ruleOf s ≡ o → (number place : ℕ) → readingOf o .answer ≡ Refused number place
     → (p : Plan) → p .answer ≡ refusalOf (readingOf o .answer) → IsPlan (synthesisOf limit s) p
 unfolding synthesisOf
-not-read limit s (accepted r) q number place d p e = let z : _≡_ {A = ℕ} 0 1 = cc in absurd (omega arith)
-not-read limit s (refused number′ place′) q number place d p e = refused-plan limit s number′ place′ (rw q) e
+outcome-unread-plan limit s (accepted r) q number place d p e = let z : _≡_ {A = ℕ} 0 1 = cc in absurd (omega arith)
+outcome-unread-plan limit s (refused number′ place′) q number place d p e = refused-plan limit s number′ place′ (rw q) e
 
 pub unread-plan : (limit : ℕ) (s : List ℕ) (x : Reading) → x ≡ readingOf (ruleOf s) → {number place : ℕ} → x .answer ≡ Refused number place
     → (a : Counted) → a ≡ refusalOf (x .answer) → (p : Plan) → p .answer ≡ a → IsPlan (synthesisOf limit s) p
 unread-plan limit s x q d a e p f =
     let g : x .answer ≡ readingOf (ruleOf s) .answer = ap (λ (y : Reading). y .answer) q in
-    not-read limit s (ruleOf s) refl _ _ (sym g ∙ d) p (f ∙ e ∙ ap refusalOf g)
+    outcome-unread-plan limit s (ruleOf s) refl _ _ (sym g ∙ d) p (f ∙ e ∙ ap refusalOf g)
 
 -- ---- a file that is a rule
 
@@ -59,9 +59,9 @@ pub record Read (s : List ℕ) (n : NumberedRule) : Type 0 where
   pub is : ruleOf s ≡ accepted rule
   pub numbers : IsNumbered rule n
 
-read-as : (s : List ℕ) → Bytes s → (o : Outcome Rule) → ruleOf s ≡ o → (n : NumberedRule) → n ≡ readingOf o .rule
+outcome-read : (s : List ℕ) → Bytes s → (o : Outcome Rule) → ruleOf s ≡ o → (n : NumberedRule) → n ≡ readingOf o .rule
     → readingOf o .answer ≡ Accepted → Read s n
-read-as s b (accepted r) q n e a = record {
+outcome-read s b (accepted r) q n e a = record {
   rule = r;
   is = q;
   numbers = record {
@@ -74,14 +74,14 @@ read-as s b (accepted r) q n e a = record {
     nnodes-is = ap (λ (x : NumberedRule). x .nnodes) e;
   };
 }
-read-as s b (refused number place) q n e a = let z : _≡_ {A = ℕ} 0 1 = cc in absurd (omega arith)
+outcome-read s b (refused number place) q n e a = let z : _≡_ {A = ℕ} 0 1 = cc in absurd (omega arith)
 
-pub read-is : (s : List ℕ) → Bytes s → (x : Reading) → x ≡ readingOf (ruleOf s) → x .answer ≡ Accepted → Read s (x .rule)
-read-is s b x q a =
-    read-as s b (ruleOf s) refl (x .rule) (ap (λ (y : Reading). y .rule) q) (sym (ap (λ (y : Reading). y .answer) q) ∙ a)
+pub reading-read : (s : List ℕ) → Bytes s → (x : Reading) → x ≡ readingOf (ruleOf s) → x .answer ≡ Accepted → Read s (x .rule)
+reading-read s b x q a =
+    outcome-read s b (ruleOf s) refl (x .rule) (ap (λ (y : Reading). y .rule) q) (sym (ap (λ (y : Reading). y .answer) q) ∙ a)
 
-pub read-some : {s : List ℕ} {n : NumberedRule} → Read s n → SomeNumbered n 0
-read-some d = record { rule = d .rule; is-numbered = d .numbers; below = size-positive (d .rule .formula) }
+pub read-some-numbered : {s : List ℕ} {n : NumberedRule} → Read s n → SomeNumbered n 0
+read-some-numbered d = record { rule = d .rule; is-numbered = d .numbers; below = size-positive (d .rule .formula) }
 
 module _ {s : List ℕ} {n : NumberedRule} (d : Read s n) (g : Graph) (is : (r : Rule) → IsNumbered r n → IsGraph r g) where
   graph : IsGraph (d .rule) g
@@ -89,17 +89,17 @@ module _ {s : List ℕ} {n : NumberedRule} (d : Read s n) (g : Graph) (is : (r :
 
   -- ---- refusal 8
 
-  tested : unsatisfiable (d .rule) ≡ not (eqb (intersection (g .first) (g .falsities)) emptySet)
+  unsatisfiable-test : unsatisfiable (d .rule) ≡ not (eqb (intersection (g .first) (g .falsities)) emptySet)
   unfolding unsatisfiable
-  tested = rw (graph .first-is, graph .falsities-are)
+  unsatisfiable-test = rw (graph .first-is, graph .falsities-are)
 
   pub unsatisfiable-plan : (bitAnd (g .first) (g .falsities) ≡ 0 → ⊥) → {p : Plan} → p .answer ≡ counted.Refused 8 0
       → IsPlan (synthesisOf 128 s) p
   unsatisfiable-plan h e =
-      refused-plan 128 s 8 0 (refuses-eight 128 s (d .rule) (d .is) (rw (tested, ne-eqb (intersection (g .first) (g .falsities)) emptySet h))) e
+      refused-plan 128 s 8 0 (refuses-eight 128 s (d .rule) (d .is) (rw (unsatisfiable-test, ne-eqb (intersection (g .first) (g .falsities)) emptySet h))) e
 
-  hopeful : bitAnd (g .first) (g .falsities) ≡ 0 → unsatisfiable (d .rule) ≡ false
-  hopeful h = rw (tested, eq-eqb (intersection (g .first) (g .falsities)) emptySet h)
+  satisfiable-test : bitAnd (g .first) (g .falsities) ≡ 0 → unsatisfiable (d .rule) ≡ false
+  satisfiable-test h = rw (unsatisfiable-test, eq-eqb (intersection (g .first) (g .falsities)) emptySet h)
 
   -- ---- refusal 9
 
@@ -112,22 +112,22 @@ module _ {s : List ℕ} {n : NumberedRule} (d : Read s n) (g : Graph) (is : (r :
         found-cong 256 (answerBy (g .after) (g .enabled) (g .falsities)) (answerOf (d .rule)) (graph-answers g graph) 128 (g .first)
         ∙ ap (found 256 (answerOf (d .rule)) 128) (graph .first-is)
 
-    held : Holds 128 list count (equationsOf 128 (d .rule))
-    held = rw equations-found at holds
+    equations-held : Holds 128 list count (equationsOf 128 (d .rule))
+    equations-held = rw equations-found at holds
 
     pub many-plan : 128 < count → {p : Plan} → p .answer ≡ counted.Refused 9 0 → IsPlan (synthesisOf 128 s) p
     many-plan h e =
         refused-plan 128 s 9 0
-        (refuses-nine 128 s (d .rule) (d .is) (hopeful calm) (held-many 128 list count (equationsOf 128 (d .rule)) held h)) e
+        (refuses-nine 128 s (d .rule) (d .is) (satisfiable-test calm) (held-many 128 list count (equationsOf 128 (d .rule)) equations-held h)) e
 
     -- ---- the count
 
     pub counted-plan : count ≤ 128 → length list ≡ 128
         → IsPlan (synthesisOf 128 s) (record { answer = counted.Equations count; graph = g; found = list })
     counted-plan h k =
-        let es : take count list ≡ equationsOf 128 (d .rule) = held-few 128 list count (equationsOf 128 (d .rule)) held h in
+        let es : take count list ≡ equationsOf 128 (d .rule) = held-few 128 list count (equationsOf 128 (d .rule)) equations-held h in
         let n : count ≡ length (equationsOf 128 (d .rule)) = sym (length-take-le count list (omega (arith, h, k))) ∙ ap length es in
-        rw (accepts-with-equations 128 s (d .rule) (d .is) (hopeful calm) (omega (arith, n, h)))
+        rw (accepts-with-equations 128 s (d .rule) (d .is) (satisfiable-test calm) (omega (arith, n, h)))
         (record {
           answer-is = ap counted.Equations n;
           fills = record { graph-is = graph; found-is = rw (← n) es; few = omega (arith, n, h); found-length = k };

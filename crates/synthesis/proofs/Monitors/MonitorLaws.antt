@@ -1,4 +1,5 @@
--- What a monitor loses, and what follows for any monitor of a rule: it drops exactly what would violate the rule, and keeps no violation.
+-- What a monitor suppresses, and what follows for any monitor of a rule: the run over what was kept, and one code more, suppresses something exactly
+-- where the code is dropped. So it drops exactly what would violate the rule, and keeps no violation.
 use Prim.Native.Nat.{ℕ, _<_}
 use mathlib.Core.Path.{_≡_, refl, ap}
 use mathlib.Core.Logic.{_↔_}
@@ -11,6 +12,8 @@ use Rattle.synthesis.specs.Monitor.{Answer, dropped, next, kept, ended, 
 use Rattle.synthesis.specs.Promises.{DropsViolations, MonitorsDrop}
 use Rattle.synthesis.proofs.Monitors.Runs.{run-induction, kept-all}
 
+-- ---- any monitor
+
 module _ {E : Type 0} (answer : E → ℕ → Answer E) where
   pub suppresses-nothing : {e : E} → Suppresses answer e [] → ⊥
   suppresses-nothing l = elim l [ ]
@@ -19,13 +22,13 @@ module _ {E : Type 0} (answer : E → ℕ → Answer E) where
   suppresses-rest p (now q) = absurd (let z : _≡_ {A = ℕ} 0 1 = cc in omega arith)
   suppresses-rest {e′ = e′} p (later {e′ = x} q l) = let z : e′ ≡ x = cc in rw z l
 
-  -- nothing of what was kept is lost
-  pub kept-suppresses : (e : E) (w : List ℕ) → Suppresses answer e (kept answer e w) → ⊥
-  kept-suppresses =
+  -- the run over what was kept suppresses nothing
+  pub kept-unsuppressed : (e : E) (w : List ℕ) → Suppresses answer e (kept answer e w) → ⊥
+  kept-unsuppressed =
       run-induction answer (λ e w. Suppresses answer e (kept answer e w) → ⊥) (λ e. suppresses-nothing)
       (λ e c w q h. rw q h) (λ e e′ c w q h. rw q (λ l. h (suppresses-rest q l)))
 
-  -- what loses nothing is kept whole
+  -- a list of which nothing is suppressed is kept whole
   pub kept-whole : (e : E) (w : List ℕ) → (Suppresses answer e w → ⊥) → kept answer e w ≡ w
   kept-whole =
       run-induction answer (λ e w. (Suppresses answer e w → ⊥) → kept answer e w ≡ w) (λ e none. refl)
@@ -36,13 +39,13 @@ module _ {E : Type 0} (answer : E → ℕ → Answer E) where
   pub suppresses-last : (e : E) (w : List ℕ) (c : ℕ) → (answer (ended answer e w) c ≡ dropped) ↔ Suppresses answer e (kept answer e w ++ (c ∷ []))
   suppresses-last e w c =
       run-induction answer (λ e w. (answer (ended answer e w) c ≡ dropped) ↔ Suppresses answer e (kept answer e w ++ (c ∷ [])))
-      (λ e. (λ q. now q, last))
+      (λ e. (λ q. now q, single-dropped))
       (λ e d w q h. rw q h)
       (λ e e′ d w q h. rw q (λ z. later q (h .0 z), λ l. h .1 (suppresses-rest q l))) e w
     where
-      last : {e : E} → Suppresses answer e (c ∷ []) → answer e c ≡ dropped
-      last (now q) = q
-      last (later q l) = absurd (suppresses-nothing l)
+      single-dropped : {e : E} → Suppresses answer e (c ∷ []) → answer e c ≡ dropped
+      single-dropped (now q) = q
+      single-dropped (later q l) = absurd (suppresses-nothing l)
 
 -- ---- any monitor of a rule
 
@@ -57,7 +60,7 @@ drops-violations r answer first monitors w c bytes code =
 pub kept-safe : {E : Type 0} (r : Rule) (answer : E → ℕ → Answer E) (first : E) → Monitors r answer first → (w : List ℕ) → Bytes w
     → ViolatesRule r (kept answer first w) → ⊥
 kept-safe r answer first monitors w bytes h =
-    kept-suppresses answer first w (monitors (kept answer first w) (kept-all answer (λ b. b < 256) first w bytes) .0 h)
+    kept-unsuppressed answer first w (monitors (kept answer first w) (kept-all answer (λ b. b < 256) first w bytes) .0 h)
 
 -- lists that don't violate the rule pass whole
 pub safe-kept : {E : Type 0} (r : Rule) (answer : E → ℕ → Answer E) (first : E) → Monitors r answer first → (w : List ℕ) → Bytes w

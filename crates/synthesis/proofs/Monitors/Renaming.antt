@@ -1,4 +1,4 @@
--- A monitor whose equations are those of another under new names. The two lose, keep and end alike.
+-- A monitor whose equations are those of another under new names. The two suppress, keep and end alike, by induction on the run.
 use Prim.Native.Nat.{ℕ, _<_}
 use mathlib.Core.Path.{_≡_, refl, ap}
 use mathlib.Core.Logic.{_↔_}
@@ -7,6 +7,8 @@ use Rattle.reading.specs.Rule.{Rule, All}
 use Rattle.synthesis.specs.Monitor.{Answer, dropped, next, kept, verdicts, ended, Suppresses, now, later, Monitors}
 use Rattle.synthesis.proofs.Monitors.Runs.{run-induction}
 use Rattle.synthesis.proofs.Monitors.MonitorLaws.{suppresses-nothing, suppresses-rest}
+
+-- ---- runs under new names
 
 -- Of one monitor, the equations e with `Ok e` are renamed by f to those of another, and answer each code alike. Several may get one name.
 pub record Renames {E F : Type 0} (codes : ℕ) (Ok : E → Type 0) (answer : E → ℕ → Answer E) (answer′ : F → ℕ → Answer F) (f : E → F)
@@ -52,6 +54,8 @@ module _ {E F : Type 0} (codes : ℕ) (Ok : E → Type 0) (answer : E → ℕ �
         judges = rw (q, q′) (ap (λ (l : List ℕ). 0 ∷ l) (h .judges));
         ends = rw (q, q′) (h .ends);
       })
+
+-- ---- monitors of a rule
 
 -- a monitor of a rule is one under new names too
 pub renamed-monitors : {E F : Type 0} (r : Rule) (Ok : E → Type 0) (answer : E → ℕ → Answer E) (answer′ : F → ℕ → Answer F) (f : E → F)

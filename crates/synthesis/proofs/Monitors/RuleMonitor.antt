@@ -1,4 +1,5 @@
--- The equations of a rule monitor it, unless opening node 0 gives ff: then the empty list violates the rule.
+-- The equations of a rule monitor it, unless opening node 0 gives ff: then the empty list violates the rule. A list violates an equation exactly when
+-- the run from it suppresses something, by induction on the list.
 use Prim.Native.Nat.{ℕ}
 use mathlib.Core.Path.{_≡_, refl, sym, _∙_}
 use mathlib.Core.Logic.{_↔_, _⊎_, inl, inr, ⊎-elim}
@@ -18,29 +19,29 @@ use Rattle.synthesis.proofs.Unfolding.EquationLaws.{tracks-violation}
 use Rattle.synthesis.proofs.Monitors.Runs.{run-induction}
 
 module _ (r : Rule) (wf : WellFormed (length (r .patterns)) [] (r .formula)) where
-  -- ---- hopeless rules
+  -- ---- unsatisfiable rules
 
   unsatisfiable-opens : (unsatisfiable r ≡ true) ↔ OpensToFalsity (r .formula) 0
   unfolding unsatisfiable
   unsatisfiable-opens = on (eqb (intersection (firstOf r) (falsities 0 (r .formula))) emptySet) refl
     where
-      first : (m : ℕ) → Has (firstOf r) m ↔ Opens (r .formula) 0 m
-      first = answers-as-defined r wf .first
+      first-opens : (m : ℕ) → Has (firstOf r) m ↔ Opens (r .formula) 0 m
+      first-opens = answers-as-defined r wf .first
 
       on : (b : Bool) → eqb (intersection (firstOf r) (falsities 0 (r .formula))) emptySet ≡ b → (not b ≡ true) ↔ OpensToFalsity (r .formula) 0
-      on true e = (λ h. absurd (false≢true h), λ (m, o, f). absurd (no-falsity (r .formula) (firstOf r) e m (first m .1 o) f))
-      on false e = let (m, p, f) = some-falsity (r .formula) (firstOf r) e in (λ h. (m, first m .0 p, f), λ o. refl)
+      on true e = (λ h. absurd (false≢true h), λ (m, o, f). absurd (no-falsity (r .formula) (firstOf r) e m (first-opens m .1 o) f))
+      on false e = let (m, p, f) = some-falsity (r .formula) (firstOf r) e in (λ h. (m, first-opens m .0 p, f), λ o. refl)
 
-  start : (w : List ℕ) → ViolatesRule r w ↔ (OpensToFalsity (r .formula) 0 ⊎ ViolatesEquation r (firstOf r) w)
-  start = tracks-violation r wf .start
+  rule-violated-iff : (w : List ℕ) → ViolatesRule r w ↔ (OpensToFalsity (r .formula) 0 ⊎ ViolatesEquation r (firstOf r) w)
+  rule-violated-iff = tracks-violation r wf .start
 
   pub unsatisfiable-iff : (unsatisfiable r ≡ true) ↔ ViolatesRule r []
   unsatisfiable-iff = (
-    λ h. start [] .1 (inl (unsatisfiable-opens .0 h)),
-    λ v. ⊎-elim (unsatisfiable-opens .1) (λ e. absurd (tracks-violation r wf .end (firstOf r) e)) (start [] .0 v),
+    λ h. rule-violated-iff [] .1 (inl (unsatisfiable-opens .0 h)),
+    λ v. ⊎-elim (unsatisfiable-opens .1) (λ e. absurd (tracks-violation r wf .end (firstOf r) e)) (rule-violated-iff [] .0 v),
   )
 
-  -- ---- other rules
+  -- ---- satisfiable rules
 
   violates-suppresses : (e : ℕ) (w : List ℕ) → ViolatesEquation r e w → Suppresses (answerOf r) e w
   violates-suppresses =
@@ -55,6 +56,6 @@ module _ (r : Rule) (wf : WellFormed (length (r .patterns)) [] (r .formula)) whe
 
   pub rule-monitors : unsatisfiable r ≡ false → Monitors r (answerOf r) (firstOf r)
   rule-monitors h w bytes = (
-    λ v. ⊎-elim (λ o. absurd (true≢false (sym (unsatisfiable-opens .1 o) ∙ h))) (violates-suppresses (firstOf r) w) (start w .0 v),
-    λ l. start w .1 (inr (suppresses-violates l)),
+    λ v. ⊎-elim (λ o. absurd (true≢false (sym (unsatisfiable-opens .1 o) ∙ h))) (violates-suppresses (firstOf r) w) (rule-violated-iff w .0 v),
+    λ l. rule-violated-iff w .1 (inr (suppresses-violates l)),
   )

@@ -1,4 +1,5 @@
--- Laws of the runs of a monitor: over one list and then another, and of what is kept.
+-- Laws of the runs of a monitor, all by induction on the list of codes, with a case for a first code that is dropped and one for a first code that is
+-- kept.
 use Prim.Native.Nat.{ℕ, suc}
 use mathlib.Core.Path.{_≡_, refl, _∙_, ap}
 use mathlib.Core.List.{List, [], _∷_, _++_, append-nil}

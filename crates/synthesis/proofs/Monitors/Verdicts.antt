@@ -1,4 +1,5 @@
--- The verdicts of a monitor: each is 0 or 1, and what each of them tells.
+-- The verdicts of a monitor: each is 0 or 1, by induction on the run; and the verdict on a scan is the first one of the run over the scans from it
+-- on.
 use Prim.Native.Nat.{ℕ, suc, _≤_, _<_}
 use mathlib.Core.Path.{_≡_, refl, sym, _∙_, ap}
 use mathlib.Core.Logic.{_↔_, _⊎_, inl, inr}

@@ -1,4 +1,5 @@
--- Laws of the search for equations: what is found is distinct and reached, and is all once there are no more equations than turns.
+-- Laws of the search for equations, by induction on its turns: what is found is distinct and reached, and is all once there are no more equations
+-- than turns.
 use Prim.Native.Nat.{ℕ, zero, suc, _≤_, _<_}
 use mathlib.Core.Path.{_≡_, refl, sym, _∙_, ap}
 use mathlib.Core.Bool.{Bool, true, false, cond}
@@ -20,11 +21,11 @@ use Rattle.synthesis.proofs.Numberings.Indices.{Member, index-is, membe
 abbrev pub Grows : List ℕ → List ℕ → Type 0
 Grows l m = (rest : List ℕ) × (m ≡ l ++ rest)
 
-pub grows-same : (l : List ℕ) → Grows l l
-grows-same l = ([], sym (append-nil l))
+pub grows-refl : (l : List ℕ) → Grows l l
+grows-refl l = ([], sym (append-nil l))
 
-pub grows-on : (l m n : List ℕ) → Grows l m → Grows m n → Grows l n
-grows-on l m n g h = (g .0 ++ h .0, rw (h .1, g .1) (append-assoc l (g .0) (h .0)))
+pub grows-trans : (l m n : List ℕ) → Grows l m → Grows m n → Grows l n
+grows-trans l m n g h = (g .0 ++ h .0, rw (h .1, g .1) (append-assoc l (g .0) (h .0)))
 
 pub grows-member : (l m : List ℕ) (e : ℕ) → Grows l m → Member e l → Member e m
 grows-member l m e g h = rw (g .1) (member-append e l (g .0) h)
@@ -36,7 +37,7 @@ pub grows-length : (l m : List ℕ) → Grows l m → length l ≤ length m
 grows-length l m g = omega (arith, ap length (g .1), length-append l (g .0))
 
 pub insert-grows : (l : List ℕ) (e : ℕ) → Grows l (insert l e)
-insert-grows l e = insert-cases (Grows l) l e (λ h. grows-same l) (λ h. (e ∷ [], refl))
+insert-grows l e = insert-cases (Grows l) l e (λ h. grows-refl l) (λ h. (e ∷ [], refl))
 
 pub insert-member : (l : List ℕ) (e : ℕ) → Member e (insert l e)
 insert-member l e = insert-cases (Member e) l e (λ h. h) (λ h. member-last e l)
@@ -45,18 +46,18 @@ module _ (codes : ℕ) (answer : ℕ → ℕ → Answer ℕ) where
   -- ---- the answers of one equation
 
   -- what every new equation keeps
-  explored-keeps : (P : List ℕ → Type 0) (e n : ℕ) (l : List ℕ)
+  explored-induction : (P : List ℕ → Type 0) (e n : ℕ) (l : List ℕ)
       → ((c e′ : ℕ) (m : List ℕ) → c < n → answer e c ≡ next e′ → P m → P (insert m e′)) → P l → P (explored codes answer e n l)
   unfolding explored
-  explored-keeps P e zero l step p = p
-  explored-keeps P e (suc n) l step p = on (answer e n) refl (explored-keeps P e n l (λ c e′ m h. step c e′ m (omega arith)) p)
+  explored-induction P e zero l step p = p
+  explored-induction P e (suc n) l step p = on (answer e n) refl (explored-induction P e n l (λ c e′ m h. step c e′ m (omega arith)) p)
     where
       on : (a : Answer ℕ) → answer e n ≡ a → P (explored codes answer e n l) → P (explored codes answer e (suc n) l)
       on dropped q h = rw q h
       on (next e′) q h = rw q (step n e′ (explored codes answer e n l) (omega arith) q h)
 
   pub explored-grows : (e n : ℕ) (l : List ℕ) → Grows l (explored codes answer e n l)
-  explored-grows e n l = explored-keeps (Grows l) e n l (λ c e′ m h q g. grows-on l m (insert m e′) g (insert-grows m e′)) (grows-same l)
+  explored-grows e n l = explored-induction (Grows l) e n l (λ c e′ m h q g. grows-trans l m (insert m e′) g (insert-grows m e′)) (grows-refl l)
 
   pub explored-member : (e n c e′ : ℕ) (l : List ℕ) → c < n → answer e c ≡ next e′ → Member e′ (explored codes answer e n l)
   unfolding explored
@@ -91,25 +92,25 @@ module _ (codes : ℕ) (answer : ℕ → ℕ → Answer ℕ) where
   expanded-none k l h = rw (le-ltb k (length l) h)
 
   pub expanded-grows : (k : ℕ) (l : List ℕ) → Grows l (expanded codes answer k l)
-  expanded-grows k l = expanded-cases (Grows l) k l (λ h. explored-grows (getD l k 0) codes l) (λ h. grows-same l)
+  expanded-grows k l = expanded-cases (Grows l) k l (λ h. explored-grows (getD l k 0) codes l) (λ h. grows-refl l)
 
   -- what every new equation keeps is kept to the end
-  found-keeps : (P : List ℕ → Type 0) (first : ℕ) → P (first ∷ [])
+  found-induction : (P : List ℕ → Type 0) (first : ℕ) → P (first ∷ [])
       → ((k c e : ℕ) (l m : List ℕ) → P l → k < length l → c < codes → answer (getD l k 0) c ≡ next e → P m → P (insert m e))
       → (expansions : ℕ) → P (found codes answer expansions first)
   unfolding found
-  found-keeps P first p step zero = p
-  found-keeps P first p step (suc k) =
+  found-induction P first p step zero = p
+  found-induction P first p step (suc k) =
       let l = found codes answer k first in
-      let h = found-keeps P first p step k in
-      expanded-cases P k l (λ in′. explored-keeps P (getD l k 0) codes l (λ c e m. step k c e l m h in′) h) (λ out. h)
+      let h = found-induction P first p step k in
+      expanded-cases P k l (λ in′. explored-induction P (getD l k 0) codes l (λ c e m. step k c e l m h in′) h) (λ out. h)
 
   -- ---- what is found grows at the end
 
   pub found-grows : (expansions first : ℕ) → Grows (first ∷ []) (found codes answer expansions first)
   found-grows k first =
-      found-keeps (Grows (first ∷ [])) first (grows-same (first ∷ []))
-      (λ k c e l m g in′ h q g′. grows-on (first ∷ []) m (insert m e) g′ (insert-grows m e)) k
+      found-induction (Grows (first ∷ [])) first (grows-refl (first ∷ []))
+      (λ k c e l m g in′ h q g′. grows-trans (first ∷ []) m (insert m e) g′ (insert-grows m e)) k
 
   -- the first equation is found first
   pub found-first : (expansions first : ℕ) → (0 < length (found codes answer expansions first)) × (getD (found codes answer expansions first) 0 0 ≡ first)
@@ -121,16 +122,16 @@ module _ (codes : ℕ) (answer : ℕ → ℕ → Answer ℕ) where
 
   pub found-distinct : (expansions first : ℕ) → Distinct (found codes answer expansions first)
   found-distinct k first =
-      found-keeps Distinct first alone (λ k c e l m d in′ h q d′. insert-cases Distinct m e (λ old. d′) (λ new. distinct-last m e new d′)) k
+      found-induction Distinct first single-distinct (λ k c e l m d in′ h q d′. insert-cases Distinct m e (λ old. d′) (λ new. distinct-last m e new d′)) k
     where
-      alone : Distinct (first ∷ [])
-      alone i h = let z : i ≡ 0 = omega arith in rw (z, eq-eqb first first refl)
+      single-distinct : Distinct (first ∷ [])
+      single-distinct i h = let z : i ≡ 0 = omega arith in rw (z, eq-eqb first first refl)
 
   -- what the first equation has, and each passes on
   pub found-all : (P : ℕ → Type 0) (first : ℕ) → P first → ((e c e′ : ℕ) → P e → c < codes → answer e c ≡ next e′ → P e′)
       → (expansions : ℕ) → All P (found codes answer expansions first)
   found-all P first p step k =
-      found-keeps (All P) first (p, tt)
+      found-induction (All P) first (p, tt)
       (λ k c e l m all in′ h q all′. insert-cases (All P) m e (λ old. all′)
       (λ new. all-append P m (e ∷ []) all′ (step (getD l k 0) c e (all-at P l k 0 all in′) h q, tt))) k
 
@@ -180,26 +181,26 @@ module _ (codes : ℕ) (answer : ℕ → ℕ → Answer ℕ) where
   -- ---- each is reached
 
   -- The codes of a word, all kept, lead from the first equation to e.
-  pub record Reachable (first e : ℕ) : Type 0 where
+  pub record ReachedBy (first e : ℕ) : Type 0 where
     pub word : List ℕ
     pub codes-of : All (λ c. c < codes) word
     pub keeps : kept answer first word ≡ word
     pub ends : ended answer first word ≡ e
 
-  reached-next : (first e c e′ : ℕ) → Reachable first e → c < codes → answer e c ≡ next e′ → Reachable first e′
+  reached-next : (first e c e′ : ℕ) → ReachedBy first e → c < codes → answer e c ≡ next e′ → ReachedBy first e′
   reached-next first e c e′ r h q = record {
     word = r .word ++ (c ∷ []);
     codes-of = all-append (λ c. c < codes) (r .word) (c ∷ []) (r .codes-of) (h, tt);
-    keeps = kept-last answer first (r .word) c last ∙ ap (λ (w : List ℕ). w ++ (c ∷ [])) (r .keeps);
-    ends = ended-last answer first (r .word) c last;
+    keeps = kept-last answer first (r .word) c answer-last ∙ ap (λ (w : List ℕ). w ++ (c ∷ [])) (r .keeps);
+    ends = ended-last answer first (r .word) c answer-last;
   }
     where
-      last : answer (ended answer first (r .word)) c ≡ next e′
-      last = rw (r .ends) q
+      answer-last : answer (ended answer first (r .word)) c ≡ next e′
+      answer-last = rw (r .ends) q
 
-  pub found-reached : (expansions first : ℕ) → All (Reachable first) (found codes answer expansions first)
+  pub found-reached : (expansions first : ℕ) → All (ReachedBy first) (found codes answer expansions first)
   found-reached k first =
-      found-all (Reachable first) first (record { word = []; codes-of = tt; keeps = refl; ends = refl }) (reached-next first) k
+      found-all (ReachedBy first) first (record { word = []; codes-of = tt; keeps = refl; ends = refl }) (reached-next first) k
 
 -- ---- answers that agree on the codes find the same
 

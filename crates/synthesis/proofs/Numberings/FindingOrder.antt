@@ -1,4 +1,5 @@
--- The search numbers equations as it finds them.
+-- The search numbers equations as it finds them: when a code leads to a new equation, all that was asked before led to equations that are in the list
+-- already.
 use Prim.Native.Nat.{ℕ, zero, suc, _≤_, _<_}
 use mathlib.Core.Path.{_≡_, refl, _∙_}
 use mathlib.Core.Logic.{inl, inr}
@@ -24,8 +25,8 @@ module _ (codes : ℕ) (answer : ℕ → ℕ → Answer ℕ) where
   -- ---- lists that grow
 
   -- how an equation was found stays as the list grows
-  grows-found : (l m : List ℕ) (i : ℕ) → Grows l m → i < length l → FoundBy codes answer l i → FoundBy codes answer m i
-  grows-found l m i g h f = record {
+  found-by-grows : (l m : List ℕ) (i : ℕ) → Grows l m → i < length l → FoundBy codes answer l i → FoundBy codes answer m i
+  found-by-grows l m i g h f = record {
     equation = f .equation;
     code = f .code;
     earlier = f .earlier;
@@ -44,9 +45,9 @@ module _ (codes : ℕ) (answer : ℕ → ℕ → Answer ℕ) where
   FollowedBefore k n l = (j c e : ℕ) → Before j c k n → c < codes → answer (getD l j 0) c ≡ next e → Member e l
 
   -- a new equation is found by the code that leads to it
-  last-found : (k c e : ℕ) (l : List ℕ) → k < length l → c < codes → answer (getD l k 0) c ≡ next e → FollowedBefore k c l
+  found-by-last : (k c e : ℕ) (l : List ℕ) → k < length l → c < codes → answer (getD l k 0) c ≡ next e → FollowedBefore k c l
       → FoundBy codes answer (l ++ (e ∷ [])) (length l)
-  last-found k c e l h b q followed = record {
+  found-by-last k c e l h b q followed = record {
     equation = k;
     code = c;
     earlier = h;
@@ -75,10 +76,10 @@ module _ (codes : ℕ) (answer : ℕ → ℕ → Answer ℕ) where
       grows = (e ∷ [], refl)
 
       on : (i : ℕ) → 0 < i → i < length m → Dec (i < length l) → FoundBy codes answer m i
-      on i p inside (yes a) = grows-found l m i grows a (f .found i p a)
+      on i p inside (yes a) = found-by-grows l m i grows a (f .found i p a)
       on i p inside (no a) =
           let z : i ≡ length l = omega (arith, length-append l (e ∷ [])) in
-          rw z (last-found k c e l h b q followed)
+          rw z (found-by-last k c e l h b q followed)
 
   -- ---- turns
 

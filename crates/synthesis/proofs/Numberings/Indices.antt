@@ -1,4 +1,4 @@
--- Laws of the index of a number in a list, and of lists whose numbers are distinct.
+-- Laws of the index of a number in a list, and of lists whose numbers are distinct, by induction on the list.
 use Prim.Native.Nat.{ℕ, zero, suc, _≤_, _<_}
 use mathlib.Core.Path.{_≡_, refl, sym, _∙_, ap}
 use mathlib.Core.Bool.{Bool, true, false, cond}
@@ -54,8 +54,8 @@ module _ (e : ℕ) (l : List ℕ) (n : ℕ) (inside : n ≤ length l) where
   pub take-index-le : indexOf e (take n l) ≤ n
   take-index-le = omega (arith, index-le e (take n l), length-take-le n l inside)
 
-  not-before : (i : ℕ) → i ≤ n → AbsentBelow e l i → i ≤ indexOf e (take n l)
-  not-before i h absent = on (decLt (indexOf e (take n l)) i)
+  index-not-before : (i : ℕ) → i ≤ n → AbsentBelow e l i → i ≤ indexOf e (take n l)
+  index-not-before i h absent = on (decLt (indexOf e (take n l)) i)
     where
       on : Dec (indexOf e (take n l) < i) → i ≤ indexOf e (take n l)
       on (yes a) =
@@ -65,11 +65,11 @@ module _ (e : ℕ) (l : List ℕ) (n : ℕ) (inside : n ≤ length l) where
 
   pub take-index : (i : ℕ) → i < n → AbsentBelow e l i → getD l i 0 ≡ e → indexOf e (take n l) ≡ i
   take-index i h absent is =
-      let there : i < length (take n l) = omega (arith, length-take-le n l inside) in
-      omega (arith, not-before i (omega arith) absent, index-first e (take n l) i there (getD-take n l i 0 h ∙ is))
+      let within : i < length (take n l) = omega (arith, length-take-le n l inside) in
+      omega (arith, index-not-before i (omega arith) absent, index-first e (take n l) i within (getD-take n l i 0 h ∙ is))
 
   pub take-absent : AbsentBelow e l n → indexOf e (take n l) ≡ n
-  take-absent absent = omega (arith, not-before n (omega arith) absent, take-index-le)
+  take-absent absent = omega (arith, index-not-before n (omega arith) absent, take-index-le)
 
 -- ---- longer lists
 

@@ -1,4 +1,5 @@
--- There is only one closed list of distinct equations that are numbered as found.
+-- There is only one closed list of distinct equations that are numbered as found: where two such lists agree so far, their next equations are found
+-- by the same code, and so agree too.
 use Prim.Native.Nat.{ℕ, zero, suc, _≤_, _<_}
 use mathlib.Core.Path.{_≡_, sym, _∙_}
 use mathlib.Core.Logic.{inl, inr}
@@ -11,9 +12,11 @@ use Rattle.synthesis.specs.Monitor.{Answer, next}
 use Rattle.synthesis.specs.Answering.{firstOf, answerOf}
 use Rattle.synthesis.specs.Promises.{Before, FoundBy, AsFound, OneNumbering}
 
+-- ---- the next equation of two lists
+
 -- of two codes of equations, of which neither is asked before the other
-unordered : (j c j′ c′ : ℕ) → (Before j c j′ c′ → ⊥) → (Before j′ c′ j c → ⊥) → (j ≡ j′) × (c ≡ c′)
-unordered j c j′ c′ a b =
+not-before-same : (j c j′ c′ : ℕ) → (Before j c j′ c′ → ⊥) → (Before j′ c′ j c → ⊥) → (j ≡ j′) × (c ≡ c′)
+not-before-same j c j′ c′ a b =
     let less : j < j′ → ⊥ = λ h. a (inl h) in
     let more : j′ < j → ⊥ = λ h. b (inl h) in
     let z : j ≡ j′ = omega (arith, less, more) in
@@ -32,9 +35,9 @@ module _ (codes : ℕ) (answer : ℕ → ℕ → Answer ℕ) (first : ℕ) where
   Agree n l m = (i : ℕ) → i < n → getD l i 0 ≡ getD m i 0
 
   -- where the first n are the same, the next of one list isn't found before the next of the other
-  not-before : (n : ℕ) (l m : List ℕ) → Numbering l → n < length l → Agree n l m
+  next-not-before : (n : ℕ) (l m : List ℕ) → Numbering l → n < length l → Agree n l m
       → (f : FoundBy codes answer l n) (g : FoundBy codes answer m n) → Before (f .equation) (f .code) (g .equation) (g .code) → ⊥
-  not-before n l m x h same f g b =
+  next-not-before n l m x h same f g b =
       let k = g .before (f .equation) (f .code) (getD l n 0) b (f .is-code) (rw (← same (f .equation) (f .earlier)) (f .leads)) in
       omega (arith, k .1, x .distinct (k .0) n (omega (arith, k .1)) h (same (k .0) (k .1) ∙ k .2))
 
@@ -46,9 +49,9 @@ module _ (codes : ℕ) (answer : ℕ → ℕ → Answer ℕ) (first : ℕ) where
       where
         on : FoundBy codes answer l (suc n) → FoundBy codes answer m (suc n) → getD l (suc n) 0 ≡ getD m (suc n) 0
         on f g =
-            let f-first = not-before (suc n) l m x h same f g in
-            let g-first = not-before (suc n) m l y h′ (λ i b. sym (same i b)) g f in
-            let (j, c) = unordered (f .equation) (f .code) (g .equation) (g .code) f-first g-first in
+            let f-first = next-not-before (suc n) l m x h same f g in
+            let g-first = next-not-before (suc n) m l y h′ (λ i b. sym (same i b)) g f in
+            let (j, c) = not-before-same (f .equation) (f .code) (g .equation) (g .code) f-first g-first in
             cc (same (f .equation) (f .earlier), f .leads, g .leads)
 
     agree : (n : ℕ) → n ≤ length l → n ≤ length m → Agree n l m
@@ -59,9 +62,11 @@ module _ (codes : ℕ) (answer : ℕ → ℕ → Answer ℕ) (first : ℕ) where
         on (yes a) same = same i a
         on (no a) same = let z : i ≡ n = omega arith in rw z (next-same n h h′ same)
 
+    -- ---- the lists have one length
+
     -- what would stand behind the last of a closed list is in it
-    no-longer : length m ≤ length l
-    no-longer = on (decLt (length l) (length m))
+    length-no-longer : length m ≤ length l
+    length-no-longer = on (decLt (length l) (length m))
       where
         on : Dec (length l < length m) → length m ≤ length l
         on (yes a) =
@@ -73,13 +78,13 @@ module _ (codes : ℕ) (answer : ℕ → ℕ → Answer ℕ) (first : ℕ) where
             absurd (omega (arith, k .1, z))
         on (no a) = omega arith
 
-  same-list : (l m : List ℕ) → Numbering l → Numbering m → l ≡ m
-  same-list l m x y =
-      let long : length l ≡ length m = omega (arith, no-longer l m x y, no-longer m l y x) in
+  numberings-same : (l m : List ℕ) → Numbering l → Numbering m → l ≡ m
+  numberings-same l m x y =
+      let long : length l ≡ length m = omega (arith, length-no-longer l m x y, length-no-longer m l y x) in
       ext-getD 0 l m long (agree l m x y (length l) (omega arith) (omega arith))
 
 pub one-numbering : OneNumbering
 one-numbering r es es′ x y f g =
-    same-list 256 (answerOf r) (firstOf r) es es′
+    numberings-same 256 (answerOf r) (firstOf r) es es′
     (record { distinct = x .distinct; follows = x .closed .follows; as-found = f })
     (record { distinct = y .distinct; follows = y .closed .follows; as-found = g })

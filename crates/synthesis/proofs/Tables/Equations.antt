@@ -1,4 +1,5 @@
--- The equations of a rule: they are distinct, reached and closed, and over the limit exactly where no closed list is within it.
+-- The equations of a rule: they are distinct, reached and closed, as the search makes every list that it finds; and they are over the limit exactly
+-- where no closed list is within it, since a closed list has all that are found.
 use Prim.Native.Nat.{ℕ, _≤_, _<_}
 use mathlib.Core.Path.{_≡_, refl, sym, _∙_, ap, subst}
 use mathlib.Core.Logic.{_⊎_, inl, inr, ⊎-elim}
@@ -18,16 +19,16 @@ use Rattle.synthesis.specs.Opening.{Opens, falsity-itself, necessity-its
 use Rattle.synthesis.specs.Opening.{IsFalsity, Leads, leads, Answers}
 use Rattle.synthesis.specs.Answering.{firstOf, answerOf, unsatisfiable}
 use Rattle.synthesis.specs.Search.{indexOf, found}
-use Rattle.synthesis.specs.Building.{equationsOf, Synthesis, synthesisOf, countedOf}
+use Rattle.synthesis.specs.Building.{equationsOf, Synthesis, withEquations, synthesisOf, countedOf}
 use Rattle.synthesis.specs.Promises.{WellFormedFormula, Counts, AnswersCount, ChecksTable, Closed, RefusesTooMany, Reachable, ReachesEquations}
 use Rattle.synthesis.specs.declared.Counted.the-variants.{Refused}
 use Rattle.synthesis.proofs.Numberings.Indices.{Member, index-is, index-first, member-at, Distinct, distinct-indices, distinct-fits}
-use Rattle.synthesis.proofs.Numberings.Finding.{ClosedUnder, found-closed, found-inside, Reachable as ReachedBy, found-reached, found-all}
+use Rattle.synthesis.proofs.Numberings.Finding.{ClosedUnder, found-closed, found-inside, ReachedBy, found-reached, found-all}
 use Rattle.synthesis.proofs.Numberings.Finding.{found-first, found-distinct}
 use Rattle.synthesis.proofs.Unfolding.AnsweringLaws.{answers-as-defined}
 use Rattle.synthesis.proofs.Unfolding.EquationLaws.{tracks-violation}
 use Rattle.synthesis.proofs.Monitors.RuleMonitor.{unsatisfiable-iff}
-use Rattle.synthesis.proofs.Tables.Synthesized.{withEquations, synthesis-accepts, building-short, building-enough, refused-nine, refuses-eight, refuses-nine}
+use Rattle.synthesis.proofs.Tables.Synthesized.{synthesis-accepts, building-short, building-enough, refused-nine, refuses-eight, refuses-nine}
 use Rattle.synthesis.proofs.Tables.Synthesized.{counted-accepts, counted-refuses, accepts-as}
 
 -- a file that is read is a rule with a well-formed formula
@@ -121,16 +122,16 @@ module _ (limit : ℕ) (r : Rule) where
         else-necessity (leads-to l) (a .0 n l)
 
     first-necessities : unsatisfiable r ≡ false → Necessities (r .formula) (firstOf r)
-    first-necessities hopeful n h =
+    first-necessities satisfiable n h =
         let o = answers-as-defined r wf .first n .0 h in
-        else-necessity (opens-to o) (λ f. true≢false (sym (unsatisfiable-iff r wf .1 (tracks-violation r wf .start [] .1 (inl (n, o, f)))) ∙ hopeful))
+        else-necessity (opens-to o) (λ f. true≢false (sym (unsatisfiable-iff r wf .1 (tracks-violation r wf .start [] .1 (inl (n, o, f)))) ∙ satisfiable))
 
     equations-necessities : unsatisfiable r ≡ false → (i : ℕ) → i < length (equationsOf limit r)
         → Necessities (r .formula) (getD (equationsOf limit r) i 0)
     unfolding equationsOf
-    equations-necessities hopeful i h =
+    equations-necessities satisfiable i h =
         all-at (Necessities (r .formula)) (found 256 (answerOf r) limit (firstOf r)) i 0
-        (found-all 256 (answerOf r) (Necessities (r .formula)) (firstOf r) (first-necessities hopeful)
+        (found-all 256 (answerOf r) (Necessities (r .formula)) (firstOf r) (first-necessities satisfiable)
         (λ e c e′ p b q. next-necessities e c e′ q) limit) h
 
 -- ---- the promises
@@ -139,7 +140,7 @@ pub answers-count : AnswersCount
 answers-count limit s n e =
     let y = counted-accepts (synthesisOf limit s) n e in
     synthesis-accepts limit s (λ z. n ≡ length (z .equations) → Counts limit s n)
-    (λ r read hopeful few q. record {
+    (λ r read satisfiable few q. record {
       rule = r;
       is = read;
       count = q;
@@ -154,9 +155,9 @@ pub reaches-equations : ReachesEquations
 reaches-equations limit s bytes r n read e =
     let y = counted-accepts (synthesisOf limit s) n e in
     synthesis-accepts limit s (λ z. z ≡ withEquations limit r → Reachable r (equationsOf limit r))
-    (λ r′ read′ hopeful few q.
+    (λ r′ read′ satisfiable few q.
     let same : r′ ≡ r = ap (λ (z : Synthesis). z .rule) q in
-    let hope : unsatisfiable r ≡ false = subst (λ x. unsatisfiable x ≡ false) same hopeful in
+    let hope : unsatisfiable r ≡ false = subst (λ x. unsatisfiable x ≡ false) same satisfiable in
     let small : length (equationsOf limit r) ≤ limit = subst (λ x. length (equationsOf limit x) ≤ limit) same few in
     record {
       members = λ i m h. equations-necessities limit r (file-well-formed s bytes r read) hope i h m;
@@ -167,7 +168,7 @@ reaches-equations limit s bytes r n read e =
     (y .0) (y .1) (accepts-as limit s r read (y .0) (y .1))
 
 pub refuses-too-many : RefusesTooMany
-refuses-too-many limit s r read hopeful = (over, none)
+refuses-too-many limit s r read satisfiable = (over, none)
   where
     over : countedOf (synthesisOf limit s) ≡ Refused 9 0 → (es : List ℕ) → length es ≤ limit → Closed r es → ⊥
     over e es few closed =
@@ -177,6 +178,6 @@ refuses-too-many limit s r read hopeful = (over, none)
     none h = on (unsatisfiable r) refl (decLt limit (length (equationsOf limit r)))
       where
         on : (b : Bool) → unsatisfiable r ≡ b → Dec (limit < length (equationsOf limit r)) → countedOf (synthesisOf limit s) ≡ Refused 9 0
-        on true q d = absurd (hopeful (rw (refuses-eight limit s r read q)))
+        on true q d = absurd (satisfiable (rw (refuses-eight limit s r read q)))
         on false q (yes a) = rw (refuses-nine limit s r read q a)
         on false q (no a) = absurd (h (equationsOf limit r) (omega arith) (closed-list limit r (omega arith)))

@@ -1,34 +1,55 @@
--- Laws of the rows of a table: their lengths and entries, and what filling leaves.
-use Prim.Native.Nat.{ℕ, zero, suc, _+_, _*_, _≤_, _<_}
+-- The rows of any table: row k is the 256 bytes from 256 × k on where the table has them all, and else it has no entry.
+use Prim.Native.Nat.{ℕ, suc, _+_, _*_, _≤_, _<_}
 use mathlib.Core.Path.{_≡_, refl, ap, _∙_}
-use mathlib.Core.List.{List, [], _∷_, _++_, append-assoc}
+use mathlib.Core.Logic.{_⊎_, inl, inr, ⊎-elim}
+use mathlib.Core.Bool.{Bool, true, false}
+use mathlib.Core.List.{List, []}
 use native.Mathlib.Nat.{mul-le-mul-left}
-use native.Mathlib.Decide.{decLt}
 use native.Mathlib.Omega.{arith}
-use lib.ListN.{length, getD, take, drop, length-append, length-take, length-drop, List·getD-append}
-use lib.Seq.{take-at, drop-at, getD-at, getD-take, getD-drop}
-use borrow.Author.Tests.{le-leb, lt-leb}
+use lib.Dec.{leb}
+use lib.ListN.{length, getD, take, drop, length-take, length-drop}
+use lib.Seq.{getD-take, getD-drop}
+use borrow.Author.Tests.{leb-true, leb-false, le-leb, lt-leb}
 use Rattle.reading.proofs.Basics.ListLaws.{getD-inside}
-use Rattle.synthesis.specs.Monitor.{Answer, rowOf}
-use Rattle.synthesis.specs.Table.{entryOf, entriesOf, rows, filled}
+use Rattle.synthesis.specs.Monitor.{rowOf}
 use Rattle.synthesis.specs.Promises.{HandsBackRows}
 
--- ---- any table
+-- ---- where a row stands
 
--- row k is wholly inside a table of n rows
-row-inside : (codes k n : ℕ) → k < n → codes * k + codes ≤ codes * n
-row-inside codes k n h = omega (arith, mul-le-mul-left {m = suc k} {n = n} codes h)
+-- row k of n rows ends before they do
+pub row-before-end : (codes k n : ℕ) → k < n → codes * k + codes ≤ codes * n
+row-before-end codes k n h = omega (arith, mul-le-mul-left {m = suc k} {n = n} codes h)
 
-pub row-is : (codes : ℕ) (table : List ℕ) (k : ℕ) → codes * k + codes ≤ length table
-    → rowOf codes table k ≡ take codes (drop (codes * k) table)
-unfolding rowOf
-row-is codes table k h = rw (le-leb (codes * k + codes) (length table) h)
+module _ (codes : ℕ) (table : List ℕ) (k : ℕ) where
+  pub row-is : codes * k + codes ≤ length table → rowOf codes table k ≡ take codes (drop (codes * k) table)
+  unfolding rowOf
+  row-is h = rw (le-leb (codes * k + codes) (length table) h)
 
-pub row-none : (codes : ℕ) (table : List ℕ) (k : ℕ) → length table < codes * k + codes → rowOf codes table k ≡ []
-unfolding rowOf
-row-none codes table k h = rw (lt-leb (codes * k + codes) (length table) h)
+  pub row-length : codes * k + codes ≤ length table → length (rowOf codes table k) ≡ codes
+  row-length h = rw (row-is h) (length-take codes (drop (codes * k) table) ∙ omega (arith, length-drop (codes * k) table))
 
--- a row's entry by its place in the table
+  pub row-none : length table < codes * k + codes → rowOf codes table k ≡ []
+  unfolding rowOf
+  row-none h = rw (lt-leb (codes * k + codes) (length table) h)
+
+  row-whole-or-none : (codes * k + codes ≤ length table) ⊎ (length table < codes * k + codes)
+  row-whole-or-none = on (leb (codes * k + codes) (length table)) refl
+    where
+      on : (b : Bool) → leb (codes * k + codes) (length table) ≡ b → (codes * k + codes ≤ length table) ⊎ (length table < codes * k + codes)
+      on true e = inl (leb-true (codes * k + codes) (length table) e)
+      on false e = inr (leb-false (codes * k + codes) (length table) e)
+
+  -- a row with an entry is whole
+  pub row-inside : (c : ℕ) → c < length (rowOf codes table k) → (codes * k + codes ≤ length table) × (length (rowOf codes table k) ≡ codes)
+  row-inside c h = ⊎-elim (λ inside. (inside, row-length inside)) (λ outside. absurd (omega (arith, ap length (row-none outside)))) row-whole-or-none
+
+  -- one that has fewer entries isn't there
+  pub row-short : length (rowOf codes table k) < codes → length table < codes * k + codes
+  row-short h = ⊎-elim (λ inside. absurd (omega (arith, row-length inside))) (λ outside. outside) row-whole-or-none
+
+-- ---- its entries
+
+-- an entry by its place in the table, whatever stands for a missing one
 pub row-at : (table : List ℕ) (k c d : ℕ) → 256 * k + 256 ≤ length table → c < 256 → getD (rowOf 256 table k) c d ≡ getD table (256 * k + c) 0
 row-at table k c d room b =
     ap (λ (l : List ℕ). getD l c d) (row-is 256 table k room)
@@ -37,109 +58,4 @@ row-at table k c d room b =
     ∙ getD-inside table (256 * k + c) d 0 (omega arith)))
 
 pub hands-back-rows : HandsBackRows
-hands-back-rows table k = record {
-  whole = λ room. rw (row-is 256 table k room) (length-take 256 (drop (256 * k) table) ∙ omega (arith, length-drop (256 * k) table));
-  entriesOf = λ room c b. row-at table k c 0 room b;
-  none = row-none 256 table k;
-}
-
-module _ (mark : ℕ) (answer : ℕ → ℕ → Answer ℕ) (l : List ℕ) where
-  -- ---- entries
-
-  pub entries-length : (e n : ℕ) → length (entriesOf mark answer l e n) ≡ n
-  unfolding entriesOf
-  entries-length e zero = refl
-  entries-length e (suc n) =
-      length-append (entriesOf mark answer l e n) (entryOf mark l (answer e n) ∷ []) ∙ omega (arith, entries-length e n)
-
-  pub entries-at : (e n c d : ℕ) → c < n → getD (entriesOf mark answer l e n) c d ≡ entryOf mark l (answer e c)
-  unfolding entriesOf
-  entries-at e zero c d h = absurd (omega arith)
-  entries-at e (suc n) c d h = on (decLt c n) (entries-at e n c d)
-    where
-      last : List ℕ
-      last = entryOf mark l (answer e n) ∷ []
-
-      on : Dec (c < n) → (c < n → getD (entriesOf mark answer l e n) c d ≡ entryOf mark l (answer e c))
-          → getD (entriesOf mark answer l e n ++ last) c d ≡ entryOf mark l (answer e c)
-      on (yes k) ih = List·getD-append (entriesOf mark answer l e n) last d c (rw (entries-length e n) k) ∙ ih k
-      on (no k) ih =
-          let z : c ≡ n = omega arith in
-          rw z (getD-at (entriesOf mark answer l e n) (entryOf mark l (answer e n)) [] d n (entries-length e n))
-
-  -- ---- rows
-
-  module _ (codes : ℕ) where
-    pub rows-length : (n : ℕ) → length (rows mark answer l codes n) ≡ codes * n
-    unfolding rows
-    rows-length zero = omega arith
-    rows-length (suc n) =
-        length-append (rows mark answer l codes n) (entriesOf mark answer l (getD l n 0) codes)
-        ∙ omega (arith, rows-length n, entries-length (getD l n 0) codes)
-
-    -- row k of a table is that of equation k
-    abbrev HasRow : ℕ → List ℕ → Type 0
-    HasRow k table = take codes (drop (codes * k) table) ≡ entriesOf mark answer l (getD l k 0) codes
-
-    rows-row : (n k : ℕ) (rest : List ℕ) → k < n → HasRow k (rows mark answer l codes n ++ rest)
-    unfolding rows
-    rows-row zero k rest h = absurd (omega arith)
-    rows-row (suc n) k rest h = rw append-assoc (on (decLt k n) (rows-row n k (entriesOf mark answer l (getD l n 0) codes ++ rest)))
-      where
-        before : List ℕ
-        before = rows mark answer l codes n
-
-        last : List ℕ
-        last = entriesOf mark answer l (getD l n 0) codes
-
-        on : Dec (k < n) → (k < n → HasRow k (before ++ (last ++ rest))) → HasRow k (before ++ (last ++ rest))
-        on (yes a) ih = ih a
-        on (no a) ih =
-            let z : k ≡ n = omega arith in
-            rw (z, drop-at before (last ++ rest) (codes * n) (rows-length n)) (take-at last rest codes (entries-length (getD l n 0) codes))
-
-    -- ---- the filled table
-
-    module _ (table : List ℕ) (room : codes * length l ≤ length table) where
-      pub filled-length : length (filled mark answer l codes table) ≡ length table
-      unfolding filled
-      filled-length =
-          length-append (rows mark answer l codes (length l)) (drop (codes * length l) table)
-          ∙ omega (arith, rows-length (length l), length-drop (codes * length l) table)
-
-      pub filled-row : (k : ℕ) → k < length l
-          → rowOf codes (filled mark answer l codes table) k ≡ entriesOf mark answer l (getD l k 0) codes
-      unfolding filled
-      filled-row k h =
-          row-is codes (filled mark answer l codes table) k (omega (arith, row-inside codes k (length l) h, filled-length))
-          ∙ rows-row (length l) k (drop (codes * length l) table) h
-
-      -- an entry of a row, whatever stands for a missing one
-      pub filled-entry : (k c d : ℕ) → k < length l → c < codes
-          → getD (rowOf codes (filled mark answer l codes table) k) c d ≡ entryOf mark l (answer (getD l k 0) c)
-      filled-entry k c d h b = rw (filled-row k h) (entries-at (getD l k 0) codes c d b)
-
-    -- what stands after the last row stays
-    pub filled-rest : (table : List ℕ) → drop (codes * length l) (filled mark answer l codes table) ≡ drop (codes * length l) table
-    unfolding filled
-    filled-rest table =
-        let n = length l in
-        drop-at (rows mark answer l codes n) (drop (codes * n) table) (codes * n) (rows-length n)
-
--- ---- answers that agree on the codes fill alike
-
-module _ (mark codes : ℕ) (answer answer′ : ℕ → ℕ → Answer ℕ) (agree : (e c : ℕ) → c < codes → answer e c ≡ answer′ e c)
-    (l : List ℕ) where
-  entries-cong : (e n : ℕ) → n ≤ codes → entriesOf mark answer l e n ≡ entriesOf mark answer′ l e n
-  unfolding entriesOf
-  entries-cong e zero h = refl
-  entries-cong e (suc n) h = rw (agree e n h, entries-cong e n (omega arith))
-
-  rows-cong : (n : ℕ) → rows mark answer l codes n ≡ rows mark answer′ l codes n
-  unfolding rows
-  rows-cong zero = refl
-  rows-cong (suc n) = rw (rows-cong n, entries-cong (getD l n 0) codes (omega arith))
-
-  pub filled-cong : (table : List ℕ) → filled mark answer l codes table ≡ filled mark answer′ l codes table
-  unfolding filled
-  filled-cong table = rw (rows-cong (length l))
+hands-back-rows table k = record { whole = row-length 256 table k; entries = λ room c b. row-at table k c 0 room b; none = row-none 256 table k }

@@ -1,4 +1,5 @@
--- What building and synthesis accept and refuse, step by step.
+-- What counting and building accept and refuse. Both are checks one after the other, so an acceptance has passed each, and a refusal is that of the
+-- first that fails.
 use Prim.Native.Nat.{ℕ, _*_, _≤_, _<_}
 use mathlib.Core.Path.{_≡_, refl, sym, _∙_, ap, subst}
 use mathlib.Core.Bool.{Bool, true, false}
@@ -11,12 +12,8 @@ use Rattle.reading.specs.Rule.{Rule}
 use Rattle.reading.specs.File.{Outcome, accepted, refused, refuse, ruleOf}
 use Rattle.reading.proofs.Basics.Outcomes.{accepted-is, refuse-accepted, andThen-accepted}
 use Rattle.synthesis.specs.Answering.{unsatisfiable}
-use Rattle.synthesis.specs.Building.{equationsOf, Synthesis, synthesisOfRule, synthesisOf, buildingOf, countedOf}
+use Rattle.synthesis.specs.Building.{equationsOf, Synthesis, withEquations, synthesisOfRule, synthesisOf, buildingOf, countedOf}
 use Rattle.synthesis.specs.declared.Counted.the-variants.{Equations, Refused}
-
--- the synthesis of a rule that is accepted
-abbrev pub withEquations : (limit : ℕ) → Rule → Synthesis
-withEquations limit r = record { rule = r; equations = equationsOf limit r }
 
 -- What holds of the synthesis of each rule that no check refuses, holds of what is accepted.
 pub synthesis-accepts : (limit : ℕ) (s : List ℕ) (P : Synthesis → Type 0)

@@ -1,4 +1,5 @@
--- The filled table of a closed list of equations answers as they do: it is their monitor, each equation renamed to its index.
+-- The filled table of a closed list of equations answers as they do: each entry is the index of the equation that its row's equation answers, so the
+-- table is their monitor, each equation renamed to its index.
 use Prim.Native.Nat.{ℕ, _*_, _≤_, _<_}
 use mathlib.Core.Path.{_≡_, refl, _∙_, ap}
 use mathlib.Core.Logic.{_⊎_, inl, inr}
@@ -12,10 +13,12 @@ use Rattle.synthesis.specs.Search.{indexOf}
 use Rattle.synthesis.specs.Table.{entryOf, filled}
 use Rattle.synthesis.proofs.Numberings.Indices.{Member, index-is}
 use Rattle.synthesis.proofs.Numberings.Finding.{ClosedUnder}
-use Rattle.synthesis.proofs.Tables.Rows.{filled-entry}
+use Rattle.synthesis.proofs.Tables.FilledTables.{filled-entry}
 
 module _ (codes mark : ℕ) (answer : ℕ → ℕ → Answer ℕ) (l : List ℕ) (closed : ClosedUnder codes answer l) (table : List ℕ)
     (room : codes * length l ≤ length table) where
+  -- ---- a table that renames its equations
+
   -- what the table answers in the row of an equation
   entry-of : (e c : ℕ) → Member e l → c < codes
       → lookup codes mark (filled mark answer l codes table) (indexOf e l) c ≡ meaning mark (entryOf mark l (answer e c))
@@ -37,6 +40,8 @@ module _ (codes mark : ℕ) (answer : ℕ → ℕ → Answer ℕ) (l : List ℕ)
       follows e e′ c m h q =
           let m′ = stays e e′ c m h q in
           entry-of e c m h ∙ rw (q, ne-eqb (indexOf e′ l) mark (λ z. omega arith))
+
+  -- ---- its entries
 
   -- an entry is the mark, or the index of an equation
   pub table-range : (k c : ℕ) → k < length l → c < codes

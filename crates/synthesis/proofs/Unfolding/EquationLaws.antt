@@ -1,4 +1,5 @@
--- A code takes an equation to the next, and the lists that violate the one to the lists that violate the other.
+-- A code takes an equation to the next, and the lists that violate the one to the lists that violate the other: both go by the nodes that the members
+-- lead to.
 use Prim.Native.Nat.{ℕ}
 use mathlib.Core.Logic.{_↔_, _⊎_, inl, inr}
 use mathlib.Core.Bool.{Bool}
@@ -18,11 +19,13 @@ use Rattle.synthesis.proofs.Unfolding.ViolationLaws.{ViolatesNode, viol
 abbrev covered : Rule → ℕ → ℕ → Bool
 covered r = coveredBy (r .patterns)
 
+-- ---- nodes that members lead to
+
 -- A list violates a node of an equation: the node is ff, or the list violates the equation.
-at-end : {A : Type 0} {m : ℕ} {w : List ℕ} (r : Rule) (e : ℕ) → Has e m → (IsFalsity (r .formula) m → A) → (ViolatesEquation r e w → A)
+ends-cases : {A : Type 0} {m : ℕ} {w : List ℕ} (r : Rule) (e : ℕ) → Has e m → (IsFalsity (r .formula) m → A) → (ViolatesEquation r e w → A)
     → Ends (covered r) (r .formula) m w → A
-at-end r e h ff other (at-falsity f) = ff f
-at-end {m = m} r e h ff other (at-necessity {p} {ms} {f} n v) = other (m, p, ms, f, h, n, v)
+ends-cases r e h ff other (at-falsity f) = ff f
+ends-cases {m = m} r e h ff other (at-necessity {p} {ms} {f} n v) = other (m, p, ms, f, h, n, v)
 
 -- Under c, a member of e leads to a node that a list violates.
 lead-violates : {e c m : ℕ} {w : List ℕ} (r : Rule) → Leads r e c m → ViolatesNode (covered r) (r .formula) m w
@@ -36,41 +39,43 @@ module _ (r : Rule) (wf : WellFormed (length (r .patterns)) [] (r .formula)) whe
       let o = violates-opens (covered r) (r .formula) (length (r .patterns)) wf (after node) v in
       (o .0, leads member node h (o .1), o .2)
 
-  step : (e c : ℕ) (w : List ℕ) (a : Answer ℕ) → Answers r e c a → ViolatesEquation r e (c ∷ w) ↔ ViolatesNext r a w
-  step e c w dropped (m, l, f) = (λ v. tt, λ v. lead-violates r l (violates-node (covered r) (r .formula) (f .1) by-falsity))
-  step e c w (next e′) (clean, members) = (to, from)
+  -- ---- the answer to a code, and the first equation
+
+  answers-track : (e c : ℕ) (w : List ℕ) (a : Answer ℕ) → Answers r e c a → ViolatesEquation r e (c ∷ w) ↔ ViolatesNext r a w
+  answers-track e c w dropped (m, l, f) = (λ v. tt, λ v. lead-violates r l (violates-node (covered r) (r .formula) (f .1) by-falsity))
+  answers-track e c w (next e′) (clean, members) = (violated-next, next-violated)
     where
-      to : ViolatesEquation r e (c ∷ w) → ViolatesEquation r e′ w
-      to v =
+      violated-next : ViolatesEquation r e (c ∷ w) → ViolatesEquation r e′ w
+      violated-next v =
           let l = violates-lead v in
-          at-end r e′ (members (l .0) .1 (l .1)) (λ f. absurd (clean (l .0) (l .1) f)) (λ v. v) (l .2)
+          ends-cases r e′ (members (l .0) .1 (l .1)) (λ f. absurd (clean (l .0) (l .1) f)) (λ v. v) (l .2)
 
-      from : ViolatesEquation r e′ w → ViolatesEquation r e (c ∷ w)
-      from (n, p, ms, f, member, node, v) = lead-violates r (members n .0 member) (violates-node (covered r) (r .formula) node v)
+      next-violated : ViolatesEquation r e′ w → ViolatesEquation r e (c ∷ w)
+      next-violated (n, p, ms, f, member, node, v) = lead-violates r (members n .0 member) (violates-node (covered r) (r .formula) node v)
 
-  end : (e : ℕ) → ViolatesEquation r e [] → ⊥
-  end e (n, p, ms, f, member, node, v) = elim v [ ]
+  empty-list-violates-none : (e : ℕ) → ViolatesEquation r e [] → ⊥
+  empty-list-violates-none e (n, p, ms, f, member, node, v) = elim v [ ]
 
-  start : (w : List ℕ) → ViolatesRule r w ↔ (OpensToFalsity (r .formula) 0 ⊎ ViolatesEquation r (firstOf r) w)
-  start w = (to, from)
+  rule-violated-iff : (w : List ℕ) → ViolatesRule r w ↔ (OpensToFalsity (r .formula) 0 ⊎ ViolatesEquation r (firstOf r) w)
+  rule-violated-iff w = (rule-violated-opens, opens-rule-violated)
     where
-      to : ViolatesRule r w → OpensToFalsity (r .formula) 0 ⊎ ViolatesEquation r (firstOf r) w
-      to v =
+      rule-violated-opens : ViolatesRule r w → OpensToFalsity (r .formula) 0 ⊎ ViolatesEquation r (firstOf r) w
+      rule-violated-opens v =
           let o = violates-opens (covered r) (r .formula) (length (r .patterns)) wf whole v in
-          at-end r (firstOf r) (answers-as-defined r wf .first (o .0) .1 (o .1)) (λ f. inl (o .0, o .1, f)) (λ v. inr v) (o .2)
+          ends-cases r (firstOf r) (answers-as-defined r wf .first (o .0) .1 (o .1)) (λ f. inl (o .0, o .1, f)) (λ v. inr v) (o .2)
 
-      from : OpensToFalsity (r .formula) 0 ⊎ ViolatesEquation r (firstOf r) w → ViolatesRule r w
-      from (inl (m, o, f)) = opens-violates (covered r) (r .formula) o (violates-node (covered r) (r .formula) (f .1) by-falsity) _ _ whole
-      from (inr (n, p, ms, f, member, node, v)) =
+      opens-rule-violated : OpensToFalsity (r .formula) 0 ⊎ ViolatesEquation r (firstOf r) w → ViolatesRule r w
+      opens-rule-violated (inl (m, o, f)) = opens-violates (covered r) (r .formula) o (violates-node (covered r) (r .formula) (f .1) by-falsity) _ _ whole
+      opens-rule-violated (inr (n, p, ms, f, member, node, v)) =
           let o = answers-as-defined r wf .first n .0 member in
           opens-violates (covered r) (r .formula) o (violates-node (covered r) (r .formula) node v) _ _ whole
 
-  follows : Tracks r
-  follows = record {
-    step = λ e c w. step e c w (answerOf r e c) (answers-as-defined r wf .answers e c);
-    end = end;
-    start = start;
+  rule-tracked : Tracks r
+  rule-tracked = record {
+    step = λ e c w. answers-track e c w (answerOf r e c) (answers-as-defined r wf .answers e c);
+    end = empty-list-violates-none;
+    start = rule-violated-iff;
   }
 
 pub tracks-violation : TracksViolation
-tracks-violation = follows
+tracks-violation = rule-tracked

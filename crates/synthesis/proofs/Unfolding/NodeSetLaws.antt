@@ -1,4 +1,4 @@
--- Laws of sets of nodes. Nothing but these looks at their bits.
+-- Laws of sets of nodes, from laws of the bits of numbers. Nothing but these looks at the bits.
 use Prim.Native.Nat.{ℕ, zero, suc, _+_, _-_, _*_, _/_, _%_, _^_, _≤_, _<_, min, max}
 use mathlib.Core.Path.{_≡_, refl, sym, _∙_, ap}
 use mathlib.Core.Logic.{_↔_, _⊎_, inl, inr}
@@ -70,20 +70,20 @@ has-common a b n =
     least : (x y : ℕ) → min x y ≡ 1 → x < 2 → y < 2 → (x ≡ 1) × (y ≡ 1)
     least x y e h k = (omega arith, omega arith)
 
-pub has-single : (k : ℕ) → Has (singleton k) k
+pub has-singleton : (k : ℕ) → Has (singleton k) k
 unfolding bit
-has-single k = rw (div-self {n = 2 ^ k} (one-le-pow k 2 (omega arith)))
+has-singleton k = rw (div-self {n = 2 ^ k} (one-le-pow k 2 (omega arith)))
 
-pub single-has : (k n : ℕ) → Has (singleton k) n → k ≡ n
+pub singleton-has : (k n : ℕ) → Has (singleton k) n → k ≡ n
 unfolding bit
-single-has zero zero h = refl
-single-has zero (suc n) h = absurd (no-bit (1 / 2 ^ suc n) (div-eq-of-lt (pow-lt {i = 0} {j = suc n} (omega arith))) h)
-single-has (suc k) zero h = absurd (even (2 ^ k) (rw (pow-suc 2 k, div-one (2 ^ k * 2)) at h))
+singleton-has zero zero h = refl
+singleton-has zero (suc n) h = absurd (no-bit (1 / 2 ^ suc n) (div-eq-of-lt (pow-lt {i = 0} {j = suc n} (omega arith))) h)
+singleton-has (suc k) zero h = absurd (even (2 ^ k) (rw (pow-suc 2 k, div-one (2 ^ k * 2)) at h))
   where
     even : (x : ℕ) → x * 2 % 2 ≡ 1 → ⊥
     even x h = omega arith
-single-has (suc k) (suc n) h =
-    ap suc (single-has k n (rw (pow-suc 2 k, pow-suc 2 n, mul-div-mul-right {m = 2} (2 ^ k) (2 ^ n) (omega arith)) at h))
+singleton-has (suc k) (suc n) h =
+    ap suc (singleton-has k n (rw (pow-suc 2 k, pow-suc 2 n, mul-div-mul-right {m = 2} (2 ^ k) (2 ^ n) (omega arith)) at h))
 
 -- the lowest node taken out, and every other moved down by one
 pub half-has : (e n : ℕ) → Has (e / 2) n ↔ Has e (suc n)
@@ -106,28 +106,28 @@ true-has e n h = eq-eqb (bit n e) 1 h
 
 -- ---- two sets with the same members are one
 
-low : (x y : ℕ) → x < 2 → y < 2 → (x ≡ 1) ↔ (y ≡ 1) → x ≡ y
-low zero zero p q h = refl
-low zero (suc y) p q h = omega (arith, h .1 (omega arith))
-low (suc x) y p q h = omega (arith, h .0 (omega arith))
+digits-same : (x y : ℕ) → x < 2 → y < 2 → (x ≡ 1) ↔ (y ≡ 1) → x ≡ y
+digits-same zero zero p q h = refl
+digits-same zero (suc y) p q h = omega (arith, h .1 (omega arith))
+digits-same (suc x) y p q h = omega (arith, h .0 (omega arith))
 
-ext : (k a b : ℕ) → a ≤ k → b ≤ k → ((n : ℕ) → Has a n ↔ Has b n) → a ≡ b
-ext zero a b p q h = omega arith
-ext (suc k) a b p q h =
-    let high : a / 2 ≡ b / 2 = ext k (a / 2) (b / 2) (omega arith) (omega arith) (λ n. rw (← bit-suc n a, ← bit-suc n b) (h (suc n))) in
-    let l : a % 2 ≡ b % 2 = low (a % 2) (b % 2) (omega arith) (omega arith) (rw (bit-zero a, bit-zero b) at (h 0)) in
+has-ext-below : (k a b : ℕ) → a ≤ k → b ≤ k → ((n : ℕ) → Has a n ↔ Has b n) → a ≡ b
+has-ext-below zero a b p q h = omega arith
+has-ext-below (suc k) a b p q h =
+    let high : a / 2 ≡ b / 2 = has-ext-below k (a / 2) (b / 2) (omega arith) (omega arith) (λ n. rw (← bit-suc n a, ← bit-suc n b) (h (suc n))) in
+    let l : a % 2 ≡ b % 2 = digits-same (a % 2) (b % 2) (omega arith) (omega arith) (rw (bit-zero a, bit-zero b) at (h 0)) in
     omega arith
 
 pub has-ext : SameMembersSameSet
-has-ext a b h = ext (a + b) a b (omega arith) (omega arith) h
+has-ext a b h = has-ext-below (a + b) a b (omega arith) (omega arith) h
 
 -- a set without members is none
-pub none-of : (e : ℕ) → ((n : ℕ) → Has e n → ⊥) → e ≡ emptySet
-none-of e h = has-ext e emptySet (λ n. (λ x. absurd (h n x), λ x. absurd (has-none n x)))
+pub no-member-empty : (e : ℕ) → ((n : ℕ) → Has e n → ⊥) → e ≡ emptySet
+no-member-empty e h = has-ext e emptySet (λ n. (λ x. absurd (h n x), λ x. absurd (has-none n x)))
 
 -- a set that isn't none has a member
-pub some-of : (e : ℕ) → 0 < e → (n : ℕ) × Has e n
-some-of e h = below e e (omega arith) h
+pub nonempty-member : (e : ℕ) → 0 < e → (n : ℕ) × Has e n
+nonempty-member e h = below e e (omega arith) h
   where
     below : (k e : ℕ) → e ≤ k → 0 < e → (n : ℕ) × Has e n
     below zero e p h = absurd (omega arith)
@@ -160,10 +160,10 @@ differ-none x (suc (suc y)) h n = absurd (omega arith)
 
 -- the other members stay
 pub toggled-other : (e k n : ℕ) → (k ≡ n → ⊥) → Has (toggled e k) n ↔ Has e n
-toggled-other e k n d = (λ h. sym stays ∙ h, λ h. stays ∙ h)
+toggled-other e k n d = (λ h. sym bit-same ∙ h, λ h. bit-same ∙ h)
   where
-    stays : bit n (toggled e k) ≡ bit n e
-    stays = bit-toggled e k n ∙ differ-none (bit n e) (bit n (singleton k)) (bit-small n (singleton k)) (λ h. d (single-has k n h))
+    bit-same : bit n (toggled e k) ≡ bit n e
+    bit-same = bit-toggled e k n ∙ differ-none (bit n e) (bit n (singleton k)) (bit-small n (singleton k)) (λ h. d (singleton-has k n h))
 
 pub toggled-lt : (e k : ℕ) → Has e k → toggled e k < e
 toggled-lt e k h =
@@ -174,7 +174,7 @@ toggled-lt e k h =
 
     inside : intersection e (singleton k) ≡ singleton k
     inside = has-ext (intersection e (singleton k)) (singleton k) (λ n.
-        (λ x. has-common e (singleton k) n .0 x .1, λ x. has-common e (singleton k) n .1 (member n (single-has k n x), x)))
+        (λ x. has-common e (singleton k) n .0 x .1, λ x. has-common e (singleton k) n .1 (member n (singleton-has k n x), x)))
 
     less : (x c e s : ℕ) → c ≡ s → x + c * 2 ≡ e + s → 0 < s → x < e
     less x c e s p q r = omega arith
@@ -196,10 +196,10 @@ even-double : (x y : ℕ) → y ≡ x * 2 → y % 2 ≡ 0
 even-double x y h = omega arith
 
 -- the intersection of a number with the one before it has all its members but the lowest
-pub lowest-out : (k e : ℕ) → 0 < e → e < 2 ^ k → intersection e (e - 1) ≡ toggled e (trailingZeros k e)
+pub without-lowest : (k e : ℕ) → 0 < e → e < 2 ^ k → intersection e (e - 1) ≡ toggled e (trailingZeros k e)
 unfolding trailingZeros
-lowest-out zero e p h = absurd (omega arith)
-lowest-out (suc k) e p h = on (e % 2) refl (lowest-out k (e / 2))
+without-lowest zero e p h = absurd (omega arith)
+without-lowest (suc k) e p h = on (e % 2) refl (without-lowest k (e / 2))
   where
     half : e / 2 < 2 ^ k
     half = div-lt-iff-lt-mul (zero-lt-suc 1) .1 (rw pow-suc at h)

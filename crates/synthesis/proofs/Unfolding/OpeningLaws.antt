@@ -1,4 +1,5 @@
--- What is computed as opening a node is what opening it gives.
+-- What is computed as opening a node is what opening it gives, by induction on the formula. A variable comes only below a necessity, so by then what
+-- its max opens to is known.
 use Prim.Native.Nat.{ℕ, zero, suc, _+_, _<_}
 use mathlib.Core.Path.{_≡_, refl}
 use mathlib.Core.Logic.{_↔_, _⊎_, inl, inr}
@@ -15,7 +16,7 @@ use Rattle.synthesis.specs.Opening.{Opens, falsity-itself, necessity-its
 use Rattle.synthesis.specs.Answering.{opening, opensAround}
 use Rattle.synthesis.specs.Promises.{OpensAsDefined}
 use Rattle.synthesis.proofs.Unfolding.NodeSetLaws.{has-none}
-use Rattle.synthesis.proofs.Unfolding.MemberLaws.{single-iff, union-iff}
+use Rattle.synthesis.proofs.Unfolding.MemberLaws.{has-singleton-iff, union-iff}
 
 -- A number has one formula and one list of maxes.
 pub same-node : (P : List EnclosingMax → Formula → Type 0) {root : Formula} {k : ℕ} {ms ms′ : List EnclosingMax} {f f′ : Formula}
@@ -52,9 +53,9 @@ module _ (root : Formula) where
   by-opens m (variable d) n h = body-of-variable n (h .0) (h .1)
 
   -- what says so by the formula says so
-  by-formula : {A : Type 0} {k : ℕ} {ms : List EnclosingMax} (m : ℕ) (f : Formula) → Node root k ms f → A ↔ OpensBy k m ms f
+  opens-by-iff : {A : Type 0} {k : ℕ} {ms : List EnclosingMax} (m : ℕ) (f : Formula) → Node root k ms f → A ↔ OpensBy k m ms f
       → A ↔ Opens root k m
-  by-formula m f n h = (λ a. by-opens m f n (h .0 a), λ o. h .1 (opens-by n o))
+  opens-by-iff m f n h = (λ a. by-opens m f n (h .0 a), λ o. h .1 (opens-by n o))
 
 -- ---- opening, computed
 
@@ -74,20 +75,20 @@ known-inside {root} {g} {ms} {around} x known = record { at = at }
     at (suc d) b e m = known .at d (omega arith) e m
 
 module _ (patterns : ℕ) (root : Formula) (wf : WellFormed patterns [] root) where
-  opened : {g : Guards} {k : ℕ} {ms : List EnclosingMax} {around : List ℕ} (f : Formula) → WellFormed patterns g f → Node root k ms f
+  opening-opens : {g : Guards} {k : ℕ} {ms : List EnclosingMax} {around : List ℕ} (f : Formula) → WellFormed patterns g f → Node root k ms f
       → Known root g ms around → (m : ℕ) → Has (opening k around f) m ↔ Opens root k m
-  opened truth w n known m = by-formula root m truth n (has-none m, λ h. absurd h)
-  opened {k = k} falsity w n known m = by-formula root m falsity n (single-iff k m)
-  opened {k = k} {around = around} (both f g) w n known m =
+  opening-opens truth w n known m = opens-by-iff root m truth n (has-none m, λ h. absurd h)
+  opening-opens {k = k} falsity w n known m = opens-by-iff root m falsity n (has-singleton-iff k m)
+  opening-opens {k = k} {around = around} (both f g) w n known m =
       let one : ℕ = opening (suc k) around f in
       let other : ℕ = opening (k + suc (size f)) around g in
-      by-formula root m (both f g) n (union-iff one other m (opened f (w .0) (first n) known m) (opened g (w .1) (second n) known m))
-  opened {k = k} (necessity p f) w n known m = by-formula root m (necessity p f) n (single-iff k m)
-  opened (max f) w n known m = by-formula root m (max f) n (opened f w (body n) (known-inside _ known) m)
-  opened (variable d) w n known m =
+      opens-by-iff root m (both f g) n (union-iff one other m (opening-opens f (w .0) (first n) known m) (opening-opens g (w .1) (second n) known m))
+  opening-opens {k = k} (necessity p f) w n known m = opens-by-iff root m (necessity p f) n (has-singleton-iff k m)
+  opening-opens (max f) w n known m = opens-by-iff root m (max f) n (opening-opens f w (body n) (known-inside _ known) m)
+  opening-opens (variable d) w n known m =
       let b = variable-bound patterns wf n in
       let h = known .at d b (w .1) m in
-      by-formula root m (variable d) n (λ x. (b, h .0 x), λ o. h .1 (o .1))
+      opens-by-iff root m (variable d) n (λ x. (b, h .0 x), λ o. h .1 (o .1))
 
   -- Of the maxes around a node this is known, guarded or not.
   around-opened : {k : ℕ} {ms : List EnclosingMax} {f : Formula} → Node root k ms f → (d : ℕ) → d < length ms → (m : ℕ)
@@ -97,9 +98,9 @@ module _ (patterns : ℕ) (root : Formula) (wf : WellFormed patterns [] root) wh
   around-opened (second n) d b m = around-opened n d b m
   around-opened (after n) d b m = around-opened n d b m
   around-opened (body {f = f} n) zero b m =
-      opened f (well-formed-at patterns wf n) (body n) (known-inside _ (record { at = λ d b e m. around-opened n d b m })) m
+      opening-opens f (well-formed-at patterns wf n) (body n) (known-inside _ (record { at = λ d b e m. around-opened n d b m })) m
   around-opened (body n) (suc d) b m = around-opened n d (omega arith) m
 
 pub opens-as-defined : OpensAsDefined
 opens-as-defined patterns root wf k ms f n m =
-    opened patterns root wf f (well-formed-at patterns wf n) n (record { at = λ d b e m. around-opened patterns root wf n d b m }) m
+    opening-opens patterns root wf f (well-formed-at patterns wf n) n (record { at = λ d b e m. around-opened patterns root wf n d b m }) m

@@ -1,4 +1,5 @@
--- A list violates a node's formula exactly when it violates something that opening the node gives.
+-- A list violates a node's formula exactly when it violates something that opening the node gives: opening follows the very steps by which the list
+-- violates the formula, up to ff or a necessity.
 use Prim.Native.Nat.{ℕ, zero, suc, _<_}
 use mathlib.Core.Path.{_≡_, refl, sym, _∙_}
 use mathlib.Core.Bool.{Bool}
@@ -52,25 +53,25 @@ module _ (covered : ℕ → ℕ → Bool) (root : Formula) where
   abbrev pub OpensEnd : ℕ → List ℕ → Type 0
   OpensEnd k w = (m : ℕ) × Opens root k m × Ends m w
 
-  onward : {k k′ : ℕ} {w : List ℕ} → ((m : ℕ) → Opens root k′ m → Opens root k m) → OpensEnd k′ w → OpensEnd k w
-  onward step (m, o, v) = (m, step m o, v)
+  opens-end-map : {k k′ : ℕ} {w : List ℕ} → ((m : ℕ) → Opens root k′ m → Opens root k m) → OpensEnd k′ w → OpensEnd k w
+  opens-end-map step (m, o, v) = (m, step m o, v)
 
   module _ (patterns : ℕ) (wf : WellFormed patterns [] root) where
-    opened : {bodies : List Formula} {k : ℕ} {ms : List EnclosingMax} {f : Formula} {w : List ℕ} → Violates covered bodies f w
+    violates-opens-from : {bodies : List Formula} {k : ℕ} {ms : List EnclosingMax} {f : Formula} {w : List ℕ} → Violates covered bodies f w
         → Node root k ms f → bodies ≡ map bodyOf ms → OpensEnd k w
-    opened {k = k} {ms} by-falsity n e = (k, falsity-itself n, at-falsity (ms, n))
-    opened (by-first v) n e = onward (λ m o. first-part n o) (opened v (first n) e)
-    opened (by-second v) n e = onward (λ m o. second-part n o) (opened v (second n) e)
-    opened {k = k} (by-code h v) n e = (k, necessity-itself n, at-necessity n (by-code h (rw e at v)))
-    opened (by-body v) n e = onward (λ m o. body-of-max n o) (opened v (body n) (rw e))
-    opened {ms = ms} (by-variable {outer = outer} {d} {f} q v) n e =
+    violates-opens-from {k = k} {ms} by-falsity n e = (k, falsity-itself n, at-falsity (ms, n))
+    violates-opens-from (by-first v) n e = opens-end-map (λ m o. first-part n o) (violates-opens-from v (first n) e)
+    violates-opens-from (by-second v) n e = opens-end-map (λ m o. second-part n o) (violates-opens-from v (second n) e)
+    violates-opens-from {k = k} (by-code h v) n e = (k, necessity-itself n, at-necessity n (by-code h (rw e at v)))
+    violates-opens-from (by-body v) n e = opens-end-map (λ m o. body-of-max n o) (violates-opens-from v (body n) (rw e))
+    violates-opens-from {ms = ms} (by-variable {outer = outer} {d} {f} q v) n e =
         let b = variable-bound patterns wf n in
         let x : EnclosingMax = getD ms d noMax in
         let same : f ∷ outer ≡ bodyOf x ∷ map bodyOf (drop (suc d) ms) = sym q ∙ rw e (bodies-from ms d b) in
         let is-body : f ≡ bodyOf x = cc in
         let inside : Node root (suc (x .number)) (x ∷ drop (suc d) ms) f = rw is-body (body (max-around n d b .node)) in
-        onward (λ m o. body-of-variable n b o) (opened v inside same)
+        opens-end-map (λ m o. body-of-variable n b o) (violates-opens-from v inside same)
 
     pub violates-opens : {k : ℕ} {ms : List EnclosingMax} {f : Formula} {w : List ℕ} → Node root k ms f
         → Violates covered (map bodyOf ms) f w → OpensEnd k w
-    violates-opens n v = opened v n refl
+    violates-opens n v = violates-opens-from v n refl

@@ -2,17 +2,17 @@
 use native.Mathlib.Omega.{arith}
 use borrow.Author.Needs.{needs}
 use Rattle.synthesis.specs.Building.{synthesisOf}
-use Rattle.synthesis.proofs.Functions.BuildingWays.{too-short, not-counted, Counts, counts, is-filled}
+use Rattle.synthesis.proofs.Functions.BuildingWays.{short-leaves, refused-plan-leaves, CountedPlan, plan-counted, filled-leaves}
 use Rattle.synthesis.proofs.build.Statement.{statement}
 use Rattle.synthesis.proofs.build.Tie as tie
 
 -- the plan of a rule that has a count
 counted : (c : tie.After-answer) → let p = c .before .before in
-    Counts (synthesisOf 128 (p .before .before .before .before .args .rule .now)) (p .plan-of .result) (c .answer .given .0 .0)
-counted c = counts _ _ (c .before .before .plan-of .ensures) (c .answer .given .1)
+    CountedPlan (synthesisOf 128 (p .before .before .before .before .args .rule .now)) (p .plan-of .result) (c .answer .given .0 .0)
+counted c = plan-counted _ _ (c .before .before .plan-of .ensures) (c .answer .given .1)
 
 returns : tie.Need-returns
-returns c = too-short _ _ (c .if1 .taken)
+returns c = short-leaves _ _ (c .if1 .taken)
 
 plan-of-requires : tie.Need-plan-of-requires
 plan-of-requires c κs = search needs
@@ -26,7 +26,7 @@ enum-told c = search needs
 returns-2 : tie.Need-returns-2
 returns-2 c =
     let p = c .before .before in
-    not-counted _ _ _ (p .plan-of .ensures) (c .enum-told .given .1) (p .before .if1 .left)
+    refused-plan-leaves _ _ _ (p .plan-of .ensures) (c .enum-told .given .1) (p .before .if1 .left)
 
 slice-aggregate-fill : tie.Need-slice-aggregate-fill
 slice-aggregate-fill c = search needs
@@ -54,7 +54,7 @@ same-length c = search needs
 returns-3 : tie.Need-returns-3
 returns-3 c =
     let a = c .before .before .before .before .before .before .before .before .before .before .before .before in
-    is-filled _ _ _ _ _ (counted a) (a .before .before .before .if1 .left) (c .before .before .fill .ensures)
+    filled-leaves _ _ _ _ _ (counted a) (a .before .before .before .if1 .left) (c .before .before .fill .ensures)
 
 pub build-spec : {M : Type 1} → statement M
 build-spec =

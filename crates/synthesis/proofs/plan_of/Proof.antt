@@ -1,7 +1,7 @@
 -- `plan_of` meets its contract: each return is the plan of what is made of the file.
 use borrow.Author.Needs.{needs}
 use Rattle.reading.proofs.Basics.ByteLaws.{slice-bytes}
-use Rattle.synthesis.proofs.Functions.PlanLaws.{Read, unread-plan, read-is, read-some, unsatisfiable-plan, many-plan, counted-plan}
+use Rattle.synthesis.proofs.Functions.PlanLaws.{Read, unread-plan, reading-read, read-some-numbered, unsatisfiable-plan, many-plan, counted-plan}
 use Rattle.synthesis.proofs.plan_of.Statement.{statement}
 use Rattle.synthesis.proofs.plan_of.Tie as tie
 
@@ -10,7 +10,7 @@ read : (c : tie.After-enum-told) → Read (c .before .before .before .before .ar
 read c =
     let r = c .before .before in
     let file = r .before .before .args .rule .now in
-    read-is file (slice-bytes file (r .before .shared-slice-known .given)) _ (r .read-rule .ensures) (c .enum-told .given .1)
+    reading-read file (slice-bytes file (r .before .shared-slice-known .given)) _ (r .read-rule .ensures) (c .enum-told .given .1)
 
 read-rule-requires : tie.Need-read-rule-requires
 read-rule-requires c κs = search needs
@@ -34,7 +34,7 @@ returns c =
     unread-plan 128 _ _ (r .read-rule .ensures) (e .enum-told2 .given .1) _ (c .before .refusal .ensures) _ (c .no-plan .ensures)
 
 of-rule-requires : tie.Need-of-rule-requires
-of-rule-requires c κs = read-some (read c)
+of-rule-requires c κs = read-some-numbered (read c)
 
 no-plan-requires-2 : tie.Need-no-plan-requires-2
 no-plan-requires-2 c κs = search needs

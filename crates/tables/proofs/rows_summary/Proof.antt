@@ -8,7 +8,7 @@ use native.Mathlib.Omega.{arith}
 use lib.ListN.{length}
 use borrow.Author.Needs.{needs}
 use Rattle.synthesis.specs.Monitor.{rowOf}
-use Rattle.listing.proofs.RowLaws.{row-inside}
+use Rattle.synthesis.proofs.Tables.Rows.{row-inside}
 use Rattle.tables.proofs.rows_summary.Statement.{statement}
 use Rattle.tables.proofs.rows_summary.Tie as tie
 

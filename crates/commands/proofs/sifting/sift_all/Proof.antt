@@ -5,7 +5,7 @@ use lib.ListN.{length}
 use borrow.Author.Needs.{needs}
 use Rattle.running.specs.Calls.{noCalls, none}
 use Rattle.commands.specs.Sifting.{EndsCallsOn}
-use Rattle.commands.proofs.SiftingLaws.{goes-on}
+use Rattle.commands.proofs.SiftingLaws.{ends-calls-next}
 use Rattle.commands.proofs.sifting.sift_all.Statement.{statement}
 use Rattle.commands.proofs.sifting.sift_all.Tie as tie
 
@@ -23,7 +23,7 @@ turn : (c : tie.After-sift-some Inv-loop μ-loop) →
 turn c =
     let start = c .before .before .before .before .before .before .before .before .before .before .before in
     let calls = c .before .before .before .before .before .loop .inv .0 in
-    goes-on (start .args .table .now) (start .args .count) (start .pre) calls (c .sift-some .ensures)
+    ends-calls-next (start .args .table .now) (start .args .count) (start .pre) calls (c .sift-some .ensures)
 
 large-buffer-requires : tie.Need-large-buffer-requires Inv-loop μ-loop
 large-buffer-requires c κs = search needs

@@ -6,9 +6,9 @@ use Rattle.reading.specs.Rule.{Bytes}
 use Rattle.reading.proofs.Basics.ByteLaws.{slice-bytes}
 use Rattle.synthesis.specs.Building.{buildingOf}
 use Rattle.running.specs.Calls.{noCalls, none}
-use Rattle.running.specs.Running.{WellFormedTable}
-use Rattle.running.proofs.BuiltTables.{built-well-formed}
-use Rattle.commands.proofs.SiftingLaws.{under-rule}
+use Rattle.synthesis.specs.Table.{WellFormedTable}
+use Rattle.synthesis.proofs.Tables.Built.{counted-well-formed}
+use Rattle.commands.proofs.SiftingLaws.{ends-calls-under-rule}
 use Rattle.commands.proofs.sifting.sift_under.Statement.{statement}
 use Rattle.commands.proofs.sifting.sift_under.Tie as tie
 
@@ -30,7 +30,7 @@ sift-all-requires c κs =
     let x = built .before .before .before .before .args in
     let n = told .answer .given .0 .0 in
     subst (WellFormedTable 128 255 n) (sym (built .build .ensures .1))
-    (built-well-formed 128 255 (x .file .now) (x .table .now) n (sym (built .build .ensures .0) ∙ told .answer .given .1))
+    (counted-well-formed 128 255 (x .file .now) (x .table .now) n (sym (built .build .ensures .0) ∙ told .answer .given .1))
 
 enum-known-answer-2 : tie.Need-enum-known-answer-2
 enum-known-answer-2 c = search needs
@@ -59,7 +59,7 @@ returns c =
       bytes built,
       record {
         answer = answer;
-        state = under-rule (buildingOf 128 (x .file .now) (length (x .table .now))) (x .table .now) (told .answer .given .0 .0)
+        state = ends-calls-under-rule (buildingOf 128 (x .file .now) (length (x .table .now))) (x .table .now) (told .answer .given .0 .0)
             (built .build .ensures .1) (sym answer) (c .sift-all .ensures);
       },
     )

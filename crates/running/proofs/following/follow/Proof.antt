@@ -1,15 +1,15 @@
 -- `following::follow` meets its contract. What the loop has is right for the scans so far; the measure is how many are left.
-use Prim.Native.Nat.{_-_, _/_}
+use Prim.Native.Nat.{_-_}
 use native.Mathlib.Omega.{arith}
 use borrow.Author.Needs.{needs}
 use lib.ListN.{length}
-use Rattle.running.proofs.Stepping.{After, one-more, begins, ends}
+use Rattle.running.proofs.Stepping.{After, after-next, stateAt, after-none, after-all}
 use Rattle.running.proofs.following.follow.Statement.{statement}
 use Rattle.running.proofs.following.follow.Tie as tie
 
 abbrev Inv-loop : tie.InvT-loop
 Inv-loop table scans output₀ verdicts₀ from₀ kept₀ i₀ output verdicts from kept i =
-    After 255 table (record { equation = from₀ / 256 }) output₀ verdicts₀ scans output verdicts from kept i
+    After 255 table (stateAt from₀) output₀ verdicts₀ scans output verdicts from kept i
 
 abbrev μ-loop : tie.MeasureT-loop
 μ-loop table scans output₀ verdicts₀ from₀ kept₀ i₀ output verdicts from kept i = length scans - i
@@ -20,7 +20,7 @@ mul-from c = search needs
 loop-holds : tie.Need-loop-holds Inv-loop μ-loop
 loop-holds c =
     let start = c .before .before .before .before .before in
-    begins 255 _ (start .args .state) _ _ _ (omega arith)
+    after-none 255 _ (start .args .state) _ _ _ (omega arith)
 
 shared-slice-read-code : tie.Need-shared-slice-read-code Inv-loop μ-loop
 shared-slice-read-code c = search needs
@@ -67,7 +67,7 @@ loop-again c =
     let e = verdict .before .before in
     let l = e .before .before .before in
     let start = l .before .before .before .before .before .before in
-    one-more 255 _ _ _ _ _ _ _ _ _ _ (l .loop .inv) (e .before .before .loop-test .taken) (start .pre .1) (start .pre .2)
+    after-next 255 _ _ _ _ _ _ _ _ _ _ (l .loop .inv) (e .before .before .loop-test .taken) (start .pre .1) (start .pre .2)
     _ (e .entry .ensures .1) (e .entry .ensures .0)
     (c .before .either-byte2 .ensures) (verdict .either-byte .ensures) (verdict .before .either .ensures)
     (c .either2 .ensures)
@@ -84,7 +84,7 @@ same-length-2 c = search needs
 returns : tie.Need-returns Inv-loop μ-loop
 returns c =
     let x = c .before .before .before .before .before .before .before .args in
-    ends 255 (x .table .now) (x .state) (x .output .now) (x .verdicts .now) (x .scans .now) _ _ _ _ _ (c .before .loop .inv)
+    after-all 255 (x .table .now) (x .state) (x .output .now) (x .verdicts .now) (x .scans .now) _ _ _ _ _ (c .before .loop .inv)
     (c .loop-test .left)
 
 pub follow-spec : {M : Type 1} → statement M

@@ -8,7 +8,7 @@ use lib.Seq.{getD-take, length-take-le}
 use borrow.Author.Needs.{needs}
 use Rattle.synthesis.specs.Table.{rows}
 use Rattle.synthesis.specs.Arrays.{answerBy}
-use Rattle.synthesis.proofs.Functions.FillingRows.{rows-keep, rows-next, rows-all}
+use Rattle.synthesis.proofs.Functions.FillingRows.{rows-keep-length, rows-next, rows-all}
 use Rattle.synthesis.proofs.filling.fill.Statement.{statement}
 use Rattle.synthesis.proofs.filling.fill.Tie as tie
 
@@ -21,7 +21,7 @@ abbrev μ-loop : tie.MeasureT-loop
 
 -- the table stays as long as it was
 keeps : (c : tie.At-loop Inv-loop μ-loop) → length (c .loop .table) ≡ length (c .before .before .before .before .before .args .table .now)
-keeps c = rows-keep 255 _ _ 256 _ _ _ (c .loop .inv .1) (search needs)
+keeps c = rows-keep-length 255 _ _ 256 _ _ _ (c .loop .inv .1) (search needs)
 
 loop-holds : tie.Need-loop-holds Inv-loop μ-loop
 unfolding rows

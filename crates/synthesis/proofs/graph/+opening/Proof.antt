@@ -5,7 +5,7 @@ use native.Mathlib.Omega.{arith}
 use borrow.Fn.Kinds.{In}
 use borrow.Fn.PlainCycle.{Measures, is, falls, and}
 use Rattle.synthesis.specs.Arrays.{SomeNode}
-use Rattle.synthesis.proofs.Functions.OpeningArrays.{node-in-64, kinds-are-64, args-are-64, some-next, some-second, some-variable}
+use Rattle.synthesis.proofs.Functions.OpeningArrays.{some-below-64, some-kinds-length, some-args-length, some-next, some-second, some-variable}
 use Rattle.synthesis.proofs.Functions.OpeningArrays.{opening-both, opening-max, opening-variable}
 use Rattle.synthesis.proofs.Functions.OpeningArrays.{opening-falsity, opening-necessity, opening-truth}
 use Rattle.synthesis.proofs.graph.opening.Reads as reads
@@ -32,29 +32,29 @@ module _ (t : ℕ) where
   some c = c .pre .1 .0
 
   read-kind : lts.Need-shared-slice-read-kind (claims t) (at t) reads.Post
-  read-kind c = let s = some (c .before .before .before .before) in omega (arith, node-in-64 s, kinds-are-64 s)
+  read-kind c = let s = some (c .before .before .before .before) in omega (arith, some-below-64 s, some-kinds-length s)
 
   read-arg : lts.Need-shared-slice-read-arg (claims t) (at t) reads.Post
-  read-arg c = let s = some (c .before .before .before .before .before) in omega (arith, node-in-64 s, args-are-64 s)
+  read-arg c = let s = some (c .before .before .before .before .before) in omega (arith, some-below-64 s, some-args-length s)
 
   cast-arg : lts.Need-cast-arg (claims t) (at t) reads.Post
   cast-arg c = omega (arith, c .shared-slice-known5 .given (c .before .before .before .before .before .args .k))
 
   add-first : lts.Need-add-opening (claims t) (at t) reads.Post
-  add-first c = omega (arith, node-in-64 (some (c .before .before .before .before .before .before)))
+  add-first c = omega (arith, some-below-64 (some (c .before .before .before .before .before .before)))
 
   first-requires : lts.Need-opening-requires (claims t) (at t) reads.Post
   first-requires c κs =
       let b = c .before .before .before .before .before .before in
       let s = some b in
-      (omega (arith, node-in-64 s, b .pre .0), (some-next s (c .if1 .taken) refl, b .pre .1 .1))
+      (omega (arith, some-below-64 s, b .pre .0), (some-next s (c .if1 .taken) refl, b .pre .1 .1))
 
   second-requires : lts.Need-opening-requires-2 (claims t) (at t) reads.Post
   second-requires c κs =
       let b = c .before .before .before .before .before .before .before in
       let s = some b in
       let p = some-second s (c .before .if1 .taken) in
-      (omega (arith, node-in-64 s, p .1, b .pre .0), (p .0, b .pre .1 .1))
+      (omega (arith, some-below-64 s, p .1, b .pre .0), (p .0, b .pre .1 .1))
 
   returns-both : lts.Need-returns (claims t) (at t) reads.Post
   returns-both c =
@@ -63,13 +63,13 @@ module _ (t : ℕ) where
       opening-both (some-second s q .1) q (c .before .opening .ensures) (c .opening2 .ensures)
 
   add-body : lts.Need-add-opening-2 (claims t) (at t) reads.Post
-  add-body c = omega (arith, node-in-64 (some (c .before .before .before .before .before .before .before)))
+  add-body c = omega (arith, some-below-64 (some (c .before .before .before .before .before .before .before)))
 
   body-requires : lts.Need-opening-requires-3 (claims t) (at t) reads.Post
   body-requires c κs =
       let b = c .before .before .before .before .before .before .before in
       let s = some b in
-      (omega (arith, node-in-64 s, b .pre .0), (some-next s (c .if2 .taken) refl, b .pre .1 .1))
+      (omega (arith, some-below-64 s, b .pre .0), (some-next s (c .if2 .taken) refl, b .pre .1 .1))
 
   returns-max : lts.Need-returns-2 (claims t) (at t) reads.Post
   returns-max c = opening-max (c .before .if2 .taken) (c .opening3 .ensures)
@@ -86,13 +86,13 @@ module _ (t : ℕ) where
   returns-variable c = opening-variable (c .before .if3 .taken)
 
   shift-falsity : lts.Need-shl-result (claims t) (at t) reads.Post
-  shift-falsity c = node-in-64 (some (c .before .before .before .before .before .before .before .before .before))
+  shift-falsity c = some-below-64 (some (c .before .before .before .before .before .before .before .before .before))
 
   returns-falsity : lts.Need-returns-4 (claims t) (at t) reads.Post
   returns-falsity c = opening-falsity (shift-falsity c) (c .if4 .taken)
 
   shift-necessity : lts.Need-shl-result-2 (claims t) (at t) reads.Post
-  shift-necessity c = node-in-64 (some (c .before .before .before .before .before .before .before .before .before .before))
+  shift-necessity c = some-below-64 (some (c .before .before .before .before .before .before .before .before .before .before))
 
   returns-necessity : lts.Need-returns-5 (claims t) (at t) reads.Post
   returns-necessity c = opening-necessity (shift-necessity c) (c .if5 .taken)

@@ -1,7 +1,7 @@
 -- `graph::wait` meets its contract: a row for a necessity and one for any other node.
 use native.Mathlib.Omega.{arith}
 use borrow.Author.Needs.{needs}
-use Rattle.synthesis.proofs.Functions.EnabledLaws.{pattern-in-32, enabled-necessity, enabled-other}
+use Rattle.synthesis.proofs.Functions.EnabledLaws.{pattern-below-32, enabled-necessity, enabled-other}
 use Rattle.synthesis.proofs.graph.enable.Statement.{statement}
 use Rattle.synthesis.proofs.graph.enable.Tie as tie
 
@@ -18,10 +18,10 @@ cast-i : tie.Need-cast-i
 cast-i c = search needs
 
 mul-enable-codes : tie.Need-mul-enable-codes
-mul-enable-codes c = omega (arith, pattern-in-32 (c .before .before .before .before .before .pre .0) (c .before .before .if1 .left))
+mul-enable-codes c = omega (arith, pattern-below-32 (c .before .before .before .before .before .pre .0) (c .before .before .if1 .left))
 
 array-copy-out-enable-codes : tie.Need-array-copy-out-enable-codes
-array-copy-out-enable-codes c = pattern-in-32 (c .before .before .before .before .before .pre .0) (c .before .before .if1 .left)
+array-copy-out-enable-codes c = pattern-below-32 (c .before .before .before .before .before .pre .0) (c .before .before .if1 .left)
 
 enable-codes-requires : tie.Need-enable-codes-requires
 enable-codes-requires c κs = search needs

@@ -6,7 +6,7 @@ use lib.ListN.{length}
 use borrow.Author.Needs.{needs}
 use Rattle.reading.specs.Rule.{Rule}
 use Rattle.synthesis.specs.Arrays.{IsNumbered, EnabledBelow}
-use Rattle.synthesis.proofs.Functions.EnabledLaws.{some-below, enabled-none, enabled-all}
+use Rattle.synthesis.proofs.Functions.EnabledLaws.{some-numbered-below, enabled-none, enabled-all}
 use Rattle.synthesis.proofs.graph.enable_all.Statement.{statement}
 use Rattle.synthesis.proofs.graph.enable_all.Tie as tie
 
@@ -22,7 +22,7 @@ loop-holds c = (refl, λ r num. rw (c .before .pre .1) (enabled-none r 256))
 enable-requires : tie.Need-enable-requires Inv-loop μ-loop
 enable-requires c κs =
     let p = c .before .before .before .before .pre in
-    (some-below (p .0) (c .before .loop-test .taken), c .before .before .loop .inv .0 ∙ ap length (p .1))
+    (some-numbered-below (p .0) (c .before .loop-test .taken), c .before .before .loop .inv .0 ∙ ap length (p .1))
 
 add-k : tie.Need-add-k Inv-loop μ-loop
 add-k c = search needs

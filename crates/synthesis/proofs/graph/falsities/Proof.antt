@@ -5,7 +5,7 @@ use native.Mathlib.Omega.{arith}
 use lib.ListN.{getD}
 use borrow.Author.Needs.{needs}
 use Rattle.synthesis.specs.Arrays.{HasKind}
-use Rattle.synthesis.proofs.Functions.SetsByTest.{none-yet, kind-next}
+use Rattle.synthesis.proofs.Functions.SetsByTest.{empty-below-zero, has-kind-next}
 use Rattle.synthesis.proofs.graph.falsities.Statement.{statement}
 use Rattle.synthesis.proofs.graph.falsities.Tie as tie
 
@@ -16,7 +16,7 @@ abbrev μ-loop : tie.MeasureT-loop
 μ-loop kinds n set₀ k₀ set k = n - k
 
 loop-holds : tie.Need-loop-holds Inv-loop μ-loop
-loop-holds c = (search needs, record { is = none-yet (λ j. getD (c .before .args .kinds .now) j 0 ≡ 3) })
+loop-holds c = (search needs, record { is = empty-below-zero (λ j. getD (c .before .args .kinds .now) j 0 ≡ 3) })
 
 shared-slice-read-with-node : tie.Need-shared-slice-read-with-node Inv-loop μ-loop
 shared-slice-read-with-node c = search needs
@@ -31,7 +31,7 @@ loop-less : tie.Need-loop-less Inv-loop μ-loop
 loop-less c = search needs
 
 loop-again : tie.Need-loop-again Inv-loop μ-loop
-loop-again c = (search needs, kind-next 3 _ _ _ _ (c .with-node .ensures) (c .before .before .before .loop .inv .1))
+loop-again c = (search needs, has-kind-next 3 _ _ _ _ (c .with-node .ensures) (c .before .before .before .loop .inv .1))
 
 returns : tie.Need-returns Inv-loop μ-loop
 returns c =

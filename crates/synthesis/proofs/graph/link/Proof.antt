@@ -2,7 +2,7 @@
 use mathlib.Core.Path.{refl}
 use native.Mathlib.Omega.{arith}
 use borrow.Author.Needs.{needs}
-use Rattle.synthesis.proofs.Functions.OpeningArrays.{node-in-64, kinds-are-64, some-next}
+use Rattle.synthesis.proofs.Functions.OpeningArrays.{some-below-64, some-kinds-length, some-next}
 use Rattle.synthesis.proofs.Functions.Linking.{linked-max, linked-necessity, linked-other}
 use Rattle.synthesis.proofs.graph.link.Statement.{statement}
 use Rattle.synthesis.proofs.graph.link.Tie as tie
@@ -10,7 +10,7 @@ use Rattle.synthesis.proofs.graph.link.Tie as tie
 shared-slice-read-kind : tie.Need-shared-slice-read-kind
 shared-slice-read-kind c =
     let p = c .before .before .before .before .before .pre in
-    omega (arith, node-in-64 (p .0), kinds-are-64 (p .0))
+    omega (arith, some-below-64 (p .0), some-kinds-length (p .0))
 
 add-opening : tie.Need-add-opening
 add-opening c = search needs
@@ -32,7 +32,7 @@ same-length c = search needs
 returns : tie.Need-returns
 returns c r ir l =
     let p = c .before .before .before .before .before .before .before .before .pre in
-    linked-max r ir l (omega (arith, node-in-64 (p .0), p .1)) (c .before .before .if1 .taken) (c .opening .ensures)
+    linked-max r ir l (omega (arith, some-below-64 (p .0), p .1)) (c .before .before .if1 .taken) (c .opening .ensures)
 
 add-opening-2 : tie.Need-add-opening-2
 add-opening-2 c = search needs
@@ -57,7 +57,7 @@ same-length-3 c = search needs
 returns-2 : tie.Need-returns-2
 returns-2 c r ir l =
     let p = c .before .before .before .before .before .before .before .before .before .pre in
-    linked-necessity r ir l (omega (arith, node-in-64 (p .0), p .2)) (c .before .before .if2 .taken) (c .opening2 .ensures)
+    linked-necessity r ir l (omega (arith, some-below-64 (p .0), p .2)) (c .before .before .if2 .taken) (c .opening2 .ensures)
 
 returns-3 : tie.Need-returns-3
 returns-3 c r ir l = linked-other r ir l (c .before .if1 .left) (c .if2 .left)

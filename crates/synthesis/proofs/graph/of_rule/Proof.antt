@@ -2,7 +2,7 @@
 use mathlib.Core.Path.{refl}
 use native.Mathlib.Omega.{arith}
 use borrow.Author.Needs.{needs}
-use Rattle.synthesis.proofs.Functions.EnabledLaws.{some-below}
+use Rattle.synthesis.proofs.Functions.EnabledLaws.{some-numbered-below}
 use Rattle.synthesis.proofs.Functions.GraphLaws.{some-node, first-opened, falsities-by-kind}
 use Rattle.synthesis.proofs.graph.of_rule.Statement.{statement}
 use Rattle.synthesis.proofs.graph.of_rule.Tie as tie
@@ -37,7 +37,7 @@ slice-aggregate-link-all-3 c = search needs
 link-all-requires : tie.Need-link-all-requires
 link-all-requires c κs =
     let start = c .before .before .before .before .before .before .before .before .before .before .before in
-    (λ k h. some-node (some-below (start .pre) h), refl)
+    (λ k h. some-node (some-numbered-below (start .pre) h), refl)
 
 slice-aggregate-enable-all : tie.Need-slice-aggregate-enable-all
 slice-aggregate-enable-all c = search needs

@@ -1,6 +1,6 @@
 -- `graph::with_node` meets its contract.
 use borrow.Author.Needs.{needs}
-use Rattle.synthesis.proofs.Functions.SetsByTest.{insert-is}
+use Rattle.synthesis.proofs.Functions.SetsByTest.{with-node-is}
 use Rattle.synthesis.proofs.graph.with_node.Statement.{statement}
 use Rattle.synthesis.proofs.graph.with_node.Tie as tie
 
@@ -8,7 +8,7 @@ shl-result : tie.Need-shl-result
 shl-result c = search needs
 
 returns : tie.Need-returns
-returns c = search insert-is
+returns c = search with-node-is
 
 returns-2 : tie.Need-returns-2
 returns-2 c = search needs

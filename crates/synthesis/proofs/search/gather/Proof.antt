@@ -5,7 +5,7 @@ use native.Mathlib.Omega.{arith}
 use lib.Count.{trailingZeros}
 use Rattle.synthesis.specs.NodeSet.{Has, union, intersection}
 use Rattle.synthesis.specs.Arrays.{gathered}
-use Rattle.synthesis.proofs.Unfolding.NodeSetLaws.{toggled, toggled-lt, lowest-out}
+use Rattle.synthesis.proofs.Unfolding.NodeSetLaws.{toggled, toggled-lt, without-lowest}
 use Rattle.synthesis.proofs.Functions.Gathering.{gather-step, gather-none, lowest-lt, has-lowest}
 use Rattle.synthesis.proofs.search.gather.Statement.{statement}
 use Rattle.synthesis.proofs.search.gather.Tie as tie
@@ -27,7 +27,7 @@ member : (c : tie.In-loop Inv-loop μ-loop) → Has (c .before .loop .rest) (tra
 member c = has-lowest _ (c .loop-test .taken) (small c)
 
 one-out : (c : tie.In-loop Inv-loop μ-loop) → let rest = c .before .loop .rest in intersection rest (rest - 1) ≡ toggled rest (trailingZeros 64 rest)
-one-out c = lowest-out 64 _ (omega (arith, c .loop-test .taken)) (small c)
+one-out c = without-lowest 64 _ (omega (arith, c .loop-test .taken)) (small c)
 
 out : (c : tie.In-loop Inv-loop μ-loop) → let rest = c .before .loop .rest in toggled rest (trailingZeros 64 rest) < rest
 out c = toggled-lt _ _ (member c)

@@ -1,0 +1,47 @@
+-- The calls of the layers, in the very terms of their contracts: the outcome of each, and what it leaves in a table. The limit on equations is 128 and
+-- the mark for dropped 255.
+use Prim.Native.Nat.{ℕ}
+use mathlib.Core.Path.{_≡_}
+use mathlib.Core.Logic.{_↔_}
+use mathlib.Core.List.{List}
+use lib.ListN.{length}
+use Rattle.reading.specs.File.{Outcome}
+use Rattle.synthesis.specs.Building.{Synthesis, synthesisOf, buildingOf, tableLeft}
+use Rattle.running.specs.Running.{Run}
+use Rattle.running.specs.Calls.{Call, outcomeOf}
+use Rattle.running.specs.declared.State.{State}
+use Rattle.models.specs.Judging.{RuleAndModel, judgingOf, tableJudged}
+
+-- ---- outcomes
+
+-- counting the equations of a rule file
+abbrev pub counting : List ℕ → Outcome Synthesis
+counting s = synthesisOf 128 s
+
+-- building in a table
+abbrev pub building : (s table : List ℕ) → Outcome Synthesis
+building s table = buildingOf 128 s (length table)
+
+abbrev pub tableBuilt : (s table : List ℕ) → List ℕ
+tableBuilt s table = tableLeft 128 255 s table
+
+-- a call of a run with this state
+abbrev pub running : State → Call → Outcome Run
+running s c = outcomeOf 128 255 s c
+
+-- judging a model file under a rule file, with a table for the rows
+abbrev pub judging : (s table f : List ℕ) → Outcome RuleAndModel
+judging s table f = judgingOf 128 s (length table) f
+
+abbrev pub tableAfterJudging : (s table f : List ℕ) → List ℕ
+tableAfterJudging s table f = tableJudged (judging s table f) (tableBuilt s table) table
+
+-- ---- answers
+
+-- An answer refuses with a number at a place exactly where some clause has it so.
+abbrev pub Exactly {ℓ} : {A : Type 0} → (answer : A) → (Refused : ℕ → ℕ → A) → (Clause : ℕ → ℕ → Type ℓ) → Type ℓ
+Exactly answer Refused Clause = (number place : ℕ) → (answer ≡ Refused number place) ↔ Clause number place
+
+-- Where an answer refuses, with whatever number and place, this holds.
+abbrev pub WhereRefused : {A : Type 0} → (answer : A) → (Refused : ℕ → ℕ → A) → Type 0 → Type 0
+WhereRefused answer Refused Claim = (number place : ℕ) → answer ≡ Refused number place → Claim
