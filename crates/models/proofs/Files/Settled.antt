@@ -10,7 +10,7 @@ use borrow.Author.Tests.{lt-ltb, ne-eqb}
 use Rattle.reading.specs.Rule.{All}
 use Rattle.reading.proofs.Basics.ByteLaws.{bytes-append}
 use Rattle.reading.specs.File.{accepted, refused}
-use Rattle.reading.proofs.Settling.Agreement.{Agree, inside, settled}
+use Rattle.reading.proofs.Settling.Agreement.{Agree, agree-inside, settled}
 use Rattle.reading.proofs.Basics.Outcomes.{andThen-agree}
 use Rattle.reading.proofs.RecordLists.RecordsAgree.{FormatsAgree, records-agree}
 use Rattle.models.specs.Phone.{Phone, WellFormedStep, WellFormedPhone, encodeSteps, encodePhone, codeStepKind, statesOf, stepAt, stepFormat, phoneOf}
@@ -37,8 +37,8 @@ module _ (f g : List ℕ) (a : Agree 2051 f g) where
 
   step-agrees : (states at : ℕ) → at + 4 ≤ 2051 → stepAt f states at ≡ stepAt g states at
   step-agrees states at h =
-      let three = inside 2051 f g a (at + 3) (omega arith) in
-      let two = inside 2051 f g a (at + 2) (omega arith) in
+      let three = agree-inside 2051 f g a (at + 3) (omega arith) in
+      let two = agree-inside 2051 f g a (at + 2) (omega arith) in
       rw (
         a .same at (omega arith),
         three .0,

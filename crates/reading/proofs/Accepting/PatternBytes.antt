@@ -58,11 +58,12 @@ module _ (s : List ℕ) (at : ℕ) (p : Pattern) where
         last = record { inside = inside; is = refl };
       })
 
-  -- the bytes of a pattern that stands
-  pub pattern-bytes : Byte s at patternKind → PatternStands s at p → drop at s ≡ patternBytes p ++ drop (at + 4) s
-  pattern-bytes b h =
-      from-byte (at + 1) b refl
-      ∙ rw (from-byte (at + 2) (h .mask) (omega arith), from-byte (at + 3) (h .first) (omega arith), from-byte (at + 4) (h .last) (omega arith))
+-- the bytes of a pattern, well formed or not
+pub pattern-bytes : (s : List ℕ) (at : ℕ) (p : Pattern) → Byte s at patternKind → Byte s (at + 1) (p .mask) → Byte s (at + 2) (p .first)
+    → Byte s (at + 3) (p .last) → drop at s ≡ patternBytes p ++ drop (at + 4) s
+pattern-bytes s at p kind mask first last =
+    from-byte (at + 1) kind refl
+    ∙ rw (from-byte (at + 2) mask (omega arith), from-byte (at + 3) first (omega arith), from-byte (at + 4) last (omega arith))
 
 -- ---- the patterns
 
@@ -104,7 +105,7 @@ module _ (s : List ℕ) where
   finds-patterns : Bytes s → FindsRecords s (patternFormat s) patternBytes WellFormedPattern
   finds-patterns bytes at p more one =
       let stands = pattern-stands s at p (byte-at s bytes (at + 1)) one in
-      (stands .well-formed, pattern-bytes s at p (pattern-kind at more) stands)
+      (stands .well-formed, pattern-bytes s at p (pattern-kind at more) (stands .mask) (stands .first) (stands .last))
 
   -- Patterns stand from `at` on, no more than `left`, and none follows.
   abbrev pub PatternsStand : (at left : ℕ) → Records Pattern → Type 0

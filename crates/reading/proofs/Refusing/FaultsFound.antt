@@ -12,17 +12,18 @@ use borrow.Author.Tests.{ltb-true, ltb-false, leb-true, leb-false, eqb-true, eqb
 use Rattle.reading.specs.Pattern.{WellFormedPattern}
 use Rattle.reading.specs.Rule.{Guards, Bytes, patternKind, necessityKind, variableKind}
 use Rattle.reading.specs.File.{refused, andThen, patternAt, isPattern, necessityAt, variableAt, nodeAt}
-use Rattle.reading.specs.Faults.{Unfinished, KindAt, IsPattern, HasBody, NoKind, Fault, file-ended, pattern-cut, node-cut, no-kind, after-rule}
+use Rattle.reading.specs.Faults.{pattern, Unfinished, KindAt, IsPattern, HasBody, NoKind, Fault, file-ended, pattern-cut, node-cut, no-kind, after-rule}
 use Rattle.reading.specs.Faults.{late-pattern, pattern-33, node-65, bad-pattern, names-nothing, unguarded}
 use Rattle.reading.proofs.Basics.ByteLaws.{byte-at}
 use Rattle.reading.proofs.Basics.Outcomes.{neither, refuse-refused, never-refused, andThen-refused}
 use Rattle.reading.proofs.Basics.Places.{Byte}
+use Rattle.reading.proofs.Accepting.Checks.{pattern-there}
 use Rattle.reading.proofs.Accepting.NodeBytes.{bare-truth, bare-falsity, bare-both, bare-max, NodeKind, bare-kind, necessity-kind, variable-kind}
 use Rattle.reading.proofs.Accepting.NodeBytes.{node-kind, ofKind, node-accepts}
 use Rattle.reading.proofs.Accepting.PatternBytes.{pattern-stands, pattern-kind}
 use Rattle.reading.proofs.Refusing.Contexts.{guards, parts, done}
 use Rattle.reading.proofs.Refusing.LeftToRight.{dueAt, due-over, headAt}
-use Rattle.reading.proofs.Refusing.ReadTo.{ReadTo, read-front, read-rule, read-unfinished, next-node, next-pattern, pattern-well-formed}
+use Rattle.reading.proofs.Refusing.ReadTo.{ReadTo, Stands, read-front, read-rule, read-unfinished, next-node, next-pattern, pattern-well-formed}
 use Rattle.reading.proofs.Refusing.ReadTo.{node-allowed, node-bound, bound-begins}
 use Rattle.reading.proofs.Refusing.RecordsHere.{necessity-here, variable-here, pattern-here, pattern-stood, node-here}
 
@@ -137,11 +138,15 @@ module _ {s : List ℕ} {at n : ℕ} (h : ReadTo s at n 0 ([] ∷ [])) (b : Byte
   abbrev kind : KindAt s at IsPattern
   kind = (b .inside, b .is)
 
-  -- a pattern that isn't well formed
-  unfit-fault : (few : n < 32) → at + 3 < length s
-      → (WellFormedPattern (record { mask = getD s (at + 1) 0; first = getD s (at + 2) 0; last = getD s (at + 3) 0 }) → ⊥) → Fault s 5 at
+  -- the pattern there, and that it isn't well formed
+  stands-there : at + 3 < length s → Stands s at (at + 4) (pattern (pattern-there s at))
+  stands-there whole =
+      pattern-here s at (pattern-there s at) b (record { inside = omega arith; is = refl }) (record { inside = omega arith; is = refl })
+      (record { inside = whole; is = refl })
+
+  unfit-fault : (few : n < 32) → at + 3 < length s → (WellFormedPattern (pattern-there s at) → ⊥) → Fault s 5 at
   unfit-fault few whole unfit =
-      bad-pattern (read-unfinished h) kind few (omega arith) (λ begins. unfit (pattern-well-formed h (pattern-here s at b whole) begins))
+      bad-pattern (read-unfinished h) kind few (omega arith) (λ begins. unfit (pattern-well-formed h (stands-there whole) begins))
 
   pattern-fault : {number place : ℕ} → n < 32 → patternAt s at ≡ refused number place → Fault s number place
   pattern-fault few e =

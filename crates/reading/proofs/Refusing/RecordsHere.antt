@@ -1,9 +1,9 @@
 -- Whole records from the bytes that stand at a place, one byte after the other.
-use mathlib.Core.Path.{refl, subst, ap, _∙_}
+use mathlib.Core.Path.{_≡_, refl, subst, ap, _∙_}
 use mathlib.Core.List.{List, _∷_}
 use Prim.Native.Nat.{ℕ, _+_, _<_}
 use native.Mathlib.Omega.{arith}
-use lib.ListN.{length, getD}
+use lib.ListN.{length, getD, drop}
 use Rattle.reading.specs.Rule.{Guards, Necessity, Variable, patternKind, necessityKind, variableKind}
 use Rattle.reading.specs.File.{NodeRecord}
 use Rattle.reading.specs.Faults.{pattern, node}
@@ -15,33 +15,23 @@ use Rattle.reading.proofs.Refusing.Contexts.{guards, Allows}
 use Rattle.reading.proofs.Refusing.ReadTo.{Stands}
 
 module _ (s : List ℕ) (at : ℕ) where
+  -- a kind and a body
+  with-body : {kind : ℕ} → Byte s at kind → at + 1 < length s → drop at s ≡ kind ∷ getD s (at + 1) 0 ∷ drop (at + 2) s
+  with-body {kind} b h = from-byte (at + 1) b refl ∙ ap (λ (l : List ℕ). kind ∷ l) (from-place s (at + 1) (at + 2) h (omega arith))
+
   pub necessity-here : Byte s at necessityKind → at + 1 < length s → Stands s at (at + 2) (node (Necessity (getD s (at + 1) 0)))
-  necessity-here b h = record {
-    bytes = from-byte (at + 1) b refl ∙ ap (λ (l : List ℕ). necessityKind ∷ l) (from-place s (at + 1) (at + 2) h (omega arith));
-    ends = refl;
-    inside = omega arith;
-  }
+  necessity-here b h = record { bytes = with-body b h; ends = refl; inside = omega arith }
 
   pub variable-here : Byte s at variableKind → at + 1 < length s → Stands s at (at + 2) (node (Variable (getD s (at + 1) 0)))
-  variable-here b h = record {
-    bytes = from-byte (at + 1) b refl ∙ ap (λ (l : List ℕ). variableKind ∷ l) (from-place s (at + 1) (at + 2) h (omega arith));
-    ends = refl;
-    inside = omega arith;
-  }
+  variable-here b h = record { bytes = with-body b h; ends = refl; inside = omega arith }
 
-  pub pattern-here : Byte s at patternKind → at + 3 < length s
-      → Stands s at (at + 4) (pattern (record { mask = getD s (at + 1) 0; first = getD s (at + 2) 0; last = getD s (at + 3) 0 }))
-  pattern-here b h = record {
-    bytes = from-byte (at + 1) b refl
-        ∙ ap (λ (l : List ℕ). patternKind ∷ l) (from-place s (at + 1) (at + 2) (omega arith) (omega arith)
-        ∙ ap (λ (l : List ℕ). getD s (at + 1) 0 ∷ l) (from-place s (at + 2) (at + 3) (omega arith) (omega arith)
-        ∙ ap (λ (l : List ℕ). getD s (at + 2) 0 ∷ l) (from-place s (at + 3) (at + 4) h (omega arith))));
-    ends = refl;
-    inside = omega arith;
-  }
+  pub pattern-here : (p : Pattern) → Byte s at patternKind → Byte s (at + 1) (p .mask) → Byte s (at + 2) (p .first) → Byte s (at + 3) (p .last)
+      → Stands s at (at + 4) (pattern p)
+  pattern-here p b mask first last =
+      record { bytes = pattern-bytes s at p b mask first last; ends = refl; inside = omega (arith, last .inside) }
 
   pub pattern-stood : {p : Pattern} → Byte s at patternKind → PatternStands s at p → Stands s at (at + 4) (pattern p)
-  pattern-stood {p} b h = record { bytes = pattern-bytes s at p b h; ends = refl; inside = omega (arith, h .last .inside) }
+  pattern-stood {p} b h = pattern-here p b (h .mask) (h .first) (h .last)
 
   pub node-here : {n : ℕ} {g : Guards} {r : NodeRecord} → NodeStands s n at g r → Stands s at (r .next) (node (r .symbol)) × Allows guards n g (r .symbol)
   node-here (bare bare-truth b) = (record { bytes = from-byte (at + 1) b refl; ends = refl; inside = omega (arith, b .inside) }, tt)

@@ -15,8 +15,8 @@ pub record Agree (n : ℕ) (s t : List ℕ) : Type 0 where
   pub long′ : n ≤ length t
   pub same : (i : ℕ) → i < n → getD s i 0 ≡ getD t i 0
 
-pub inside : (n : ℕ) (s t : List ℕ) → Agree n s t → (i : ℕ) → i < n → (leb (length s) i ≡ false) × (leb (length t) i ≡ false)
-inside n s t a i h = (lt-leb (length s) i (omega (arith, a .long)), lt-leb (length t) i (omega (arith, a .long′)))
+pub agree-inside : (n : ℕ) (s t : List ℕ) → Agree n s t → (i : ℕ) → i < n → (leb (length s) i ≡ false) × (leb (length t) i ≡ false)
+agree-inside n s t a i h = (lt-leb (length s) i (omega (arith, a .long)), lt-leb (length t) i (omega (arith, a .long′)))
 
 -- What is said alike of files that agree in n bytes is settled by n bytes.
 pub settled : {A : Type 0} (said : List ℕ → A) (n : ℕ) → ((s t : List ℕ) → Agree n s t → said s ≡ said t)

@@ -11,7 +11,7 @@ use Rattle.reading.specs.File.{accepted, andThen, recordsAt, patternAt, 
 use Rattle.reading.specs.File.{NodeRecord, necessityAt, variableAt, nodeAt, Parsed, formulaAt, formulaOf, endOfFile, ruleOf}
 use Rattle.reading.specs.Promises.{SettledByFirstBytes, NotByFewer}
 use Rattle.reading.specs.declared.Pattern.{Pattern}
-use Rattle.reading.proofs.Settling.Agreement.{Agree, inside, settled}
+use Rattle.reading.proofs.Settling.Agreement.{Agree, agree-inside, settled}
 use Rattle.reading.proofs.Basics.Outcomes.{andThen-agree-both}
 use Rattle.reading.proofs.Basics.ByteLaws.{bytes-append}
 use Rattle.reading.proofs.RecordLists.RecordsAgree.{FormatsAgree, records-agree, records-next}
@@ -51,24 +51,24 @@ module _ (bound : ℕ) (s : List ℕ) (n at left : ℕ) (g : Guards) where
 module _ (s t : List ℕ) (a : Agree 257 s t) where
   pattern-agrees : (at : ℕ) → at + 3 < 257 → patternAt s at ≡ patternAt t at
   pattern-agrees at h =
-      let last = inside 257 s t a (at + 3) h in
+      let last = agree-inside 257 s t a (at + 3) h in
       rw (last .0, last .1, a .same (at + 1) (omega arith), a .same (at + 2) (omega arith), a .same (at + 3) h)
 
   is-pattern-agrees : (at : ℕ) → at < 257 → isPattern s at ≡ isPattern t at
   is-pattern-agrees at h = rw (lt-ltb at (length s) (omega (arith, a .long)), lt-ltb at (length t) (omega (arith, a .long′)), a .same at h)
 
   necessity-agrees : (n at : ℕ) → at + 1 < 257 → necessityAt s n at ≡ necessityAt t n at
-  necessity-agrees n at h = rw (inside 257 s t a (at + 1) h .0, inside 257 s t a (at + 1) h .1, a .same (at + 1) h)
+  necessity-agrees n at h = rw (agree-inside 257 s t a (at + 1) h .0, agree-inside 257 s t a (at + 1) h .1, a .same (at + 1) h)
 
   variable-agrees : (g : Guards) (at : ℕ) → at + 1 < 257 → variableAt s g at ≡ variableAt t g at
-  variable-agrees g at h = rw (inside 257 s t a (at + 1) h .0, inside 257 s t a (at + 1) h .1, a .same (at + 1) h)
+  variable-agrees g at h = rw (agree-inside 257 s t a (at + 1) h .0, agree-inside 257 s t a (at + 1) h .1, a .same (at + 1) h)
 
   node-agrees : (n at left : ℕ) (g : Guards) → at + 2 * left ≤ 256 → nodeAt s n at left g ≡ nodeAt t n at left g
   node-agrees n at zero g h =
-      let here = inside 257 s t a at (omega arith) in
+      let here = agree-inside 257 s t a at (omega arith) in
       rw (here .0, here .1, a .same at (omega arith))
   node-agrees n at (suc left) g h =
-      let here = inside 257 s t a at (omega arith) in
+      let here = agree-inside 257 s t a at (omega arith) in
       rw (here .0, here .1, a .same at (omega arith), necessity-agrees n at (omega arith), variable-agrees g at (omega arith))
 
   formula-agrees : (bound n at left : ℕ) (g : Guards) → Room bound at left → formulaOf s n at left g ≡ formulaOf t n at left g
