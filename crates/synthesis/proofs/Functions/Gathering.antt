@@ -67,7 +67,8 @@ gather-step xs all rest i h = has-ext _ _ (λ m. (stepped-in-whole m, whole-in-s
 
     gathered-in-stepped : (m n : ℕ) → Has rest n → Has (getD xs n 0) m → Dec (i ≡ n) → Has (union (union all ownSet) otherSets) m
     gathered-in-stepped m n r a (yes q) = has-union-first (union all ownSet) otherSets m (has-union-second all ownSet m (rw q a))
-    gathered-in-stepped m n r a (no q) = has-union-second (union all ownSet) otherSets m (gathered-has xs (toggled rest i) m .1 (n, toggled-other rest i n q .1 r, a))
+    gathered-in-stepped m n r a (no q) =
+        has-union-second (union all ownSet) otherSets m (gathered-has xs (toggled rest i) m .1 (n, toggled-other rest i n q .1 r, a))
 
     whole-in-stepped : (m : ℕ) → Has (union all (gathered xs rest)) m → Has (union (union all ownSet) otherSets) m
     whole-in-stepped m =

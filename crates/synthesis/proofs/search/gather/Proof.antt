@@ -26,7 +26,8 @@ lowest-below-64 c = lowest-lt _ (c .loop-test .taken) (rest-below-word c)
 lowest-member : (c : tie.In-loop Inv-loop μ-loop) → Has (c .before .loop .rest) (trailingZeros 64 (c .before .loop .rest))
 lowest-member c = has-lowest _ (c .loop-test .taken) (rest-below-word c)
 
-rest-without-lowest : (c : tie.In-loop Inv-loop μ-loop) → let rest = c .before .loop .rest in intersection rest (rest - 1) ≡ toggled rest (trailingZeros 64 rest)
+rest-without-lowest : (c : tie.In-loop Inv-loop μ-loop)
+    → let rest = c .before .loop .rest in intersection rest (rest - 1) ≡ toggled rest (trailingZeros 64 rest)
 rest-without-lowest c = without-lowest 64 _ (omega (arith, c .loop-test .taken)) (rest-below-word c)
 
 without-lowest-less : (c : tie.In-loop Inv-loop μ-loop) → let rest = c .before .loop .rest in toggled rest (trailingZeros 64 rest) < rest
