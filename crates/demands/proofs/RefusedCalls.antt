@@ -108,5 +108,7 @@ module _ (s table f : List ℕ) (bytes : Bytes s) (bytes′ : Bytes f) where
 
   pub judge-refused : (answer : Judged) → JudgedAs (judging s table f) answer
       → Exactly answer Judged′.Refused (JudgeRefused s (length table) f)
-  judge-refused answer judged number place =
-      (λ e. judge-refusal-clause number place (rw e at judged), λ h. refusal-only-answer (judging s table f) answer number place judged (judge-clause-refuses h))
+  judge-refused answer judged number place = (
+    λ e. judge-refusal-clause number place (rw e at judged),
+    λ h. refusal-only-answer (judging s table f) answer number place judged (judge-clause-refuses h),
+  )

@@ -7,9 +7,9 @@ use Rattle.commands.proofs.print_answer.Statement.{statement}
 use Rattle.commands.proofs.print_answer.Tie as tie
 
 -- a flag as a number of lines
-one-line : (written : Bool) → boolByte written ≡ cond written 1 0
-one-line true = refl
-one-line false = refl
+bool-byte-is : (written : Bool) → boolByte written ≡ cond written 1 0
+bool-byte-is true = refl
+bool-byte-is false = refl
 
 enum-known-answer : tie.Need-enum-known-answer
 enum-known-answer c = search needs
@@ -43,7 +43,7 @@ returns c =
 returns-2 : tie.Need-returns-2
 returns-2 c =
     let told = c .before .before .before .before in
-    rw (told .answer2 .given .1) (one-line (c .print-line .result))
+    rw (told .answer2 .given .1) (bool-byte-is (c .print-line .result))
 
 pub print-answer-spec : {M : Type 1} → statement M
 print-answer-spec =

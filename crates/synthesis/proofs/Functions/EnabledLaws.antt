@@ -47,7 +47,10 @@ module _ {n : NumberedRule} {k : ℕ} {enabled : List ℕ} (r : Rule) (num : IsN
       ap (λ (ps : List Pattern). getD ps (getD (n .args) k 0) noPattern) (num .patterns-are) ∙ pattern-at r (getD (n .args) k 0)
 
   own-pattern-covers : k < size (r .formula) → getD (n .kinds) k 0 ≡ 5 → (c : ℕ) → (covers ownPattern c ≡ true) ↔ IsEnabled r c k
-  own-pattern-covers h q c = (λ t. let node = node-exists (r .formula) k h in covers-enabled t (node .2) (node-resolves (num .is-rule) (node .2) q), enabled-covers)
+  own-pattern-covers h q c = (
+    λ t. let node = node-exists (r .formula) k h in covers-enabled t (node .2) (node-resolves (num .is-rule) (node .2) q),
+    enabled-covers,
+  )
     where
       covers-enabled : covers ownPattern c ≡ true → {ms : List EnclosingMax} {f : Formula} → Node (r .formula) k ms f
           → Resolves (r .formula) k ms 5 (getD (n .args) k 0) f → IsEnabled r c k

@@ -47,11 +47,11 @@ pub gather-step : (xs : List ℕ) (all rest i : ℕ) → Has rest i
     → union (union all (getD xs i 0)) (gathered xs (toggled rest i)) ≡ union all (gathered xs rest)
 gather-step xs all rest i h = has-ext _ _ (λ m. (stepped-in-whole m, whole-in-stepped m))
   where
-    one : ℕ
-    one = getD xs i 0
+    ownSet : ℕ
+    ownSet = getD xs i 0
 
-    others : ℕ
-    others = gathered xs (toggled rest i)
+    otherSets : ℕ
+    otherSets = gathered xs (toggled rest i)
 
     toggled-member : (n : ℕ) → Has (toggled rest i) n → Dec (i ≡ n) → Has rest n
     toggled-member n k (yes q) = rw (← q) h
@@ -60,18 +60,19 @@ gather-step xs all rest i h = has-ext _ _ (λ m. (stepped-in-whole m, whole-in-s
     gathered-in-whole : (m n : ℕ) → Has rest n → Has (getD xs n 0) m → Has (union all (gathered xs rest)) m
     gathered-in-whole m n r a = has-union-second all (gathered xs rest) m (gathered-has xs rest m .1 (n, r, a))
 
-    stepped-in-whole : (m : ℕ) → Has (union (union all one) others) m → Has (union all (gathered xs rest)) m
+    stepped-in-whole : (m : ℕ) → Has (union (union all ownSet) otherSets) m → Has (union all (gathered xs rest)) m
     stepped-in-whole m =
-        union-cases (union all one) others m (union-cases all one m (has-union-first all (gathered xs rest) m) (gathered-in-whole m i h))
+        union-cases (union all ownSet) otherSets m (union-cases all ownSet m (has-union-first all (gathered xs rest) m) (gathered-in-whole m i h))
         (λ a. let (n, k, x) = gathered-has xs (toggled rest i) m .0 a in gathered-in-whole m n (toggled-member n k (ℕ-discrete i n)) x)
 
-    gathered-in-stepped : (m n : ℕ) → Has rest n → Has (getD xs n 0) m → Dec (i ≡ n) → Has (union (union all one) others) m
-    gathered-in-stepped m n r a (yes q) = has-union-first (union all one) others m (has-union-second all one m (rw q a))
-    gathered-in-stepped m n r a (no q) = has-union-second (union all one) others m (gathered-has xs (toggled rest i) m .1 (n, toggled-other rest i n q .1 r, a))
+    gathered-in-stepped : (m n : ℕ) → Has rest n → Has (getD xs n 0) m → Dec (i ≡ n) → Has (union (union all ownSet) otherSets) m
+    gathered-in-stepped m n r a (yes q) = has-union-first (union all ownSet) otherSets m (has-union-second all ownSet m (rw q a))
+    gathered-in-stepped m n r a (no q) =
+        has-union-second (union all ownSet) otherSets m (gathered-has xs (toggled rest i) m .1 (n, toggled-other rest i n q .1 r, a))
 
-    whole-in-stepped : (m : ℕ) → Has (union all (gathered xs rest)) m → Has (union (union all one) others) m
+    whole-in-stepped : (m : ℕ) → Has (union all (gathered xs rest)) m → Has (union (union all ownSet) otherSets) m
     whole-in-stepped m =
-        union-cases all (gathered xs rest) m (λ a. has-union-first (union all one) others m (has-union-first all one m a))
+        union-cases all (gathered xs rest) m (λ a. has-union-first (union all ownSet) otherSets m (has-union-first all ownSet m a))
         (λ a. let (n, r, x) = gathered-has xs rest m .0 a in gathered-in-stepped m n r x (ℕ-discrete i n))
 
 pub gather-none : (xs : List ℕ) (all : ℕ) → union all (gathered xs emptySet) ≡ all

@@ -168,10 +168,10 @@ distinct-rest x l d i h = on (eqb (getD l i 0) x) refl (d (suc i) (omega arith))
 pub distinct-fits : (l m : List ℕ) → Distinct l → ((i : ℕ) → i < length l → Member (getD l i 0) m) → length l ≤ length m
 distinct-fits [] m d h = omega arith
 distinct-fits (x ∷ l) m d h =
-    omega (arith, without-length x m (h 0 (omega arith)), distinct-fits l (without x m) (λ i k. rest i k .1) others)
+    omega (arith, without-length x m (h 0 (omega arith)), distinct-fits l (without x m) (λ i k. rest-distinct i k .1) others-members)
   where
-    rest : (i : ℕ) → i < length l → (getD l i 0 ≡ x → ⊥) × (indexOf (getD l i 0) l ≡ i)
-    rest = distinct-rest x l d
+    rest-distinct : (i : ℕ) → i < length l → (getD l i 0 ≡ x → ⊥) × (indexOf (getD l i 0) l ≡ i)
+    rest-distinct = distinct-rest x l d
 
-    others : (i : ℕ) → i < length l → Member (getD l i 0) (without x m)
-    others i k = without-member x (getD l i 0) m (rest i k .0) (h (suc i) (omega arith))
+    others-members : (i : ℕ) → i < length l → Member (getD l i 0) (without x m)
+    others-members i k = without-member x (getD l i 0) m (rest-distinct i k .0) (h (suc i) (omega arith))

@@ -60,7 +60,8 @@ module _ (limit mark : ℕ) (s table : List ℕ) where
       (λ r read satisfiable few. holds r (record { read = read; satisfiable = satisfiable; few = few; room = omega (arith, enough .0) })) y
       (enough .1))
 
-  pub accepted-well-formed : (y : Synthesis) → buildingOf limit s (length table) ≡ accepted y → WellFormedTable limit mark (length (y .equations)) (tableLeft limit mark s table)
+  pub accepted-well-formed : (y : Synthesis) → buildingOf limit s (length table) ≡ accepted y
+      → WellFormedTable limit mark (length (y .equations)) (tableLeft limit mark s table)
   accepted-well-formed = leaves-admitted (λ y t. WellFormedTable limit mark (length (y .equations)) t) λ r admits.
       let l = equationsOf limit r in
       record {
@@ -97,7 +98,8 @@ module _ (limit mark : ℕ) (s table : List ℕ) where
         }
 
     module _ (bytes : Bytes s) where
-      pub built-monitors : (y : Synthesis) → buildingOf limit s (length table) ≡ accepted y → Monitors (y .rule) (lookup 256 mark (tableLeft limit mark s table)) 0
+      pub built-monitors : (y : Synthesis) → buildingOf limit s (length table) ≡ accepted y
+          → Monitors (y .rule) (lookup 256 mark (tableLeft limit mark s table)) 0
       built-monitors = leaves-admitted (λ y t. Monitors (y .rule) (lookup 256 mark t) 0) λ r admits.
           let l = equationsOf limit r in
           let t = lookup 256 mark (rowsFor r) in

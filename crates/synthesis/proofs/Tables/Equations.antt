@@ -100,16 +100,16 @@ module _ (limit : ℕ) (r : Rule) where
   closed-longer es closed =
       let l = found 256 (answerOf r) limit (firstOf r) in
       distinct-fits l es (found-distinct 256 (answerOf r) limit (firstOf r))
-      (λ i h. all-at (λ e. Member e es) l i 0 (found-inside 256 (answerOf r) es (firstOf r) first under limit) h)
+      (λ i h. all-at (λ e. Member e es) l i 0 (found-inside 256 (answerOf r) es (firstOf r) closed-first closed-under limit) h)
     where
-      member : (e : ℕ) → (i : ℕ) × (i < length es) × (getD es i 0 ≡ e) → Member e es
-      member e at = member-at e es (at .0) (at .1) (at .2)
+      closed-member : (e : ℕ) → (i : ℕ) × (i < length es) × (getD es i 0 ≡ e) → Member e es
+      closed-member e at = member-at e es (at .0) (at .1) (at .2)
 
-      first : Member (firstOf r) es
-      first = member (firstOf r) (closed .first)
+      closed-first : Member (firstOf r) es
+      closed-first = closed-member (firstOf r) (closed .first)
 
-      under : ClosedUnder 256 (answerOf r) es
-      under i c e h b q = member e (closed .follows i c e h b q)
+      closed-under : ClosedUnder 256 (answerOf r) es
+      closed-under i c e h b q = closed-member e (closed .follows i c e h b q)
 
   -- ---- their members are necessities
 
@@ -168,14 +168,14 @@ reaches-equations limit s bytes r n read e =
     (y .0) (y .1) (accepts-as limit s r read (y .0) (y .1))
 
 pub refuses-too-many : RefusesTooMany
-refuses-too-many limit s r read satisfiable = (over, none)
+refuses-too-many limit s r read satisfiable = (refused-nine-none-closed, none-closed-refused-nine)
   where
-    over : countedOf (synthesisOf limit s) ≡ Refused 9 0 → (es : List ℕ) → length es ≤ limit → Closed r es → ⊥
-    over e es few closed =
+    refused-nine-none-closed : countedOf (synthesisOf limit s) ≡ Refused 9 0 → (es : List ℕ) → length es ≤ limit → Closed r es → ⊥
+    refused-nine-none-closed e es few closed =
         omega (arith, refused-nine limit s r read (counted-refuses (synthesisOf limit s) 9 0 e), closed-longer limit r es closed)
 
-    none : ((es : List ℕ) → length es ≤ limit → Closed r es → ⊥) → countedOf (synthesisOf limit s) ≡ Refused 9 0
-    none h = on (unsatisfiable r) refl (decLt limit (length (equationsOf limit r)))
+    none-closed-refused-nine : ((es : List ℕ) → length es ≤ limit → Closed r es → ⊥) → countedOf (synthesisOf limit s) ≡ Refused 9 0
+    none-closed-refused-nine h = on (unsatisfiable r) refl (decLt limit (length (equationsOf limit r)))
       where
         on : (b : Bool) → unsatisfiable r ≡ b → Dec (limit < length (equationsOf limit r)) → countedOf (synthesisOf limit s) ≡ Refused 9 0
         on true q d = absurd (satisfiable (rw (refuses-eight limit s r read q)))

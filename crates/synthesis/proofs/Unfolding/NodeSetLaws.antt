@@ -50,25 +50,25 @@ unfolding bit
 has-none n h = no-bit (0 / 2 ^ n) (zero-div (2 ^ n)) h
 
 pub has-union : (a b n : ℕ) → Has (union a b) n ↔ (Has a n ⊎ Has b n)
-has-union a b n = (λ h. either _ _ (sym (bit-union a b n) ∙ h) (bit-small n a) (bit-small n b), back)
+has-union a b n = (λ h. max-one-either _ _ (sym (bit-union a b n) ∙ h) (bit-small n a) (bit-small n b), either-has-union)
   where
-    either : (x y : ℕ) → max x y ≡ 1 → x < 2 → y < 2 → (x ≡ 1) ⊎ (y ≡ 1)
-    either zero y e h k = inr (omega arith)
-    either (suc x) y e h k = inl (omega arith)
+    max-one-either : (x y : ℕ) → max x y ≡ 1 → x < 2 → y < 2 → (x ≡ 1) ⊎ (y ≡ 1)
+    max-one-either zero y e h k = inr (omega arith)
+    max-one-either (suc x) y e h k = inl (omega arith)
 
-    most : (x y : ℕ) → (x ≡ 1) ⊎ (y ≡ 1) → x < 2 → y < 2 → max x y ≡ 1
-    most x y (inl e) h k = omega arith
-    most x y (inr e) h k = omega arith
+    either-max-one : (x y : ℕ) → (x ≡ 1) ⊎ (y ≡ 1) → x < 2 → y < 2 → max x y ≡ 1
+    either-max-one x y (inl e) h k = omega arith
+    either-max-one x y (inr e) h k = omega arith
 
-    back : Has a n ⊎ Has b n → Has (union a b) n
-    back h = bit-union a b n ∙ most _ _ h (bit-small n a) (bit-small n b)
+    either-has-union : Has a n ⊎ Has b n → Has (union a b) n
+    either-has-union h = bit-union a b n ∙ either-max-one _ _ h (bit-small n a) (bit-small n b)
 
 pub has-common : (a b n : ℕ) → Has (intersection a b) n ↔ (Has a n × Has b n)
 has-common a b n =
-    (λ h. least _ _ (sym (bit-common a b n) ∙ h) (bit-small n a) (bit-small n b), λ h. bit-common a b n ∙ rw (h .0, h .1))
+    (λ h. min-one-both _ _ (sym (bit-common a b n) ∙ h) (bit-small n a) (bit-small n b), λ h. bit-common a b n ∙ rw (h .0, h .1))
   where
-    least : (x y : ℕ) → min x y ≡ 1 → x < 2 → y < 2 → (x ≡ 1) × (y ≡ 1)
-    least x y e h k = (omega arith, omega arith)
+    min-one-both : (x y : ℕ) → min x y ≡ 1 → x < 2 → y < 2 → (x ≡ 1) × (y ≡ 1)
+    min-one-both x y e h k = (omega arith, omega arith)
 
 pub has-singleton : (k : ℕ) → Has (singleton k) k
 unfolding bit
@@ -127,11 +127,11 @@ no-member-empty e h = has-ext e emptySet (λ n. (λ x. absurd (h n x), λ x. abs
 
 -- a set that isn't none has a member
 pub nonempty-member : (e : ℕ) → 0 < e → (n : ℕ) × Has e n
-nonempty-member e h = below e e (omega arith) h
+nonempty-member e h = nonempty-member-below e e (omega arith) h
   where
-    below : (k e : ℕ) → e ≤ k → 0 < e → (n : ℕ) × Has e n
-    below zero e p h = absurd (omega arith)
-    below (suc k) e p h = on (e % 2) refl (below k (e / 2))
+    nonempty-member-below : (k e : ℕ) → e ≤ k → 0 < e → (n : ℕ) × Has e n
+    nonempty-member-below zero e p h = absurd (omega arith)
+    nonempty-member-below (suc k) e p h = on (e % 2) refl (nonempty-member-below k (e / 2))
       where
         on : (d : ℕ) → e % 2 ≡ d → (e / 2 ≤ k → 0 < e / 2 → (n : ℕ) × Has (e / 2) n) → (n : ℕ) × Has e n
         on zero q ih = let r = ih (omega arith) (omega arith) in (suc (r .0), half-has e (r .0) .0 (r .1))
@@ -167,27 +167,27 @@ toggled-other e k n d = (λ h. sym bit-same ∙ h, λ h. bit-same ∙ h)
 
 pub toggled-lt : (e k : ℕ) → Has e k → toggled e k < e
 toggled-lt e k h =
-    less (toggled e k) (intersection e (singleton k)) e (singleton k) inside (xor-add-and e (singleton k)) (one-le-pow k 2 (omega arith))
+    less-by-common (toggled e k) (intersection e (singleton k)) e (singleton k) singleton-inside (xor-add-and e (singleton k)) (one-le-pow k 2 (omega arith))
   where
-    member : (n : ℕ) → k ≡ n → Has e n
-    member n q = rw (← q) h
+    same-node-member : (n : ℕ) → k ≡ n → Has e n
+    same-node-member n q = rw (← q) h
 
-    inside : intersection e (singleton k) ≡ singleton k
-    inside = has-ext (intersection e (singleton k)) (singleton k) (λ n.
-        (λ x. has-common e (singleton k) n .0 x .1, λ x. has-common e (singleton k) n .1 (member n (singleton-has k n x), x)))
+    singleton-inside : intersection e (singleton k) ≡ singleton k
+    singleton-inside = has-ext (intersection e (singleton k)) (singleton k) (λ n.
+        (λ x. has-common e (singleton k) n .0 x .1, λ x. has-common e (singleton k) n .1 (same-node-member n (singleton-has k n x), x)))
 
-    less : (x c e s : ℕ) → c ≡ s → x + c * 2 ≡ e + s → 0 < s → x < e
-    less x c e s p q r = omega arith
+    less-by-common : (x c e s : ℕ) → c ≡ s → x + c * 2 ≡ e + s → 0 < s → x < e
+    less-by-common x c e s p q r = omega arith
 
 -- ---- a set without its lowest member
 
 -- an operation that goes digit by digit, from the halves and the lowest digits of two numbers
-digits : (op digit : ℕ → ℕ → ℕ) → ((a b : ℕ) → op a b ≡ op (a / 2) (b / 2) * 2 + digit (a % 2) (b % 2))
+digit-wise : (op digit : ℕ → ℕ → ℕ) → ((a b : ℕ) → op a b ≡ op (a / 2) (b / 2) * 2 + digit (a % 2) (b % 2))
     → (a b x y u v : ℕ) → a / 2 ≡ x → b / 2 ≡ y → a % 2 ≡ u → b % 2 ≡ v → op a b ≡ op x y * 2 + digit u v
-digits op digit step a b x y u v p q r s = step a b ∙ rw (p, q, r, s) refl
+digit-wise op digit step a b x y u v p q r s = step a b ∙ rw (p, q, r, s) refl
 
-doubles : (z w x y : ℕ) → z ≡ x * 2 + 0 → w ≡ y * 2 + 0 → x ≡ y → z ≡ w
-doubles z w x y p q e = omega arith
+doubles-same : (z w x y : ℕ) → z ≡ x * 2 + 0 → w ≡ y * 2 + 0 → x ≡ y → z ≡ w
+doubles-same z w x y p q e = omega arith
 
 half-double : (x y : ℕ) → y ≡ x * 2 → y / 2 ≡ x
 half-double x y h = omega arith
@@ -209,9 +209,9 @@ without-lowest (suc k) e p h = on (e % 2) refl (without-lowest k (e / 2))
     on zero q ih =
         let t = trailingZeros k (e / 2) in
         let double = pow-suc 2 t in
-        doubles _ _ _ _ (digits bitAnd min and-step e (e - 1) (e / 2) (e / 2 - 1) 0 1 refl (omega arith) q (omega arith))
-        (digits bitXor differ xor-step e (2 ^ suc t) (e / 2) (2 ^ t) 0 0 refl (half-double _ _ double) q (even-double _ _ double))
+        doubles-same _ _ _ _ (digit-wise bitAnd min and-step e (e - 1) (e / 2) (e / 2 - 1) 0 1 refl (omega arith) q (omega arith))
+        (digit-wise bitXor differ xor-step e (2 ^ suc t) (e / 2) (2 ^ t) 0 0 refl (half-double _ _ double) q (even-double _ _ double))
         (ih (omega arith) half)
     on (suc d) q ih =
-        doubles _ _ _ _ (digits bitAnd min and-step e (e - 1) (e / 2) (e / 2) 1 0 refl (omega arith) (omega arith) (omega arith))
-        (digits bitXor differ xor-step e 1 (e / 2) 0 1 1 refl refl (omega arith) refl) (and-self (e / 2) ∙ sym (xor-zero-r (e / 2)))
+        doubles-same _ _ _ _ (digit-wise bitAnd min and-step e (e - 1) (e / 2) (e / 2) 1 0 refl (omega arith) (omega arith) (omega arith))
+        (digit-wise bitXor differ xor-step e 1 (e / 2) 0 1 1 refl refl (omega arith) refl) (and-self (e / 2) ∙ sym (xor-zero-r (e / 2)))

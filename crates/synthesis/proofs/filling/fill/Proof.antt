@@ -20,8 +20,8 @@ abbrev μ-loop : tie.MeasureT-loop
 μ-loop after enabled falsities found n table₀ k₀ table k = n - k
 
 -- the table stays as long as it was
-keeps : (c : tie.At-loop Inv-loop μ-loop) → length (c .loop .table) ≡ length (c .before .before .before .before .before .args .table .now)
-keeps c = rows-keep-length 255 _ _ 256 _ _ _ (c .loop .inv .1) (search needs)
+length-kept : (c : tie.At-loop Inv-loop μ-loop) → length (c .loop .table) ≡ length (c .before .before .before .before .before .args .table .now)
+length-kept c = rows-keep-length 255 _ _ 256 _ _ _ (c .loop .inv .1) (search needs)
 
 loop-holds : tie.Need-loop-holds Inv-loop μ-loop
 unfolding rows
@@ -46,11 +46,11 @@ part-fill-row-start : tie.Need-part-fill-row-start Inv-loop μ-loop
 part-fill-row-start c = search needs
 
 part-fill-row-end : tie.Need-part-fill-row-end Inv-loop μ-loop
-part-fill-row-end c = omega (arith, keeps (c .before .before))
+part-fill-row-end c = omega (arith, length-kept (c .before .before))
 
 fill-row-requires : tie.Need-fill-row-requires Inv-loop μ-loop
 fill-row-requires c κs =
-    let kept = keeps (c .before .before .before) in
+    let kept = length-kept (c .before .before .before) in
     (search needs, search needs, search needs, search needs, simp (length-take, length-drop) (omega arith))
 
 add-k : tie.Need-add-k Inv-loop μ-loop
@@ -69,7 +69,7 @@ loop-again c =
     )
 
 same-length : tie.Need-same-length Inv-loop μ-loop
-same-length c = keeps (c .before)
+same-length c = length-kept (c .before)
 
 returns : tie.Need-returns Inv-loop μ-loop
 returns c =

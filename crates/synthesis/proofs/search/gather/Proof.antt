@@ -17,46 +17,47 @@ abbrev μ-loop : tie.MeasureT-loop
 μ-loop sets live rest₀ all₀ rest all = rest
 
 -- the rest of a set of 64 bits, in a turn
-small : (c : tie.In-loop Inv-loop μ-loop) → c .before .loop .rest < 2 ^ 64
-small c = omega (arith, c .before .loop .inv .0, c .before .before .fits .live .fits)
+rest-below-word : (c : tie.In-loop Inv-loop μ-loop) → c .before .loop .rest < 2 ^ 64
+rest-below-word c = omega (arith, c .before .loop .inv .0, c .before .before .fits .live .fits)
 
-low : (c : tie.In-loop Inv-loop μ-loop) → trailingZeros 64 (c .before .loop .rest) < 64
-low c = lowest-lt _ (c .loop-test .taken) (small c)
+lowest-below-64 : (c : tie.In-loop Inv-loop μ-loop) → trailingZeros 64 (c .before .loop .rest) < 64
+lowest-below-64 c = lowest-lt _ (c .loop-test .taken) (rest-below-word c)
 
-member : (c : tie.In-loop Inv-loop μ-loop) → Has (c .before .loop .rest) (trailingZeros 64 (c .before .loop .rest))
-member c = has-lowest _ (c .loop-test .taken) (small c)
+lowest-member : (c : tie.In-loop Inv-loop μ-loop) → Has (c .before .loop .rest) (trailingZeros 64 (c .before .loop .rest))
+lowest-member c = has-lowest _ (c .loop-test .taken) (rest-below-word c)
 
-one-out : (c : tie.In-loop Inv-loop μ-loop) → let rest = c .before .loop .rest in intersection rest (rest - 1) ≡ toggled rest (trailingZeros 64 rest)
-one-out c = without-lowest 64 _ (omega (arith, c .loop-test .taken)) (small c)
+rest-without-lowest : (c : tie.In-loop Inv-loop μ-loop)
+    → let rest = c .before .loop .rest in intersection rest (rest - 1) ≡ toggled rest (trailingZeros 64 rest)
+rest-without-lowest c = without-lowest 64 _ (omega (arith, c .loop-test .taken)) (rest-below-word c)
 
-out : (c : tie.In-loop Inv-loop μ-loop) → let rest = c .before .loop .rest in toggled rest (trailingZeros 64 rest) < rest
-out c = toggled-lt _ _ (member c)
+without-lowest-less : (c : tie.In-loop Inv-loop μ-loop) → let rest = c .before .loop .rest in toggled rest (trailingZeros 64 rest) < rest
+without-lowest-less c = toggled-lt _ _ (lowest-member c)
 
 loop-holds : tie.Need-loop-holds Inv-loop μ-loop
 loop-holds c = (omega arith, refl)
 
 cast-i : tie.Need-cast-i Inv-loop μ-loop
-cast-i c = omega (arith, low c)
+cast-i c = omega (arith, lowest-below-64 c)
 
 mul-all : tie.Need-mul-all Inv-loop μ-loop
-mul-all c = omega (arith, low c)
+mul-all c = omega (arith, lowest-below-64 c)
 
 shared-slice-read-all : tie.Need-shared-slice-read-all Inv-loop μ-loop
-shared-slice-read-all c = omega (arith, low (c .before), c .before .before .before .pre)
+shared-slice-read-all c = omega (arith, lowest-below-64 (c .before), c .before .before .before .pre)
 
 sub-rest : tie.Need-sub-rest Inv-loop μ-loop
 sub-rest c = omega (arith, c .before .loop-test .taken)
 
 loop-less : tie.Need-loop-less Inv-loop μ-loop
-loop-less c = rw (one-out (c .before)) (out (c .before))
+loop-less c = rw (rest-without-lowest (c .before)) (without-lowest-less (c .before))
 
 loop-again : tie.Need-loop-again Inv-loop μ-loop
 loop-again c =
     let expanded = c .before in
     let l = expanded .before in
-    rw (one-out expanded) (
-      omega (arith, out expanded, l .loop .inv .0),
-      gather-step (l .before .args .sets .now) (l .loop .all) (l .loop .rest) _ (member expanded) ∙ l .loop .inv .1,
+    rw (rest-without-lowest expanded) (
+      omega (arith, without-lowest-less expanded, l .loop .inv .0),
+      gather-step (l .before .args .sets .now) (l .loop .all) (l .loop .rest) _ (lowest-member expanded) ∙ l .loop .inv .1,
     )
 
 returns : tie.Need-returns Inv-loop μ-loop
