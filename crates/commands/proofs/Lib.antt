@@ -1,3 +1,4 @@
 pub mod Leading
 pub mod Printing
 pub mod SiftingLaws
+pub mod Promises

@@ -9,12 +9,12 @@ use lib.ListN.{length}
 use Rattle.reading.specs.Rule.{Bytes}
 use Rattle.reading.specs.File.{Outcome, accepted, refused, ruleOf}
 use Rattle.reading.specs.Numbered.{readingOf}
-use Rattle.reading.proofs.Accepting.Accepted.{reading-accepts}
-use Rattle.reading.proofs.Settling.Prefix.{first-bytes}
+use Rattle.reading.proofs.Accepting.Accepted.{accepts-encodings}
+use Rattle.reading.proofs.Settling.Prefix.{settled-by-first-bytes as rule-settled}
 use Rattle.synthesis.specs.Building.{equationsOf, Synthesis, synthesisOf, buildingOf, countedOf, tableAfter}
 use Rattle.synthesis.proofs.Tables.Synthesized.{synthesis-accepts, building-accepts}
 use Rattle.models.specs.Judging.{judgingOf}
-use Rattle.models.proofs.Files.Settled.{settled-by-first-bytes}
+use Rattle.models.proofs.Files.Settled.{settled-by-first-bytes as model-settled}
 use Rattle.listing.specs.Positions.{linesFrom}
 use Rattle.listing.proofs.AllLines.{lists-rule}
 use Rattle.commands.specs.Printing.{textFor, ListingStops, Stops, printed}
@@ -32,7 +32,7 @@ accepted-prints s table lines bytes =
     (λ r read satisfiable few stops.
     let count = length (equationsOf 128 r) in
     lines-end (readingOf (ruleOf s) .rule) table count (stops .lead) (stops .ends refl) (34 + 256 * count)
-    ∙ rw read (lists-rule r table count (lines + (34 + 256 * count)) (reading-accepts s bytes r .0 read .0) (omega arith)))
+    ∙ rw read (lists-rule r table count (lines + (34 + 256 * count)) (accepts-encodings s bytes r .0 read .0) (omega arith)))
 
 pub prints-answer : PrintsAnswer
 prints-answer s table r bytes shows written =
@@ -47,8 +47,8 @@ prints-answer s table r bytes shows written =
 
 pub settled-by-buffer : SettledByBuffer
 unfolding buildingOf synthesisOf
-settled-by-buffer s capacity = rw (first-bytes s 4096 (omega arith))
+settled-by-buffer s capacity = rw (rule-settled s 4096 (omega arith))
 
 pub judgment-settled-by-buffer : JudgmentSettledByBuffer
 unfolding judgingOf
-judgment-settled-by-buffer s f capacity = rw (settled-by-buffer s capacity, settled-by-first-bytes f 4096 (omega arith))
+judgment-settled-by-buffer s f capacity = rw (settled-by-buffer s capacity, model-settled f 4096 (omega arith))

@@ -43,3 +43,13 @@ abbrev pub NoCallsRefused : Type 0
 NoCallsRefused =
     (s table : List ℕ) (number place : ℕ) → countedOf (buildingOf 128 s (length table)) ≡ Refused number place
     → (h : History) → Calls 128 255 (UnderRule (buildingOf 128 s (length table)) table) h → h ≡ noCalls
+
+-- ---- all of these
+
+-- The theorem `promises` has this type, so that each promise has its proof.
+pub record Promises : Type 0 where
+  pub prints-answer : PrintsAnswer
+  pub settled-by-buffer : SettledByBuffer
+  pub judgment-settled-by-buffer : JudgmentSettledByBuffer
+  pub sifts-by-rule : SiftsByRule
+  pub no-calls-refused : NoCallsRefused

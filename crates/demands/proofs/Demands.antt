@@ -6,7 +6,7 @@ use mathlib.Core.List.{List}
 use native.Mathlib.Omega.{arith}
 use lib.ListN.{length}
 use Rattle.reading.specs.Rule.{Rule}
-use Rattle.reading.proofs.Accepting.Accepted.{answer-accepted}
+use Rattle.reading.proofs.Accepting.Accepted.{answers-accepted as rules-accepted}
 use Rattle.reading.proofs.Refusing.FaultsRefused as rules
 use Rattle.synthesis.specs.Building.{Builds}
 use Rattle.synthesis.proofs.Tables.Built as building
@@ -74,7 +74,7 @@ pub demand-two : DemandTwo
 demand-two = record {
   drops = drops-exactly 128 255;
   takes = call-taken;
-  reads-rule = answer-accepted;
+  reads-rule = rules-accepted;
   reads-model = answers-accepted;
   builds = λ s table r n left. building.builds-iff 128 255 s table r n left (omega arith);
   accepts = accepts-exactly 128;

@@ -12,7 +12,7 @@ use borrow.Author.Tests.{ltb-true, ltb-false}
 use Rattle.reading.specs.Rule.{Rule, Bytes}
 use Rattle.reading.specs.File.{accepted, refused, ruleOf}
 use Rattle.reading.proofs.Basics.Outcomes.{refuse-refused, never-refused, andThen-refused}
-use Rattle.reading.proofs.Accepting.Accepted.{reading-accepts}
+use Rattle.reading.proofs.Accepting.Accepted.{accepts-encodings}
 use Rattle.reading.proofs.Refusing.FaultsRefused.{answer-refused, refuses-at-the-fault}
 use Rattle.synthesis.specs.Answering.{unsatisfiable}
 use Rattle.synthesis.specs.Building.{equationsOf, synthesisOfRule, synthesisOf, buildingOf, countedOf}
@@ -36,7 +36,7 @@ module _ (s : List ℕ) (bytes : Bytes s) where
   -- a rule that was read
   rule-refusal-clause : (r : Rule) → ruleOf s ≡ accepted r → (number place : ℕ) → synthesisOfRule 128 r ≡ refused number place → CountRefused s number place
   rule-refusal-clause r read number place e =
-      let (w, is) = reading-accepts s bytes r .0 read in
+      let (w, is) = accepts-encodings s bytes r .0 read in
       let outcome : synthesisOf 128 s ≡ synthesisOfRule 128 r = synthesis-of 128 s r read in
       refuse-refused (CountRefused s) (unsatisfiable r) 8 0 _ e
       (λ t. no-model r w is (refused-eight-iff r read .0 (rw (outcome, t))))
@@ -60,9 +60,9 @@ module _ (s : List ℕ) (bytes : Bytes s) where
   unfolding synthesisOf
   count-clause-refuses {number} {place} (in-file fault) =
       rw (answer-refused (ruleOf s) number place .1 (refuses-at-the-fault s bytes number place .1 fault))
-  count-clause-refuses (no-model r w is none) = refused-eight-iff r (reading-accepts s bytes r .1 (w, is)) .1 none
+  count-clause-refuses (no-model r w is none) = refused-eight-iff r (accepts-encodings s bytes r .1 (w, is)) .1 none
   count-clause-refuses (too-many r w is m finite satisfies over) =
-      let read = reading-accepts s bytes r .1 (w, is) in
+      let read = accepts-encodings s bytes r .1 (w, is) in
       refuses-too-many 128 s r read (λ e. refused-eight-iff r read .0 e m finite satisfies) .1 over
 
   pub count-refused : Exactly (countedOf (counting s)) Counted.Refused (CountRefused s)

@@ -8,3 +8,4 @@ pub mod Passing
 pub mod Responses
 pub mod Suppressing
 pub mod Enforcing
+pub mod Promises

@@ -64,3 +64,15 @@ BisimilarAlike = (m n : Model) → Bisimilar m n → (r : Rule) → Satisfies m 
 -- 7. A weak transition is a walk whose trace is its code alone.
 abbrev pub WeakWalks : Type 1
 WeakWalks = (m : Model) (s t : m .State) (c : ℕ) → Weak m s c t ↔ Walk m s (c ∷ []) t
+
+-- ---- all of these
+
+-- The theorem `promises` has this type, so that each promise has its proof.
+pub record Promises : Type 1 where
+  pub monitors-enforce : MonitorsEnforce
+  pub sound-satisfies : SoundSatisfies
+  pub runs-behind : RunsBehind
+  pub satisfies-safe : SatisfiesSafe
+  pub decided-satisfied : DecidedSatisfied
+  pub bisimilar-alike : BisimilarAlike
+  pub weak-walks : WeakWalks

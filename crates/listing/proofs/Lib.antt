@@ -5,3 +5,4 @@ pub mod LineLaws
 pub mod AllRuns
 pub mod AllLines
 pub mod LaterLines
+pub mod Promises

@@ -52,3 +52,13 @@ ShowsAnswers =
 pub record SpellsDecimal (n : ℕ) : Type 0 where
   pub one : n < 10 → decimal n ≡ digit n ∷ []
   pub more : 10 ≤ n → decimal n ≡ decimal (n / 10) ++ (digit (n % 10) ∷ [])
+
+-- ---- all of these
+
+-- The theorem `promises` has this type, so that each promise has its proof.
+pub record Promises : Type 0 where
+  pub lists-all : ListsAll
+  pub lists-rule : ListsRule
+  pub groups : (row : List ℕ) → Groups row
+  pub shows-answers : ShowsAnswers
+  pub spells-decimal : (n : ℕ) → SpellsDecimal n

@@ -4,3 +4,4 @@ pub mod Phones
 pub mod Pairs
 pub mod Verdicts
 pub mod Compiled
+pub mod Promises

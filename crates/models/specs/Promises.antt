@@ -50,7 +50,7 @@ JudgesExactly =
 
 -- What judging leaves in the table, in the terms of its contract: where the answer is a refusal, of the rule or of the model, all bytes as they were,
 -- and else exactly what building leaves.
-pub record TableLeft (answer : Judged) (before built after : List ℕ) : Type 0 where
+pub record JudgingLeaves (answer : Judged) (before built after : List ℕ) : Type 0 where
   pub refused : {number place : ℕ} → answer ≡ NotJudged number place → after ≡ before
   pub judged : (answer ≡ Meets) ⊎ (answer ≡ Breaks) → after ≡ built
 
@@ -58,7 +58,7 @@ abbrev pub RefusedUnchanged : Type 0
 RefusedUnchanged =
     (limit mark : ℕ) (s f table : List ℕ) (answer : Judged) → JudgedAs (judgingOf limit s (length table) f) answer →
     let built = tableLeft limit mark s table in
-    TableLeft answer table built (tableJudged (judgingOf limit s (length table) f) built table)
+    JudgingLeaves answer table built (tableJudged (judgingOf limit s (length table) f) built table)
 
 -- ---- which rules are accepted
 
@@ -134,3 +134,23 @@ NotByFewer =
 -- The model of a file is finite.
 abbrev pub PhonesFinite : Type 0
 PhonesFinite = (y : Phone) → Finite (modelOf y)
+
+-- ---- all of these
+
+-- The theorem `promises` has this type, so that each promise has its proof.
+pub record Promises : Type 1 where
+  pub tables-enforce : TablesEnforce
+  pub decided-satisfies : DecidedSatisfies
+  pub judges-exactly : JudgesExactly
+  pub refused-unchanged : RefusedUnchanged
+  pub accepts-exactly : AcceptsExactly
+  pub refuses-unsatisfiable : RefusesUnsatisfiable
+  pub accepts-phones : AcceptsPhones
+  pub one-phone : OnePhone
+  pub stores-model : (y : Phone) → StoresModel y
+  pub answers-accepted : AnswersAccepted
+  pub refuses-at-the-fault : RefusesAtTheFault
+  pub has-one-fault : HasOneFault
+  pub settled-by-first-bytes : SettledByFirstBytes
+  pub not-by-fewer : NotByFewer
+  pub phones-finite : PhonesFinite

@@ -7,3 +7,4 @@ pub mod Settling
 pub mod Numbering
 pub mod Functions
 pub mod Refusing
+pub mod Promises

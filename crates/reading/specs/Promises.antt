@@ -6,7 +6,7 @@ use mathlib.Core.Bool.{true}
 use mathlib.Core.List.{List, [], map}
 use lib.ListN.{length, getD, take}
 use lib.Count.{ones, trailingZeros}
-use Rattle.reading.specs.Pattern.{kindOf, slotOf, bit, covers, extentOf}
+use Rattle.reading.specs.Pattern.{kindOf, slotOf, bit, covers, extentOf, WellFormedPattern}
 use Rattle.reading.specs.Rule.{Formula, size, WellFormed, Rule, RuleWithinLimits, encode, Bytes}
 use Rattle.reading.specs.File.{accepted, refused, ruleOf}
 use Rattle.reading.specs.Faults.{Fault}
@@ -84,3 +84,19 @@ pub record MeasuresPattern (p : Pattern) : Type 0 where
   pub least : (code : ℕ) → covers p code ≡ true → extentOf p .lowest ≤ code
   pub by-zeros : extentOf p .lowest ≡ trailingZeros 8 (p .mask) * 32 + p .first
   pub by-ones : extentOf p .count ≡ ones (p .mask) * (p .last - p .first + 1)
+
+-- ---- all of these
+
+-- The theorem `promises` has this type, so that each promise has its proof.
+pub record Promises : Type 0 where
+  pub accepts-encodings : AcceptsEncodings
+  pub one-rule : OneRule
+  pub answers-accepted : AnswersAccepted
+  pub refuses-at-the-fault : RefusesAtTheFault
+  pub has-one-fault : HasOneFault
+  pub numbers-nodes : (r : Rule) → NumbersNodes r
+  pub numbers-patterns : (r : Rule) → NumbersPatterns r
+  pub settled-by-first-bytes : SettledByFirstBytes
+  pub not-by-fewer : NotByFewer
+  pub covers-means : CoversMeans
+  pub measures-pattern : (p : Pattern) → WellFormedPattern p → MeasuresPattern p

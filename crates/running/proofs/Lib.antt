@@ -15,3 +15,4 @@ pub mod Ranges
 pub mod Overlays
 pub mod Stepping
 pub mod Outcomes
+pub mod Promises

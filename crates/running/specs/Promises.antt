@@ -141,3 +141,16 @@ pub record OnlyFronts (s : State) (c : Call) (outcome : Outcome Run) : Type 0 wh
 abbrev pub RestUnchanged : Type 0
 RestUnchanged =
     (limit mark : ℕ) (s : State) (c : Call) → resultOf s (outcomeOf limit mark s c) .checked ≡ Fit → OnlyFronts s c (outcomeOf limit mark s c)
+
+-- ---- all of these
+
+-- The theorem `promises` has this type, so that each promise has its proof.
+pub record Promises : Type 0 where
+  pub drops-exactly : DropsExactly
+  pub two-calls : TwoCalls
+  pub conserves : Conserves
+  pub calls-conserve : CallsConserve
+  pub runs-on-tables : RunsOnTables
+  pub never-unfit : NeverUnfit
+  pub refused-unchanged : RefusedUnchanged
+  pub rest-unchanged : RestUnchanged

@@ -4,3 +4,4 @@ pub mod Monitors
 pub mod Numberings
 pub mod Tables
 pub mod Functions
+pub mod Promises

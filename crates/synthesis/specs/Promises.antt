@@ -221,3 +221,29 @@ pub record RowPart (table : List ℕ) (k : ℕ) : Type 0 where
 
 abbrev pub HandsBackRows : Type 0
 HandsBackRows = (table : List ℕ) (k : ℕ) → RowPart table k
+
+-- ---- all of these
+
+-- The theorem `promises` has this type, so that each promise has its proof.
+pub record Promises : Type 1 where
+  pub closed-under-extension : ClosedUnderExtension
+  pub opens-as-defined : OpensAsDefined
+  pub answers-as-defined : AnswersAsDefined
+  pub tracks-violation : TracksViolation
+  pub answers-count : AnswersCount
+  pub checks-table : (limit : ℕ) (s : List ℕ) (capacity : ℕ) → ChecksTable limit s capacity
+  pub refused-unchanged : RefusedUnchanged
+  pub builds-accepted : BuildsAccepted
+  pub table-monitors : TableMonitors
+  pub monitors-drop : MonitorsDrop
+  pub table-drops : TableDrops
+  pub refuses-violated-by-empty : RefusesViolatedByEmpty
+  pub refuses-too-many : RefusesTooMany
+  pub reaches-equations : ReachesEquations
+  pub same-members-same-set : SameMembersSameSet
+  pub numbered-as-found : NumberedAsFound
+  pub one-numbering : OneNumbering
+  pub built-well-formed : BuiltWellFormed
+  pub entries-answer : EntriesAnswer
+  pub table-rest : TableRest
+  pub hands-back-rows : HandsBackRows

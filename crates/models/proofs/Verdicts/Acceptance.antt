@@ -9,7 +9,7 @@ use lib.Dec.{ltb}
 use lib.ListN.{length}
 use Rattle.reading.specs.Rule.{Rule, Bytes}
 use Rattle.reading.specs.File.{Outcome, accepted, refuse, ruleOf}
-use Rattle.reading.proofs.Accepting.Accepted.{reading-accepts}
+use Rattle.reading.proofs.Accepting.Accepted.{accepts-encodings}
 use Rattle.synthesis.specs.Violation.{ViolatesRule}
 use Rattle.synthesis.specs.Answering.{unsatisfiable}
 use Rattle.synthesis.specs.Building.{equationsOf, Synthesis, withEquations, synthesisOf, countedOf}
@@ -64,7 +64,7 @@ module _ (limit : ℕ) (s : List ℕ) (bytes : Bytes s) where
   counted-acceptable n e =
       let counts = answers-count limit s n e in
       let r = counts .rule in
-      let stands = reading-accepts s bytes r .0 (counts .is) in
+      let stands = accepts-encodings s bytes r .0 (counts .is) in
       record {
         rule = r;
         within-limits = stands .0;
@@ -91,7 +91,7 @@ module _ (limit : ℕ) (s : List ℕ) (bytes : Bytes s) where
   acceptable-counted : Acceptable limit s → (n : ℕ) × (countedOf (synthesisOf limit s) ≡ Equations n)
   acceptable-counted a =
       let r = a .rule in
-      let read : ruleOf s ≡ accepted r = reading-accepts s bytes r .1 (a .within-limits, a .encoded) in
+      let read : ruleOf s ≡ accepted r = accepts-encodings s bytes r .1 (a .within-limits, a .encoded) in
       let eight : countedOf (synthesisOf limit s) ≡ Refused 8 0 → ⊥ = λ e. refused-unsatisfiable r read e (a .model) (a .satisfied) in
       unrefused-counted (withEquations limit r) (unsatisfiable r) (ltb limit (length (equationsOf limit r))) (synthesisOf limit s) (synthesis-of limit s r read)
       eight (λ e. refuses-too-many limit s r read eight .0 e (a .equations) (a .few) (a .closed))

@@ -13,7 +13,7 @@ use Rattle.synthesis.specs.Building.{tableLeft, Builds}
 use Rattle.synthesis.proofs.Tables.Built.{builds-outcome}
 use Rattle.models.specs.Phone.{Phone, phoneOf}
 use Rattle.models.specs.Judging.{RuleAndModel, judgingOf, JudgedAs, tableJudged}
-use Rattle.models.specs.Promises.{JudgedExactly, JudgesExactly, TableLeft, RefusedUnchanged}
+use Rattle.models.specs.Promises.{JudgedExactly, JudgesExactly, JudgingLeaves, RefusedUnchanged}
 use Rattle.models.specs.declared.Judged.{Judged}
 use Rattle.models.specs.declared.Judged.the-variants.{Meets, Breaks}
 use Rattle.models.proofs.Phones.DecidedSets.{decided-satisfies}
@@ -43,7 +43,7 @@ judges-exactly limit mark s table r n left b f y answer read judged = judged-cas
 -- ---- the table
 
 table-left : (o : Outcome RuleAndModel) (answer : Judged) (before built : List ℕ) → JudgedAs o answer
-    → TableLeft answer before built (tableJudged o built before)
+    → JudgingLeaves answer before built (tableJudged o built before)
 table-left (accepted x) answer before built (inl (q, sat)) =
     record { refused = λ e. absurd (let z : _≡_ {A = ℕ} 0 1 = cc in omega arith); judged = λ e. refl }
 table-left (accepted x) answer before built (inr (q, none)) =

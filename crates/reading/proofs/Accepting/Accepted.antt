@@ -86,24 +86,24 @@ rule-read s bytes r w e =
 
 -- ---- the promises
 
-pub reading-accepts : AcceptsEncodings
-reading-accepts s bytes r = (rule-stands s bytes r, λ h. rule-read s bytes r (h .0) (h .1))
+pub accepts-encodings : AcceptsEncodings
+accepts-encodings s bytes r = (rule-stands s bytes r, λ h. rule-read s bytes r (h .0) (h .1))
 
 pub one-rule : OneRule
 one-rule r r′ w w′ e =
     let bytes = encoding-is-bytes r w in
-    let read = reading-accepts (encode r) bytes r .1 (w, refl) in
-    let read′ = reading-accepts (encode r) bytes r′ .1 (w′, e) in
+    let read = accepts-encodings (encode r) bytes r .1 (w, refl) in
+    let read′ = accepts-encodings (encode r) bytes r′ .1 (w′, e) in
     accepted-is (sym read ∙ read′)
 
 -- the encoding of a rule is read as that rule, by number
 pub reading-of-encoding : (r : Rule) → RuleWithinLimits r → readingOf (ruleOf (encode r)) ≡ record { answer = Accepted; rule = numbered r }
-reading-of-encoding r w = ap readingOf (reading-accepts (encode r) (encoding-is-bytes r w) r .1 (w, refl))
+reading-of-encoding r w = ap readingOf (accepts-encodings (encode r) (encoding-is-bytes r w) r .1 (w, refl))
 
-pub answer-accepted : AnswersAccepted
-answer-accepted s bytes = (λ e. on (ruleOf s) refl e, λ (r, w, is, rule). rw is (ap (λ (x : Reading). x .answer) (reading-of-encoding r w)))
+pub answers-accepted : AnswersAccepted
+answers-accepted s bytes = (λ e. on (ruleOf s) refl e, λ (r, w, is, rule). rw is (ap (λ (x : Reading). x .answer) (reading-of-encoding r w)))
   where
     on : (o : Outcome Rule) → ruleOf s ≡ o → readingOf o .answer ≡ Accepted
         → (r : Rule) × RuleWithinLimits r × (s ≡ encode r) × (readingOf (ruleOf s) .rule ≡ numbered r)
-    on (accepted r) e a = let h = reading-accepts s bytes r .0 e in (r, h .0, h .1, rw e)
+    on (accepted r) e a = let h = accepts-encodings s bytes r .0 e in (r, h .0, h .1, rw e)
     on (refused number place) e a = let z : _≡_ {A = ℕ} 0 1 = cc in absurd (omega arith)

@@ -106,8 +106,8 @@ module _ (s t : List ℕ) (a : Agree 257 s t) where
       andThen-agree-both (patternsAt 32 s 0) (patternsAt 32 t 0) _ _ (records-agree _ _ 4 257 formats-agree 32 0 (omega arith)) (λ ps e.
       formula-ends (ps .list) (length (ps .list)) (ps .next) (records-next (patternFormat s) 4 (λ p. omega arith) 32 0 ps e))
 
-pub first-bytes : SettledByFirstBytes
-first-bytes = settled ruleOf 257 rule-agrees
+pub settled-by-first-bytes : SettledByFirstBytes
+settled-by-first-bytes = settled ruleOf 257 rule-agrees
 
 -- ---- fewer are too few
 
@@ -129,6 +129,6 @@ longest-bytes : Bytes longest
 unfolding longest
 longest-bytes = times-bytes 32 _ _ (search arith) (times-bytes 64 _ _ (search arith) (search arith))
 
-pub no-fewer : NotByFewer
+pub not-by-fewer : NotByFewer
 unfolding longest times ruleOf recordsAt formulaOf formulaAt
-no-fewer = (longest, longest-bytes, refl, refl)
+not-by-fewer = (longest, longest-bytes, refl, refl)

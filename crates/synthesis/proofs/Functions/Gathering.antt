@@ -15,7 +15,7 @@ use Rattle.reading.proofs.Measures.Counting.{least-holds}
 use Rattle.reading.proofs.Measures.Bits.{isSet, trailing-is-least, trailing-lt}
 use Rattle.synthesis.specs.NodeSet.{Has, has, emptySet, union}
 use Rattle.synthesis.specs.Arrays.{gathered}
-use Rattle.synthesis.proofs.Unfolding.NodeSetLaws.{has-none, half-has, has-true, true-has, has-ext, no-member-empty, toggled, toggled-other}
+use Rattle.synthesis.proofs.Unfolding.NodeSetLaws.{has-none, half-has, has-true, true-has, same-members-same-set, no-member-empty, toggled, toggled-other}
 use Rattle.synthesis.proofs.Unfolding.MemberLaws.{cond-has, has-union-first, has-union-second, union-cases}
 
 -- ---- which nodes are gathered
@@ -45,7 +45,7 @@ gathered-has xs live m = (has-gathers xs live, λ g. gathers-has xs live (g .0) 
 -- with the set of a member, what the other members have is what all have
 pub gather-step : (xs : List ℕ) (all rest i : ℕ) → Has rest i
     → union (union all (getD xs i 0)) (gathered xs (toggled rest i)) ≡ union all (gathered xs rest)
-gather-step xs all rest i h = has-ext _ _ (λ m. (stepped-in-whole m, whole-in-stepped m))
+gather-step xs all rest i h = same-members-same-set _ _ (λ m. (stepped-in-whole m, whole-in-stepped m))
   where
     ownSet : ℕ
     ownSet = getD xs i 0

@@ -17,7 +17,7 @@ use Rattle.synthesis.specs.Opening.{IsFalsity}
 use Rattle.synthesis.specs.Answering.{falsities, reached, firstOf, answerFrom, answerOf}
 use Rattle.synthesis.specs.Arrays.{IsRule, SomeNode, SomeNumbered, IsOpening, HasKind, IsGraph, gathered, answerBy}
 use Rattle.synthesis.specs.declared.graph.Graph.{Graph}
-use Rattle.synthesis.proofs.Unfolding.NodeSetLaws.{has-ext, has-common}
+use Rattle.synthesis.proofs.Unfolding.NodeSetLaws.{same-members-same-set, has-common}
 use Rattle.synthesis.proofs.Unfolding.NodeWise.{falsities-has, reached-has}
 use Rattle.synthesis.proofs.Functions.Gathering.{gathered-has}
 use Rattle.synthesis.proofs.Functions.NodeArrays.{node-below, kind-at, node-resolves}
@@ -31,7 +31,7 @@ module _ {r : Rule} {kinds args : List ℕ} (ir : IsRule r kinds args) where
   first-opened n o = o .is r ir (λ j h. repeated-at 0 n j) [] (r .formula) whole
 
   pub falsities-by-kind : {e n : ℕ} → n ≡ size (r .formula) → HasKind 3 kinds n e → e ≡ falsities 0 (r .formula)
-  falsities-by-kind {e} {n} q h = has-ext e (falsities 0 (r .formula)) (λ j. (kind-in-falsities j, falsities-of-kind j))
+  falsities-by-kind {e} {n} q h = same-members-same-set e (falsities 0 (r .formula)) (λ j. (kind-in-falsities j, falsities-of-kind j))
     where
       kind-3-falsity : {k x : ℕ} {ms : List EnclosingMax} {f : Formula} → Node (r .formula) k ms f → Resolves (r .formula) k ms 3 x f
           → IsFalsity (r .formula) k
@@ -82,4 +82,4 @@ module _ {r : Rule} (g : Graph) (is : IsGraph r g) (e c : ℕ) (code : c < 256) 
   -- What the arrays of a graph answer is what the rule's equations answer.
   pub graph-answers : answerBy (g .after) (g .enabled) (g .falsities) e c ≡ answerOf r e c
   unfolding answerBy answerOf
-  graph-answers = rw (is .falsities-are) (ap (answerFrom (falsities 0 (r .formula))) (has-ext _ _ gathered-reached))
+  graph-answers = rw (is .falsities-are) (ap (answerFrom (falsities 0 (r .formula))) (same-members-same-set _ _ gathered-reached))

@@ -15,7 +15,7 @@ use Rattle.reading.specs.Numbered.{readingOf}
 use Rattle.reading.specs.declared.Acceptance.the-variants.{Accepted, Refused}
 use Rattle.reading.specs.declared.Reading.{Reading}
 use Rattle.reading.specs.declared.NumberedRule.{NumberedRule}
-use Rattle.reading.proofs.Accepting.Accepted.{reading-accepts}
+use Rattle.reading.proofs.Accepting.Accepted.{accepts-encodings}
 use Rattle.reading.proofs.Numbering.Listings.{size-positive}
 use Rattle.synthesis.specs.NodeSet.{emptySet, intersection}
 use Rattle.synthesis.specs.Answering.{answerOf, unsatisfiable}
@@ -66,7 +66,7 @@ outcome-read s b (accepted r) q n e a = record {
   is = q;
   numbers = record {
     is-rule = record {
-      within-limits = reading-accepts s b r .0 q .0;
+      within-limits = accepts-encodings s b r .0 q .0;
       kinds-are = ap (λ (x : NumberedRule). x .kinds) e;
       args-are = ap (λ (x : NumberedRule). x .args) e;
     };

@@ -10,7 +10,7 @@ use lib.ListN.{length, getD}
 use Rattle.reading.specs.Rule.{Rule, RuleWithinLimits, encode, Bytes}
 use Rattle.reading.specs.File.{accepted, ruleOf}
 use Rattle.reading.proofs.Accepting.Encoding.{encoding-is-bytes}
-use Rattle.reading.proofs.Accepting.Accepted.{reading-accepts}
+use Rattle.reading.proofs.Accepting.Accepted.{accepts-encodings}
 use Rattle.synthesis.specs.Monitor.{kept, verdicts, ended, Monitors, lookup}
 use Rattle.synthesis.proofs.Monitors.Renaming.{Renames, renamed-runs, renamed-monitors}
 use Rattle.synthesis.specs.Opening.{Answers}
@@ -152,10 +152,10 @@ pub builds-iff : (limit mark : ℕ) (s table : List ℕ) (r : Rule) (n : ℕ) (a
     → Builds limit mark s table r n after
     ↔ (RuleWithinLimits r × (s ≡ encode r) × (countedOf (buildingOf limit s (length table)) ≡ Equations n) × (after ≡ tableLeft limit mark s table))
 builds-iff limit mark s table r n after below = (
-  λ b. let (within, is) = reading-accepts s (b .bytes) r .0 (b .read) in (within, is, b .counted, b .left-is),
+  λ b. let (within, is) = accepts-encodings s (b .bytes) r .0 (b .read) in (within, is, b .counted, b .left-is),
   λ (within, is, counted, left-is).
       let bytes : Bytes s = rw is (encoding-is-bytes r within) in
-      record { below = below; bytes = bytes; read = reading-accepts s bytes r .1 (within, is); counted = counted; left-is = left-is },
+      record { below = below; bytes = bytes; read = accepts-encodings s bytes r .1 (within, is); counted = counted; left-is = left-is },
 )
 
 -- the encoding of a rule builds as that rule

@@ -11,7 +11,7 @@ use lib.ListN.{length, getD}
 use Rattle.reading.specs.Rule.{Formula, necessity, Rule, Bytes}
 use Rattle.reading.specs.File.{accepted, ruleOf}
 use Rattle.reading.specs.Nodes.{EnclosingMax, Node}
-use Rattle.reading.proofs.Accepting.Accepted.{reading-accepts}
+use Rattle.reading.proofs.Accepting.Accepted.{accepts-encodings}
 use Rattle.reading.proofs.Basics.AllLaws.{all-at}
 use Rattle.synthesis.specs.Monitor.{next}
 use Rattle.synthesis.specs.NodeSet.{Has}
@@ -33,7 +33,7 @@ use Rattle.synthesis.proofs.Tables.Synthesized.{counted-accepts, counte
 
 -- a file that is read is a rule with a well-formed formula
 pub file-well-formed : (s : List ℕ) → Bytes s → (r : Rule) → ruleOf s ≡ accepted r → WellFormedFormula r
-file-well-formed s bytes r e = reading-accepts s bytes r .0 e .0 .well-formed .formula
+file-well-formed s bytes r e = accepts-encodings s bytes r .0 e .0 .well-formed .formula
 
 -- ---- what opening gives
 

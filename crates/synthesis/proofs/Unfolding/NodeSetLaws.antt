@@ -118,12 +118,12 @@ has-ext-below (suc k) a b p q h =
     let l : a % 2 ≡ b % 2 = digits-same (a % 2) (b % 2) (omega arith) (omega arith) (rw (bit-zero a, bit-zero b) at (h 0)) in
     omega arith
 
-pub has-ext : SameMembersSameSet
-has-ext a b h = has-ext-below (a + b) a b (omega arith) (omega arith) h
+pub same-members-same-set : SameMembersSameSet
+same-members-same-set a b h = has-ext-below (a + b) a b (omega arith) (omega arith) h
 
 -- a set without members is none
 pub no-member-empty : (e : ℕ) → ((n : ℕ) → Has e n → ⊥) → e ≡ emptySet
-no-member-empty e h = has-ext e emptySet (λ n. (λ x. absurd (h n x), λ x. absurd (has-none n x)))
+no-member-empty e h = same-members-same-set e emptySet (λ n. (λ x. absurd (h n x), λ x. absurd (has-none n x)))
 
 -- a set that isn't none has a member
 pub nonempty-member : (e : ℕ) → 0 < e → (n : ℕ) × Has e n
@@ -173,7 +173,7 @@ toggled-lt e k h =
     same-node-member n q = rw (← q) h
 
     singleton-inside : intersection e (singleton k) ≡ singleton k
-    singleton-inside = has-ext (intersection e (singleton k)) (singleton k) (λ n.
+    singleton-inside = same-members-same-set (intersection e (singleton k)) (singleton k) (λ n.
         (λ x. has-common e (singleton k) n .0 x .1, λ x. has-common e (singleton k) n .1 (same-node-member n (singleton-has k n x), x)))
 
     less-by-common : (x c e s : ℕ) → c ≡ s → x + c * 2 ≡ e + s → 0 < s → x < e

@@ -1,0 +1,13 @@
+-- Each promise of this crate, by its theorem.
+use Rattle.commands.specs.Promises.{Promises}
+use Rattle.commands.proofs.Printing.{prints-answer, settled-by-buffer, judgment-settled-by-buffer}
+use Rattle.commands.proofs.SiftingLaws.{sifts-by-rule, no-calls-refused}
+
+pub promises : Promises
+promises = record {
+  prints-answer = prints-answer;
+  settled-by-buffer = settled-by-buffer;
+  judgment-settled-by-buffer = judgment-settled-by-buffer;
+  sifts-by-rule = sifts-by-rule;
+  no-calls-refused = no-calls-refused;
+}

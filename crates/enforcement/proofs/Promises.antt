@@ -1,0 +1,19 @@
+-- Each promise of this crate, by its theorem.
+use Rattle.enforcement.specs.Promises.{Promises}
+use Rattle.enforcement.proofs.Enforcing.{monitors-enforce, sound-satisfies}
+use Rattle.enforcement.proofs.Suppressing.{runs-behind}
+use Rattle.enforcement.proofs.SatisfactionLaws.{satisfies-safe}
+use Rattle.enforcement.proofs.DecidedSatisfaction.{decided-satisfied}
+use Rattle.enforcement.proofs.BisimulationLaws.{bisimilar-alike}
+use Rattle.enforcement.proofs.Walks.{weak-walks}
+
+pub promises : Promises
+promises = record {
+  monitors-enforce = monitors-enforce;
+  sound-satisfies = sound-satisfies;
+  runs-behind = runs-behind;
+  satisfies-safe = satisfies-safe;
+  decided-satisfied = decided-satisfied;
+  bisimilar-alike = bisimilar-alike;
+  weak-walks = weak-walks;
+}

@@ -1,0 +1,14 @@
+-- Each promise of this crate, by its theorem.
+use Rattle.listing.specs.Promises.{Promises}
+use Rattle.listing.proofs.AllLines.{lists-all, lists-rule}
+use Rattle.listing.proofs.AllRuns.{groups, shows-answers}
+use Rattle.listing.proofs.Decimals.{spells-decimal}
+
+pub promises : Promises
+promises = record {
+  lists-all = lists-all;
+  lists-rule = lists-rule;
+  groups = groups;
+  shows-answers = shows-answers;
+  spells-decimal = spells-decimal;
+}

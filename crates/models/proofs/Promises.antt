@@ -1,0 +1,29 @@
+-- Each promise of this crate, by its theorem.
+use Rattle.models.specs.Promises.{Promises}
+use Rattle.models.proofs.Verdicts.TablesEnforce.{tables-enforce}
+use Rattle.models.proofs.Phones.DecidedSets.{decided-satisfies}
+use Rattle.models.proofs.Verdicts.JudgingLaws.{judges-exactly, refused-unchanged}
+use Rattle.models.proofs.Verdicts.Acceptance.{accepts-exactly, refuses-unsatisfiable}
+use Rattle.models.proofs.Files.Encoding.{accepts-phones, one-phone, stores-model, answers-accepted}
+use Rattle.models.proofs.Files.FileFaults.{refuses-at-the-fault, has-one-fault}
+use Rattle.models.proofs.Files.Settled.{settled-by-first-bytes, not-by-fewer}
+use Rattle.models.proofs.Phones.PhoneStates.{phones-finite}
+
+pub promises : Promises
+promises = record {
+  tables-enforce = tables-enforce;
+  decided-satisfies = decided-satisfies;
+  judges-exactly = judges-exactly;
+  refused-unchanged = refused-unchanged;
+  accepts-exactly = accepts-exactly;
+  refuses-unsatisfiable = refuses-unsatisfiable;
+  accepts-phones = accepts-phones;
+  one-phone = one-phone;
+  stores-model = stores-model;
+  answers-accepted = answers-accepted;
+  refuses-at-the-fault = refuses-at-the-fault;
+  has-one-fault = has-one-fault;
+  settled-by-first-bytes = settled-by-first-bytes;
+  not-by-fewer = not-by-fewer;
+  phones-finite = phones-finite;
+}

@@ -1,0 +1,22 @@
+-- Each promise of this crate, by its theorem.
+use Rattle.reading.specs.Promises.{Promises}
+use Rattle.reading.proofs.Accepting.Accepted.{accepts-encodings, one-rule, answers-accepted}
+use Rattle.reading.proofs.Refusing.FaultsRefused.{refuses-at-the-fault, has-one-fault}
+use Rattle.reading.proofs.Numbering.NumberedLaws.{numbers-nodes, numbers-patterns}
+use Rattle.reading.proofs.Settling.Prefix.{settled-by-first-bytes, not-by-fewer}
+use Rattle.reading.proofs.Measures.Extents.{covers-means, measures-pattern}
+
+pub promises : Promises
+promises = record {
+  accepts-encodings = accepts-encodings;
+  one-rule = one-rule;
+  answers-accepted = answers-accepted;
+  refuses-at-the-fault = refuses-at-the-fault;
+  has-one-fault = has-one-fault;
+  numbers-nodes = numbers-nodes;
+  numbers-patterns = numbers-patterns;
+  settled-by-first-bytes = settled-by-first-bytes;
+  not-by-fewer = not-by-fewer;
+  covers-means = covers-means;
+  measures-pattern = measures-pattern;
+}

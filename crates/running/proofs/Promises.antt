@@ -1,0 +1,20 @@
+-- Each promise of this crate, by its theorem.
+use Rattle.running.specs.Promises.{Promises}
+use Rattle.running.proofs.DemandTwo.{drops-exactly}
+use Rattle.running.proofs.Joining.{two-calls}
+use Rattle.running.proofs.Conservation.{conserves, calls-conserve}
+use Rattle.running.proofs.Refusals.{runs-on-tables}
+use Rattle.running.proofs.BuiltTables.{never-unfit}
+use Rattle.running.proofs.Leaving.{refused-unchanged, rest-unchanged}
+
+pub promises : Promises
+promises = record {
+  drops-exactly = drops-exactly;
+  two-calls = two-calls;
+  conserves = conserves;
+  calls-conserve = calls-conserve;
+  runs-on-tables = runs-on-tables;
+  never-unfit = never-unfit;
+  refused-unchanged = refused-unchanged;
+  rest-unchanged = rest-unchanged;
+}
