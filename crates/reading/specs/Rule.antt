@@ -1,5 +1,6 @@
 -- sHML formulas: tt, ff, "both", "after each code of a pattern" (necessity), max, and the variable of an enclosing max. Rules, which of them are
--- well formed, and their encoding as the bytes of a file.
+-- well formed, and their encoding as the bytes of a file. In the field "both" is conjunction, a necessity the box modality, max the greatest fixed point,
+-- and a code an action.
 use Prim.Native.Nat.{ℕ, suc, _+_, _<_, _≤_}
 use mathlib.Core.Path.{_≡_}
 use mathlib.Core.Bool.{Bool, true, false}

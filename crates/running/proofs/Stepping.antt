@@ -86,7 +86,7 @@ module _ (mark : ℕ) (table : List ℕ) (s : State) (output₀ judged₀ : List
       pub has : Has (take i scans) output judged from keeps
 
     module _ (output judged : List ℕ) (from keeps i : ℕ) (h : After output judged from keeps i) (more : i < length scans) where
-      -- what the turn writes and goes on with is told by equations, as its calls tell it
+      -- what the iteration writes and goes on with is told by equations, as its calls tell it
       pub after-next : length scans ≤ length output₀ → length scans ≤ length judged₀ → (entry : ℕ) → entry < 256
           → entry ≡ getD (rowOf 256 table (from / 256)) (getD scans i 0) mark
           → {x v from′ k : ℕ} → x ≡ cond (eqb entry mark) (getD output keeps 0) (getD scans i 0) → v ≡ cond (eqb entry mark) 1 0

@@ -87,12 +87,12 @@ pub record SomeNumbered (n : NumberedRule) (k : ℕ) : Type 0 where
   pub is-numbered : IsNumbered rule n
   pub below : k < size (rule .formula)
 
--- Node n waits for the code c: it is a necessity whose pattern covers c.
+-- Node n is enabled by the code c: it is a necessity whose pattern covers c.
 abbrev pub IsEnabled : Rule → (c n : ℕ) → Type 0
 IsEnabled r c n =
     (p : ℕ) × (ms : List EnclosingMax) × (f : Formula) × Node (r .formula) n ms (necessity p f) × (coveredBy (r .patterns) p c ≡ true)
 
--- The array has, for each code, the nodes below k that wait for it.
+-- The array has, for each code, the nodes below k that it enables.
 pub record EnabledBelow (r : Rule) (k : ℕ) (enabled : List ℕ) : Type 0 where
   pub is : (c n : ℕ) → c < 256 → Has (getD enabled c 0) n ↔ ((n < k) × IsEnabled r c n)
 

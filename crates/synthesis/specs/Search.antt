@@ -1,4 +1,4 @@
--- The search for equations. Each gets its turn in the order in which they were found, and asks the codes from 0 up; what is new goes to the
+-- The search for equations. Each is expanded in the order in which they were found, and asks the codes from 0 up; what is new goes to the
 -- end. The equations are numbers, and `answer` and the number of codes are any.
 use Prim.Native.Nat.{ℕ, zero, suc}
 use mathlib.Core.Bool.{cond}
@@ -26,7 +26,7 @@ module _ (codes : ℕ) (answer : ℕ → ℕ → Answer ℕ) where
   abbrev pub expanded : ℕ → List ℕ → List ℕ
   expanded k found = cond (ltb k (length found)) (explored (getD found k 0) codes found) found
 
-  -- The equations found after a number of turns. Where they are no more than that number they are all.
+  -- The equations found after a number of expansions. Where they are no more than that number they are all.
   unfoldable pub found : (expansions first : ℕ) → List ℕ
   found zero first = first ∷ []
   found (suc k) first = expanded k (found k first)

@@ -9,7 +9,7 @@ ghost use Rattle.synthesis.specs.Answering.{answerFrom};
 ghost use Rattle.synthesis.specs.Search.{indexOf, insert, explored, expanded, found};
 ghost use Rattle.synthesis.specs.Arrays.{gathered, answerBy, Holds};
 
-// The union of those sets whose indices are in `live`. Each turn takes the lowest index out: rest & (rest - 1) is rest
+// The union of those sets whose indices are in `live`. Each iteration takes the lowest index out: rest & (rest - 1) is rest
 // without its lowest bit.
 fn gather(sets: &[u64], live: u64) -> u64
     requires { ⌜ length (now sets) ≡ 64 ⌝ }

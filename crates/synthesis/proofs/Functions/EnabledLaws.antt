@@ -1,4 +1,4 @@
--- Which nodes wait for a code, one node after the other: a necessity waits for the codes that its pattern covers, and no other node waits for any.
+-- Which nodes a code enables, one node after the other: a necessity is enabled by the codes that its pattern covers, and no other node by any.
 use Prim.Native.Nat.{ℕ, _+_, _≤_, _<_}
 use mathlib.Core.Path.{_≡_, sym, _∙_, ap}
 use mathlib.Core.Logic.{_↔_}
@@ -61,14 +61,14 @@ module _ {n : NumberedRule} {k : ℕ} {enabled : List ℕ} (r : Rule) (num : IsN
           ap (λ (y : Pattern). covers y c) own-pattern-is
           ∙ ap (λ (i : ℕ). covers (getD (r .patterns) i noPattern) c) (argument-at (num .is-rule) node) ∙ t
 
-  -- a necessity waits for the codes that its pattern covers
+  -- a necessity is enabled by the codes that its pattern covers
   pub enabled-necessity : (enabled′ : List ℕ) → k < size (r .formula) → getD (n .kinds) k 0 ≡ 5 → CodesEnabled ownPattern k enabled enabled′
       → EnabledBelow r (k + 1) enabled′
   enabled-necessity enabled′ h q m = record {
     is = λ c j l. rw (m .is c l) (with-node-next (IsEnabled r c) (getD enabled c 0) k (covers ownPattern c) (own-pattern-covers h q c) (λ i. w .is c i l) j);
   }
 
-  -- another node waits for none
+  -- another node is enabled by none
   pub enabled-other : (getD (n .kinds) k 0 ≡ 5 → ⊥) → EnabledBelow r (k + 1) enabled
   enabled-other d = record {
     is = λ c j l. (

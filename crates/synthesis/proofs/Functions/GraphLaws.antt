@@ -65,8 +65,8 @@ module _ {r : Rule} (g : Graph) (is : IsGraph r g) (e c : ℕ) (code : c < 256) 
       gathered-in-reached : Has (gathered (g .after) live) m → Has led m
       gathered-in-reached h =
           let (n, shared, opened) = gathered-has (g .after) live m .0 h in
-          let (member, waits) = has-common e (getD (g .enabled) c 0) n .0 shared in
-          let (p, ms, f, node, covers) = is .enabled-is .is c n code .0 waits in
+          let (member, enabled) = has-common e (getD (g .enabled) c 0) n .0 shared in
+          let (p, ms, f, node, covers) = is .enabled-is .is c n code .0 enabled in
           reached-has (coveredBy (r .patterns)) (r .formula) e c m .1
           (n, p, ms, f, node, member, covers, subst (λ s. Has s m) (is .after-is .is n p ms f node) opened)
 

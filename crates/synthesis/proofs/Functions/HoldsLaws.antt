@@ -51,7 +51,7 @@ module _ (limit : ℕ) (a : List ℕ) (n : ℕ) (l : List ℕ) (room : length a 
   pub held-insert-new : (e : ℕ) → n < limit → n ≤ indexOf e (take n a) → Holds limit (set a n e) (n + 1) (insert l e)
   held-insert-new e h absent = rw (insert-absent e (omega arith) absent, add-one n) (inl (omega arith, take-suc-set a n e (omega arith)))
 
-  -- ---- the turn of equation k
+  -- ---- equation k expanded
 
   module _ (codes : ℕ) (answer : ℕ → ℕ → Answer ℕ) (k : ℕ) where
     pub held-expanded-none : n ≤ limit → n ≤ k → Holds limit a n (expanded codes answer k l)

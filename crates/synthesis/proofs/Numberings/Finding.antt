@@ -1,5 +1,5 @@
--- Laws of the search for equations, by induction on its turns: what is found is distinct and reached, and is all once there are no more equations
--- than turns.
+-- Laws of the search for equations, by induction on its expansions: what is found is distinct and reached, and is all once there are no more
+-- equations than expansions.
 use Prim.Native.Nat.{ℕ, zero, suc, _≤_, _<_}
 use mathlib.Core.Path.{_≡_, refl, sym, _∙_, ap}
 use mathlib.Core.Bool.{Bool, true, false, cond}

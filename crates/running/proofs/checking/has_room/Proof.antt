@@ -1,4 +1,4 @@
--- `checking::is_roomy` meets its contract.
+-- `checking::has_room` meets its contract.
 use native.Mathlib.Omega.{arith}
 use borrow.Author.Tests.{le-leb, lt-leb}
 use lib.ListN.{length}

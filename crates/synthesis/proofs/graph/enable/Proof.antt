@@ -31,11 +31,11 @@ same-length c = search needs
 
 returns-2 : tie.Need-returns-2
 returns-2 c r num w =
-    let marked = c .before .before in
-    let test = marked .before .before .before .before .before in
+    let enabled-codes = c .before .before in
+    let test = enabled-codes .before .before .before .before .before in
     let some = test .before .before .before .pre .0 in
     enabled-necessity r num w _ (omega (arith, some .below, some .is-numbered .nnodes-is, num .nnodes-is)) (test .if1 .left)
-    (marked .enable-codes .ensures)
+    (enabled-codes .enable-codes .ensures)
 
 pub enable-spec : {M : Type 1} → statement M
 enable-spec =

@@ -1,4 +1,4 @@
--- `search::take_turn` meets its contract.
+-- `search::expand` meets its contract.
 use native.Mathlib.Omega.{arith}
 use borrow.Author.Needs.{needs}
 use Rattle.synthesis.proofs.Numberings.Finding.{expanded-grows}

@@ -1,4 +1,4 @@
--- `search::gather` meets its contract. Each turn takes the lowest member out and puts its set in; the measure is the set that is left.
+-- `search::gather` meets its contract. Each iteration takes the lowest member out and puts its set in; the measure is the set that is left.
 use Prim.Native.Nat.{_-_, _^_, _≤_, _<_}
 use mathlib.Core.Path.{_≡_, refl, sym, _∙_}
 use native.Mathlib.Omega.{arith}

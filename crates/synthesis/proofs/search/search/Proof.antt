@@ -1,4 +1,4 @@
--- `search::search` meets its contract. The array holds the equations found after the turns so far; the measure is how many turns are left.
+-- `search::search` meets its contract. The array holds the equations found after the expansions so far; the measure is how many are left.
 use Prim.Native.Nat.{_-_, _≤_}
 use mathlib.Core.Path.{_≡_}
 use mathlib.Core.Logic.{inl}

@@ -1,4 +1,4 @@
--- A turn of the loop of `read_steps`: the step at hand is put, and what comes next is read; or the loop is left.
+-- An iteration of the loop of `read_steps`: the step at hand is put, and what comes next is read; or the loop is left.
 use mathlib.Core.Path.{_≡_, refl, sym, _∙_, subst}
 use mathlib.Core.Bool.{false, not}
 use Prim.Native.Nat.{ℕ, _+_, _-_, _<_, _^_}
@@ -44,7 +44,7 @@ use Rattle.models.proofs.steps.put_step.Symbol.{name as #put-step}
 use Rattle.models.proofs.loading.read_steps.Code.Mir as body
 use Rattle.models.proofs.loading.read_steps.Proof.Calls.{NextStep, Answered, to-next, asks-next, next-told, PutStep, to-put, asks-put, put-told}
 
--- what is read before a turn: what comes next, and the records so far
+-- what is read before an iteration: what comes next, and the records so far
 -- ---- what is read, and how many records are left
 
 module _ (f : List ℕ) (states count : ℕ) where
@@ -81,7 +81,7 @@ module _ {M : Type 1} (𝓤 : URA M) (H : Heap 𝓤) (A : Atoms 𝓤) (W : Given
     Locals = (nextTy, l₀) ∷ (fileTy, l₁) ∷ (tyInt w64, l₂) ∷ (stepsTy, l₃) ∷ (nextTy, l₄) ∷ (tyBool, l₅) ∷ (tyUnit, l₆) ∷ (againTy, l₇)
         ∷ (sliceTy againTy, l₈) ∷ (tyInt w64, l₉) ∷ []
 
-    -- what stands before a turn, at what is read: next (0), the file (1, 2), the records (3, 4), room for the locals of a turn (5 to 9) and for
+    -- what stands before an iteration, at what is read: next (0), the file (1, 2), the records (3, 4), room for the locals of an iteration (5 to 9) and for
     -- the result (10), the parameters (11 to 13), and that each local dies
     abbrev Before : Next → List Step → List (Item 𝓤)
     Before x ys = ‵ (fat fullShare nextTy l₄ 0 (low the-next x)) ∷ ‵ (flft κ q) ∷ ‵ (File κ b o γ f) ∷ ‵ (flft κ′ q′)
