@@ -12,7 +12,7 @@ use Rattle.reading.specs.Numbered.{readingOf}
 use Rattle.reading.proofs.Accepting.Accepted.{accepts-encodings}
 use Rattle.reading.proofs.Settling.Prefix.{settled-by-first-bytes as rule-settled}
 use Rattle.synthesis.specs.Building.{equationsOf, Synthesis, synthesisOf, buildingOf, countedOf, tableAfter}
-use Rattle.synthesis.proofs.Tables.Synthesized.{synthesis-accepts, building-accepts}
+use Rattle.synthesis.proofs.Tables.SynthesisOutcomes.{synthesis-accepts, building-accepts}
 use Rattle.models.specs.Judging.{judgingOf}
 use Rattle.models.proofs.Files.Settled.{settled-by-first-bytes as model-settled}
 use Rattle.listing.specs.Positions.{linesFrom}

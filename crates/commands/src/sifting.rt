@@ -17,7 +17,7 @@ ghost use Rattle.running.specs.Running.{runOf, resultOf};
 ghost use Rattle.commands.specs.Sifting.{EndsCallsOn, GoesOn, Sifts};
 
 // The state after a block of scans, and whether there may be more.
-struct Turn {
+struct BlockResult {
     state: State,
     goes_on: bool,
 }
@@ -30,7 +30,7 @@ fn sift_block(
     scans: &[u8],
     output: &mut [u8],
     verdicts: &mut [u8],
-) -> Turn
+) -> BlockResult
     ensures { λ _. ⌜ Bytes (now (scans .entry)) ⌝ }
     ensures { λ r. ⌜ r .state ≡ resultOf state (runOf 128 255 (now (table .entry)) count state (now (scans .entry))
         (length (now (output .entry))) (length (now (verdicts .entry)))) .state ⌝ }
@@ -39,7 +39,7 @@ fn sift_block(
     let kept = ran.kept;
     let goes_on = write_whole(b"sift: standard output", &output[..kept]);
     let state = ran.state;
-    Turn { state, goes_on }
+    BlockResult { state, goes_on }
 }
 
 // Reads once, and sifts what came.
@@ -50,14 +50,14 @@ fn sift_some(
     scans: &mut [u8],
     output: &mut [u8],
     verdicts: &mut [u8],
-) -> Turn
+) -> BlockResult
     requires { ⌜ (length (now scans) ≤ length (now output)) × (length (now scans) ≤ length (now verdicts)) ⌝ }
     ensures { λ r. ⌜ GoesOn (now (table .entry)) count state (r .state) ⌝ }
 {
     let got = read_some(b"sift: standard input", STDIN_FILENO, scans);
     let n = io::count(got, scans);
     if n == 0 {
-        return Turn {
+        return BlockResult {
             state,
             goes_on: false,
         };

@@ -19,9 +19,9 @@ use Rattle.running.proofs.Leaving as leaving
 use Rattle.running.proofs.DemandTwo.{drops-exactly}
 use Rattle.models.proofs.Files.Encoding.{answers-accepted}
 use Rattle.models.proofs.Files.FileFaults as models
-use Rattle.models.proofs.Verdicts.Acceptance.{accepts-exactly}
-use Rattle.models.proofs.Verdicts.JudgingLaws as judging
-use Rattle.models.proofs.Verdicts.TablesEnforce.{tables-enforce}
+use Rattle.models.proofs.Judgments.Accepting.{accepts-exactly}
+use Rattle.models.proofs.Judgments.JudgingLaws as judging
+use Rattle.models.proofs.Judgments.TablesEnforce.{tables-enforce}
 use Rattle.demands.specs.Outcomes.{running}
 use Rattle.demands.specs.Refusals.{RunRefused, short-buffer, unfit}
 use Rattle.demands.specs.Demands.{DemandOne, DemandTwo, DemandThree}

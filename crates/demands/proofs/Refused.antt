@@ -17,12 +17,12 @@ use Rattle.reading.proofs.Refusing.FaultsRefused.{answer-refused, refuses-at-th
 use Rattle.synthesis.specs.Answering.{unsatisfiable}
 use Rattle.synthesis.specs.Building.{equationsOf, synthesisOfRule, synthesisOf, buildingOf, countedOf}
 use Rattle.synthesis.specs.declared.Counted.the-variants as Counted
-use Rattle.synthesis.proofs.Tables.Synthesized.{building-enough, building-short, synthesis-of, counted-refuses}
+use Rattle.synthesis.proofs.Tables.SynthesisOutcomes.{building-enough, building-short, synthesis-of, counted-refuses}
 use Rattle.synthesis.proofs.Tables.Equations.{refuses-too-many}
 use Rattle.enforcement.specs.Model.{Model, Finite, Satisfies}
-use Rattle.models.proofs.Verdicts.Acceptance.{unrefused-satisfiable, refuses-unsatisfiable}
-use Rattle.demands.specs.Outcomes.{counting, Exactly}
-use Rattle.demands.specs.Refusals.{CountRefused, in-file, unsatisfiable as no-model, too-many, BuildRefused, short-table, in-rule}
+use Rattle.models.proofs.Judgments.Accepting.{unrefused-satisfiable, refuses-unsatisfiable}
+use Rattle.demands.specs.Outcomes.{counting, RefusedIff}
+use Rattle.demands.specs.Refusals.{CountRefused, in-file, no-finite-model, too-many, BuildRefused, short-table, in-rule}
 
 module _ (s : List ℕ) (bytes : Bytes s) where
   abbrev CountRefuses : ℕ → ℕ → Type 0
@@ -39,7 +39,7 @@ module _ (s : List ℕ) (bytes : Bytes s) where
       let (w, is) = accepts-encodings s bytes r .0 read in
       let outcome : synthesisOf 128 s ≡ synthesisOfRule 128 r = synthesis-of 128 s r read in
       refuse-refused (CountRefused s) (unsatisfiable r) 8 0 _ e
-      (λ t. no-model r w is (refused-eight-iff r read .0 (rw (outcome, t))))
+      (λ t. no-finite-model r w is (refused-eight-iff r read .0 (rw (outcome, t))))
       (λ f e′.
       refuse-refused (CountRefused s) (ltb 128 (length (equationsOf 128 r))) 9 0 _ e′
       (λ t.
@@ -60,12 +60,12 @@ module _ (s : List ℕ) (bytes : Bytes s) where
   unfolding synthesisOf
   count-clause-refuses {number} {place} (in-file fault) =
       rw (answer-refused (ruleOf s) number place .1 (refuses-at-the-fault s bytes number place .1 fault))
-  count-clause-refuses (no-model r w is none) = refused-eight-iff r (accepts-encodings s bytes r .1 (w, is)) .1 none
+  count-clause-refuses (no-finite-model r w is none) = refused-eight-iff r (accepts-encodings s bytes r .1 (w, is)) .1 none
   count-clause-refuses (too-many r w is m finite satisfies over) =
       let read = accepts-encodings s bytes r .1 (w, is) in
       refuses-too-many 128 s r read (λ e. refused-eight-iff r read .0 e m finite satisfies) .1 over
 
-  pub count-refused : Exactly (countedOf (counting s)) Counted.Refused (CountRefused s)
+  pub count-refused : RefusedIff (countedOf (counting s)) Counted.Refused (CountRefused s)
   count-refused number place = (count-refusal-clause number place, count-clause-refuses)
 
   -- ---- building
@@ -89,5 +89,5 @@ module _ (s : List ℕ) (bytes : Bytes s) where
     build-clause-refuses (short-table short) = rw (building-short 128 s capacity short)
     build-clause-refuses (in-rule long fault) = rw (building-enough 128 s capacity long) (count-clause-refuses fault)
 
-    pub build-refused : Exactly (countedOf (buildingOf 128 s capacity)) Counted.Refused (BuildRefused s capacity)
+    pub build-refused : RefusedIff (countedOf (buildingOf 128 s capacity)) Counted.Refused (BuildRefused s capacity)
     build-refused number place = (build-refusal-clause number place, build-clause-refuses)

@@ -10,7 +10,7 @@ use Rattle.reading.specs.Rule.{Bytes}
 use Rattle.reading.specs.File.{Outcome, accepted, refused}
 use Rattle.reading.proofs.Basics.Outcomes.{refuse-refused, never-refused, andThen-refused}
 use Rattle.synthesis.specs.Building.{countedOf}
-use Rattle.synthesis.proofs.Tables.Synthesized.{building-accepts, counted-accepts, counted-refuses}
+use Rattle.synthesis.proofs.Tables.SynthesisOutcomes.{building-accepts, counted-accepts, counted-refuses}
 use Rattle.running.specs.Running.{hasRoom, fits, Run, runOf, checkedOf, resultOf}
 use Rattle.running.specs.Calls.{Call}
 use Rattle.running.specs.Promises.{RunsOn}
@@ -21,9 +21,9 @@ use Rattle.models.specs.Phone.{phoneOf}
 use Rattle.models.specs.Judging.{RuleAndModel, judgingOf, JudgedAs}
 use Rattle.models.specs.declared.Judged.{Judged}
 use Rattle.models.specs.declared.Judged.the-variants as Judged′
-use Rattle.models.proofs.Verdicts.Acceptance.{accepts-exactly}
+use Rattle.models.proofs.Judgments.Accepting.{accepts-exactly}
 use Rattle.models.proofs.Files.FileFaults.{model-refused, refuses-at-the-fault}
-use Rattle.demands.specs.Outcomes.{building, running, judging, Exactly}
+use Rattle.demands.specs.Outcomes.{building, running, judging, RefusedIff}
 use Rattle.demands.specs.Refusals.{RunRefused, short-buffer, unfit, JudgeRefused, in-building, in-model}
 use Rattle.demands.proofs.Refused.{build-refused}
 use Rattle.demands.proofs.UnfitTables.{unfit-not-fit, not-fit-unfit}
@@ -57,7 +57,7 @@ module _ (s : State) (c : Call) where
   run-clause-refuses (short-buffer short) = run-on-table .short .1 short
   run-clause-refuses (unfit room room′ bad) = run-on-table .unfit .1 (room, room′, unfit-not-fit bad)
 
-  pub run-refused : Exactly (resultOf s (running s c) .checked) Checked.Refused (RunRefused s c)
+  pub run-refused : RefusedIff (resultOf s (running s c) .checked) Checked.Refused (RunRefused s c)
   run-refused number place = rw (result-checked s (running s c)) (run-refusal-clause number place, run-clause-refuses)
 
   -- where no clause holds, the run isn't refused
@@ -107,7 +107,7 @@ module _ (s table f : List ℕ) (bytes : Bytes s) (bytes′ : Bytes f) where
       rw (built, read)
 
   pub judge-refused : (answer : Judged) → JudgedAs (judging s table f) answer
-      → Exactly answer Judged′.Refused (JudgeRefused s (length table) f)
+      → RefusedIff answer Judged′.Refused (JudgeRefused s (length table) f)
   judge-refused answer judged number place = (
     λ e. judge-refusal-clause number place (rw e at judged),
     λ h. refusal-only-answer (judging s table f) answer number place judged (judge-clause-refuses h),

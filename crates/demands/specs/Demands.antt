@@ -10,14 +10,14 @@ use Rattle.reading.specs.Rule.{Rule, RuleWithinLimits, encode, Bytes}
 use Rattle.reading.specs.File.{accepted, ruleOf}
 use Rattle.reading.specs.Faults.{Fault as RuleFault}
 use Rattle.reading.specs.Numbered.{numbered, readingOf}
-use Rattle.reading.specs.declared.Acceptance.the-variants as Reading
+use Rattle.reading.specs.declared.FileRead.the-variants as Reading
 use Rattle.synthesis.specs.Monitor.{lookup}
 use Rattle.synthesis.specs.Building.{countedOf, Builds}
-use Rattle.synthesis.specs.Promises.{SameAfterRows, Unchanged as BuildUnchanged}
+use Rattle.synthesis.specs.Promises.{SameAfterRows, TableUnchanged}
 use Rattle.synthesis.specs.declared.Counted.the-variants as Counted
 use Rattle.running.specs.Running.{resultOf}
 use Rattle.running.specs.Calls.{Call, History, Calls, OnTable, OnTableOrRefused}
-use Rattle.running.specs.Promises.{Sifted, Unchanged as RunUnchanged, OnlyFronts}
+use Rattle.running.specs.Promises.{Sifted, RunUnchanged, OnlyFronts}
 use Rattle.running.specs.declared.State.{State}
 use Rattle.running.specs.declared.Checked.the-variants as Checked
 use Rattle.enforcement.specs.Model.{suppressing}
@@ -28,7 +28,7 @@ use Rattle.models.specs.Judging.{stored, modelReadingOf, JudgedAs}
 use Rattle.models.specs.Promises.{Acceptable, JudgedExactly}
 use Rattle.models.specs.declared.Judged.{Judged}
 use Rattle.models.specs.declared.Judged.the-variants as Judged′
-use Rattle.demands.specs.Outcomes.{counting, building, tableBuilt, running, judging, tableAfterJudging, Exactly, WhereRefused}
+use Rattle.demands.specs.Outcomes.{counting, building, tableBuilt, running, judging, tableAfterJudging, RefusedIff, IfRefused}
 use Rattle.demands.specs.Refusals.{CountRefused, BuildRefused, RunRefused, JudgeRefused}
 
 -- ---- demand 1
@@ -36,20 +36,20 @@ use Rattle.demands.specs.Refusals.{CountRefused, BuildRefused, RunRefuse
 -- 1. Every byte string is taken as rule, model or scans, and every call ends: no public function has a `requires`, and each is proved to end. Each
 -- refuses unfit input itself, and no other, with the paper's number and place. So exactly one number and place hold of a refused call.
 pub record RefusesExactly : Type 1 where
-  pub read-rule : (s : List ℕ) → Bytes s → Exactly (readingOf (ruleOf s) .answer) Reading.Refused (RuleFault s)
-  pub count : (s : List ℕ) → Bytes s → Exactly (countedOf (counting s)) Counted.Refused (CountRefused s)
-  pub build : (s table : List ℕ) → Bytes s → Exactly (countedOf (building s table)) Counted.Refused (BuildRefused s (length table))
-  pub run : (s : State) (c : Call) → Exactly (resultOf s (running s c) .checked) Checked.Refused (RunRefused s c)
-  pub read-model : (f : List ℕ) → Bytes f → Exactly (modelReadingOf (phoneOf f) .answer) Reading.Refused (ModelFault f)
+  pub read-rule : (s : List ℕ) → Bytes s → RefusedIff (readingOf (ruleOf s) .answer) Reading.Refused (RuleFault s)
+  pub count : (s : List ℕ) → Bytes s → RefusedIff (countedOf (counting s)) Counted.Refused (CountRefused s)
+  pub build : (s table : List ℕ) → Bytes s → RefusedIff (countedOf (building s table)) Counted.Refused (BuildRefused s (length table))
+  pub run : (s : State) (c : Call) → RefusedIff (resultOf s (running s c) .checked) Checked.Refused (RunRefused s c)
+  pub read-model : (f : List ℕ) → Bytes f → RefusedIff (modelReadingOf (phoneOf f) .answer) Reading.Refused (ModelFault f)
   pub judge : (s table f : List ℕ) → Bytes s → Bytes f → (answer : Judged) → JudgedAs (judging s table f) answer
-      → Exactly answer Judged′.Refused (JudgeRefused s (length table) f)
+      → RefusedIff answer Judged′.Refused (JudgeRefused s (length table) f)
 
 -- A refused call changes no lent buffer, and a refused run hands back the state that it was given and counts of 0.
 pub record LeavesUnchanged : Type 0 where
-  pub build : (s table : List ℕ) → WhereRefused (countedOf (building s table)) Counted.Refused (BuildUnchanged 255 table (building s table))
-  pub run : (s : State) (c : Call) → WhereRefused (resultOf s (running s c) .checked) Checked.Refused (RunUnchanged s c (running s c))
+  pub build : (s table : List ℕ) → IfRefused (countedOf (building s table)) Counted.Refused (TableUnchanged 255 table (building s table))
+  pub run : (s : State) (c : Call) → IfRefused (resultOf s (running s c) .checked) Checked.Refused (RunUnchanged s c (running s c))
   pub judge : (s table f : List ℕ) (answer : Judged) → JudgedAs (judging s table f) answer
-      → WhereRefused answer Judged′.Refused (tableAfterJudging s table f ≡ table)
+      → IfRefused answer Judged′.Refused (tableAfterJudging s table f ≡ table)
 
 -- Any other changes no byte that isn't its own: building none behind its rows, a run none behind the kept scans and the verdicts. Judging leaves what
 -- building leaves.

@@ -39,9 +39,9 @@ tableAfterJudging s table f = tableJudged (judging s table f) (tableBuilt s tabl
 -- ---- answers
 
 -- An answer refuses with a number at a place exactly where some clause has it so.
-abbrev pub Exactly {ℓ} : {A : Type 0} → (answer : A) → (Refused : ℕ → ℕ → A) → (Clause : ℕ → ℕ → Type ℓ) → Type ℓ
-Exactly answer Refused Clause = (number place : ℕ) → (answer ≡ Refused number place) ↔ Clause number place
+abbrev pub RefusedIff {ℓ} : {A : Type 0} → (answer : A) → (Refused : ℕ → ℕ → A) → (Clause : ℕ → ℕ → Type ℓ) → Type ℓ
+RefusedIff answer Refused Clause = (number place : ℕ) → (answer ≡ Refused number place) ↔ Clause number place
 
 -- Where an answer refuses, with whatever number and place, this holds.
-abbrev pub WhereRefused : {A : Type 0} → (answer : A) → (Refused : ℕ → ℕ → A) → Type 0 → Type 0
-WhereRefused answer Refused Claim = (number place : ℕ) → answer ≡ Refused number place → Claim
+abbrev pub IfRefused : {A : Type 0} → (answer : A) → (Refused : ℕ → ℕ → A) → Type 0 → Type 0
+IfRefused answer Refused Claim = (number place : ℕ) → answer ≡ Refused number place → Claim

@@ -1,4 +1,4 @@
--- A model that isn't finite, and two that satisfy the same rules and aren't strongly bisimilar: counting passes every list of states, and of models
+-- A model that isn't finite, and two that satisfy the same rules and aren't strongly bisimilar: countingModel passes every list of states, and of models
 -- without codes only the empty list tells whether they satisfy a rule.
 use Prim.Native.Nat.{ℕ, zero, suc, _+_, _≤_}
 use mathlib.Core.Path.{refl}
@@ -14,10 +14,10 @@ use Rattle.enforcement.proofs.Walks.{walk-append}
 use Rattle.models.proofs.Phones.PhoneStates.{phones-finite}
 use Rattle.enforcement.proofs.QuietModels.{Quiet, quiet-satisfies}
 use Rattle.examples.specs.Examples.{poolRule}
-use Rattle.examples.specs.ModelExamples.{counting, stillPhone, idlePhone, Distinctions}
+use Rattle.examples.specs.ModelExamples.{countingModel, stillPhone, idlePhone, Distinctions}
 use Rattle.examples.proofs.PhoneSteps.{step-at, every-step}
 
--- ---- counting leads past the total of every list
+-- ---- countingModel leads past the total of every list
 
 abbrev total : List ℕ → ℕ
 total [] = 0
@@ -28,11 +28,11 @@ at-most-total [] i = omega arith
 at-most-total (x ∷ l) zero = let h : x ≤ x + total l = omega arith in h
 at-most-total (x ∷ l) (suc i) = let h = at-most-total l i in let k : getD l i 0 ≤ x + total l = omega (arith, h) in k
 
-counting-walk : (n : ℕ) → (w : List ℕ) × Walk counting 0 w n
+counting-walk : (n : ℕ) → (w : List ℕ) × Walk countingModel 0 w n
 counting-walk zero = ([], stay)
-counting-walk (suc n) = let (w, k) = counting-walk n in (_, walk-append counting k (code-first (refl, refl) stay))
+counting-walk (suc n) = let (w, k) = counting-walk n in (_, walk-append countingModel k (code-first (refl, refl) stay))
 
-endless : Finite counting → ⊥
+endless : Finite countingModel → ⊥
 endless finite =
     let past = suc (total (finite .states)) in
     let (w, k) = counting-walk past in

@@ -69,8 +69,8 @@ pool-table table room = let rows = pool-rows table room in record { rows = rows;
 -- ---- the paper's scans
 
 -- a row for each scan that is kept, in order
-pool-followed : (table : List ℕ) → PoolRows table → runFrom 255 table start poolScans ≡ poolRun
-pool-followed table rows = rw (rows .row-0, rows .row-2, rows .row-0, rows .row-1, rows .row-1)
+pool-run : (table : List ℕ) → PoolRows table → runFrom 255 table start poolScans ≡ poolRun
+pool-run table rows = rw (rows .row-0, rows .row-2, rows .row-0, rows .row-1, rows .row-1)
 
 runs-pool : (outcome : Outcome Run) → outcome ≡ accepted poolRun → RunsPool outcome
 unfolding occurrences
@@ -79,9 +79,9 @@ runs-pool outcome e = record { accepts = e; handed-back = rw e; output = λ byte
 pub pool-scans : (table : List ℕ) → 32768 ≤ length table → PoolScans (tableLeft 128 255 poolFile table)
 pool-scans table room = record {
   enough = λ output verdicts h k. runs-pool (runOf 128 255 (tableLeft 128 255 poolFile table) 3 start poolScans output verdicts)
-      (run-left (pool-builds table room) poolScans poolRun followed-so output verdicts h k);
+      (run-left (pool-builds table room) poolScans poolRun pool-run-is output verdicts h k);
   short = λ output verdicts. runs-on-tables 128 255 (tableLeft 128 255 poolFile table) 3 start poolScans output verdicts .short .1;
 }
   where
-    followed-so : runFrom 255 (tableLeft 128 255 poolFile table) start poolScans ≡ poolRun
-    followed-so = pool-followed (tableLeft 128 255 poolFile table) (pool-rows table room)
+    pool-run-is : runFrom 255 (tableLeft 128 255 poolFile table) start poolScans ≡ poolRun
+    pool-run-is = pool-run (tableLeft 128 255 poolFile table) (pool-rows table room)

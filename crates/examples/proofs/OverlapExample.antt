@@ -36,9 +36,9 @@ unfolding entriesOf answerOf bit covers least countBelow decimal decimalIn
 overlap-numbers = numbers overlapFile overlapRule overlapSets overlapListing overlap-read overlap-satisfiable overlap-equations (omega arith) refl
 
 -- a row for each equation that the run comes to, in order
-overlap-followed : (table : List ℕ) → 32768 ≤ length table → runFrom 255 (tableLeft 128 255 overlapFile table) start overlapScans ≡ overlapRun
+overlap-run : (table : List ℕ) → 32768 ≤ length table → runFrom 255 (tableLeft 128 255 overlapFile table) start overlapScans ≡ overlapRun
 unfolding entriesOf answerOf bit covers
-overlap-followed table room =
+overlap-run table room =
     let row = row-left overlapFile overlapRule overlap-read overlap-satisfiable overlapSets overlap-equations (omega arith) table room in
     let fresh = row 0 (omega arith) in
     let ended = row 1 (omega arith) in
@@ -50,5 +50,5 @@ overlap-example = record {
   numbers = overlap-numbers;
   run = λ table room.
       run-left (reads-builds overlapFile overlapRule 3 (overlap-numbers .file) (search arith) table room) overlapScans overlapRun
-      (overlap-followed table room);
+      (overlap-run table room);
 }

@@ -1,7 +1,7 @@
 -- All of the paper's examples, computed or from the files of each.
 use mathlib.Core.Path.{refl}
 use lib.ListN.{length}
-use Rattle.synthesis.proofs.Tables.Synthesized.{building-short}
+use Rattle.synthesis.proofs.Tables.SynthesisOutcomes.{building-short}
 use Rattle.listing.specs.Text.{decimalIn, decimal}
 use Rattle.examples.specs.Examples.{PaperExamples}
 use Rattle.examples.proofs.SmallFiles.{small-files}

@@ -22,8 +22,8 @@ use Rattle.models.specs.declared.Judged.the-variants.{Meets, Breaks}
 use Rattle.enforcement.proofs.SatisfactionLaws.{satisfies-safe}
 use Rattle.models.proofs.Phones.DecidedSets.{decided-satisfies}
 use Rattle.enforcement.proofs.BisimulationLaws.{bisimilar-alike}
-use Rattle.models.proofs.Verdicts.TablesEnforce.{tables-enforce}
-use Rattle.models.proofs.Verdicts.JudgingLaws.{judging-case}
+use Rattle.models.proofs.Judgments.TablesEnforce.{tables-enforce}
+use Rattle.models.proofs.Judgments.JudgingLaws.{judging-case}
 use Rattle.examples.specs.Examples.{poolFile, poolRule}
 use Rattle.examples.specs.ModelExamples.{behind, JudgesPool, breakingFile, breakingPhone, Breaking}
 use Rattle.examples.specs.ModelExamples.{meetingFile, meetingPhone, Meeting, ModelExamples}

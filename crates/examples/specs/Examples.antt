@@ -52,15 +52,15 @@ pub record Codes : Type 0 where
 
 -- Counting answers so, and building too with every table of at least 32,768 bytes.
 pub record Answers (s : List ℕ) (answer : Counted) : Type 0 where
-  pub counting : countedOf (synthesisOf 128 s) ≡ answer
+  pub countingModel : countedOf (synthesisOf 128 s) ≡ answer
   pub building : (table : List ℕ) → 32768 ≤ length table → countedOf (buildingOf 128 s (length table)) ≡ answer
 
--- reading refuses the file, and so do counting and building
+-- reading refuses the file, and so do countingModel and building
 pub record Refuses (s : List ℕ) (number place : ℕ) : Type 0 where
   pub reading : ruleOf s ≡ refused number place
   pub answers : Answers s (Refused number place)
 
--- reading accepts the file as this rule, and counting and building answer so
+-- reading accepts the file as this rule, and countingModel and building answer so
 pub record Reads (s : List ℕ) (r : Rule) (answer : Counted) : Type 0 where
   pub reading : ruleOf s ≡ accepted r
   pub answers : Answers s answer

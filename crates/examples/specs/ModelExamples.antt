@@ -103,8 +103,8 @@ pub record Shortening : Type 0 where
 -- Not in the paper: what isn't finite, and what isn't strongly bisimilar.
 
 -- a model that counts: code 0 leads from each number to the next
-abbrev pub counting : Model
-counting = record { State = ℕ; start = 0; Step = λ s a t. (a ≡ code 0) × (t ≡ suc s) }
+abbrev pub countingModel : Model
+countingModel = record { State = ℕ; start = 0; Step = λ s a t. (a ≡ code 0) × (t ≡ suc s) }
 
 -- a phone that does nothing, and one whose only step is silent and leads back
 abbrev pub stillPhone : Phone
@@ -115,7 +115,7 @@ idlePhone = record { states = 1; steps = step 0 256 0 ∷ [] }
 
 -- The idle phone is finite, unlike the one that counts. It satisfies the same rules as the still one, the number-pool rule among them.
 pub record Distinctions : Type 1 where
-  pub endless : Finite counting → ⊥
+  pub endless : Finite countingModel → ⊥
   pub idle-finite : Finite (modelOf idlePhone)
   pub same-rules : (r : Rule) → Satisfies (modelOf stillPhone) r ↔ Satisfies (modelOf idlePhone) r
   pub idle-satisfies : Satisfies (modelOf idlePhone) poolRule

@@ -4,7 +4,7 @@ use models::Judged;
 use models::ModelReading;
 use models::PhoneModel;
 use models::Step;
-use reading::Acceptance;
+use reading::FileRead;
 use testing::digest;
 use testing::print_field;
 use testing::print_refusal;
@@ -28,12 +28,12 @@ fn steps_digest(model: PhoneModel) -> u64 {
     sum
 }
 
-fn print_answer(answer: Acceptance) {
+fn print_answer(answer: FileRead) {
     match answer {
-        Acceptance::Accepted => {
+        FileRead::Accepted => {
             io::write_all(STDOUT_FILENO, b"accepted");
         }
-        Acceptance::Refused(number, place) => {
+        FileRead::Refused(number, place) => {
             print_refusal(number, place);
         }
     }

@@ -2,6 +2,6 @@
 pub mod Files
 pub mod Phones
 pub mod Pairs
-pub mod Verdicts
+pub mod Judgments
 pub mod Compiled
 pub mod Promises

@@ -1,9 +1,9 @@
 -- Each promise of this crate, by its theorem.
 use Rattle.models.specs.Promises.{Promises}
-use Rattle.models.proofs.Verdicts.TablesEnforce.{tables-enforce}
+use Rattle.models.proofs.Judgments.TablesEnforce.{tables-enforce}
 use Rattle.models.proofs.Phones.DecidedSets.{decided-satisfies}
-use Rattle.models.proofs.Verdicts.JudgingLaws.{judges-exactly, refused-unchanged}
-use Rattle.models.proofs.Verdicts.Acceptance.{accepts-exactly, refuses-unsatisfiable}
+use Rattle.models.proofs.Judgments.JudgingLaws.{judges-exactly, refused-unchanged}
+use Rattle.models.proofs.Judgments.Accepting.{accepts-exactly, refuses-unsatisfiable}
 use Rattle.models.proofs.Files.Encoding.{accepts-phones, one-phone, stores-model, answers-accepted}
 use Rattle.models.proofs.Files.FileFaults.{refuses-at-the-fault, has-one-fault}
 use Rattle.models.proofs.Files.Settled.{settled-by-first-bytes, not-by-fewer}

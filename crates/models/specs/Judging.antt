@@ -8,7 +8,7 @@ use lib.ListN.{length}
 use Rattle.reading.specs.Rule.{Rule}
 use Rattle.reading.specs.File.{Outcome, accepted, refused, andThen}
 use Rattle.reading.specs.Numbered.{padded}
-use Rattle.reading.specs.declared.Acceptance.the-variants.{Accepted, Refused}
+use Rattle.reading.specs.declared.FileRead.the-variants.{Accepted, Refused}
 use Rattle.synthesis.specs.Building.{buildingOf}
 use Rattle.enforcement.specs.Model.{SatisfiesDecided}
 use Rattle.models.specs.Phone.{Phone, noStep, modelOf, phoneOf}

@@ -7,8 +7,8 @@ use lib.ListN.{length, set}
 use Rattle.reading.specs.File.{Outcome, accepted, refused, Records}
 use Rattle.reading.specs.Numbered.{padded}
 use Rattle.reading.specs.Representations.{RecordsBegun}
-use Rattle.reading.specs.declared.Acceptance.{Acceptance}
-use Rattle.reading.specs.declared.Acceptance.the-variants.{Accepted, Refused}
+use Rattle.reading.specs.declared.FileRead.{FileRead}
+use Rattle.reading.specs.declared.FileRead.the-variants.{Accepted, Refused}
 use Rattle.models.specs.Phone.{noStep, stepFormat, stepsAt}
 use Rattle.models.specs.declared.Step.{Step}
 use Rattle.models.specs.declared.loading.Next.{Next}
@@ -18,7 +18,7 @@ abbrev pub StepsBegun : List ℕ → (states : ℕ) (steps : List Step) (n at : 
 StepsBegun f states steps n at = RecordsBegun (stepFormat f states) noStep 512 2 steps n at
 
 -- the answer to an outcome, with its steps in 512 records and their count; of a refusal the answer alone
-abbrev pub LoadedAs : Outcome (Records Step) → (steps : List Step) (answer : Acceptance) (n : ℕ) → Type 0
+abbrev pub LoadedAs : Outcome (Records Step) → (steps : List Step) (answer : FileRead) (n : ℕ) → Type 0
 LoadedAs (accepted xs) steps answer n = (answer ≡ Accepted) × (steps ≡ padded 512 noStep (xs .list)) × (n ≡ length (xs .list))
 LoadedAs (refused number place) steps answer n = answer ≡ Refused number place
 

@@ -67,12 +67,12 @@ abbrev pub silentStepKind : ℕ
 silentStepKind = 18
 
 -- the record of a step, silent or with a code
-abbrev pub recordBytes : (silent : Bool) → Step → List ℕ
-recordBytes true x = silentStepKind ∷ x .from ∷ x .to ∷ []
-recordBytes false x = codeStepKind ∷ x .from ∷ x .label ∷ x .to ∷ []
+abbrev pub stepBytes : (silent : Bool) → Step → List ℕ
+stepBytes true x = silentStepKind ∷ x .from ∷ x .to ∷ []
+stepBytes false x = codeStepKind ∷ x .from ∷ x .label ∷ x .to ∷ []
 
 abbrev pub encodeStep : Step → List ℕ
-encodeStep x = recordBytes (eqb (x .label) 256) x
+encodeStep x = stepBytes (eqb (x .label) 256) x
 
 abbrev pub encodeSteps : List Step → List ℕ
 encodeSteps = encodeEach encodeStep

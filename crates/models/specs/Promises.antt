@@ -8,7 +8,7 @@ use lib.ListN.{length, getD, take}
 use Rattle.reading.specs.Rule.{Rule, RuleWithinLimits, encode, Bytes}
 use Rattle.reading.specs.File.{accepted, refused, ruleOf}
 use Rattle.reading.specs.Promises.{OneFault}
-use Rattle.reading.specs.declared.Acceptance.the-variants.{Accepted, Refused as NotAccepted}
+use Rattle.reading.specs.declared.FileRead.the-variants.{Accepted, Refused as NotAccepted}
 use Rattle.synthesis.specs.Monitor.{lookup}
 use Rattle.synthesis.specs.Building.{buildingOf, countedOf, tableLeft, Builds}
 use Rattle.synthesis.specs.Promises.{Closed}

@@ -1,8 +1,8 @@
 -- What the crate's own enums stand for. No public contract cites these.
 use Prim.Native.Nat.{ℕ}
 use Rattle.reading.specs.File.{Outcome, byCase}
-use Rattle.reading.specs.declared.Acceptance.{Acceptance}
-use Rattle.reading.specs.declared.Acceptance as Acceptance′
+use Rattle.reading.specs.declared.FileRead.{FileRead}
+use Rattle.reading.specs.declared.FileRead as FileRead′
 use Rattle.synthesis.specs.declared.Counted.{Counted}
 use Rattle.synthesis.specs.declared.Counted as Counted′
 use Rattle.models.specs.declared.Step.{Step}
@@ -23,23 +23,23 @@ stepRead = byCase StepRead′.the-variants.Read StepRead′.the-variants.Refused
 
 -- ---- refusals passed up
 
-abbrev pub statesAnswer : StatesRead → Acceptance
-statesAnswer (StatesRead′.the-variants.Read n) = Acceptance′.the-variants.Accepted
-statesAnswer (StatesRead′.the-variants.Refused number place) = Acceptance′.the-variants.Refused number place
+abbrev pub statesAnswer : StatesRead → FileRead
+statesAnswer (StatesRead′.the-variants.Read n) = FileRead′.the-variants.Accepted
+statesAnswer (StatesRead′.the-variants.Refused number place) = FileRead′.the-variants.Refused number place
 
-abbrev pub stepAnswer : StepRead → Acceptance
-stepAnswer (StepRead′.the-variants.Read x) = Acceptance′.the-variants.Accepted
-stepAnswer (StepRead′.the-variants.Refused number place) = Acceptance′.the-variants.Refused number place
+abbrev pub stepAnswer : StepRead → FileRead
+stepAnswer (StepRead′.the-variants.Read x) = FileRead′.the-variants.Accepted
+stepAnswer (StepRead′.the-variants.Refused number place) = FileRead′.the-variants.Refused number place
 
 abbrev pub ruleRefusal : Counted → Judged
 ruleRefusal (Counted′.the-variants.Equations n) = Judged′.the-variants.Refused 0 0
 ruleRefusal (Counted′.the-variants.Refused number place) = Judged′.the-variants.Refused number place
 
-abbrev pub modelRefusal : Acceptance → Judged
-modelRefusal Acceptance′.the-variants.Accepted = Judged′.the-variants.Refused 0 0
-modelRefusal (Acceptance′.the-variants.Refused number place) = Judged′.the-variants.Refused number place
+abbrev pub modelRefusal : FileRead → Judged
+modelRefusal FileRead′.the-variants.Accepted = Judged′.the-variants.Refused 0 0
+modelRefusal (FileRead′.the-variants.Refused number place) = Judged′.the-variants.Refused number place
 
 -- that of the rule, or else that of the model
-abbrev pub refusalBefore : Counted → Acceptance → Judged
+abbrev pub refusalBefore : Counted → FileRead → Judged
 refusalBefore (Counted′.the-variants.Equations n) answer = modelRefusal answer
 refusalBefore (Counted′.the-variants.Refused number place) answer = Judged′.the-variants.Refused number place

@@ -5,7 +5,7 @@ mod loading;
 mod records;
 mod steps;
 
-use reading::Acceptance;
+use reading::FileRead;
 use records::StatesRead;
 use synthesis::Counted;
 ghost use mathlib.Core.Path.{_≡_};
@@ -34,7 +34,7 @@ pub struct PhoneModel {
 
 // What reading a model file gives. The model of a refused file is blank.
 pub struct ModelReading {
-    pub answer: Acceptance,
+    pub answer: FileRead,
     pub model: PhoneModel,
 }
 
@@ -59,7 +59,7 @@ fn blank_model() -> PhoneModel
 }
 
 // A refused file.
-fn refused(answer: Acceptance) -> ModelReading
+fn refused(answer: FileRead) -> ModelReading
     ensures { λ r. ⌜ r ≡ record { answer = answer; model = blank } ⌝ }
 {
     let model = blank_model();
@@ -77,7 +77,7 @@ pub fn read_model(bytes: &[u8]) -> ModelReading
     let blank = blank_model().steps;
     let loaded = loading::read_array(bytes, states, blank);
     let answer = loaded.answer;
-    let Acceptance::Accepted = answer else {
+    let FileRead::Accepted = answer else {
         return refused(answer);
     };
     let steps = loaded.steps;
@@ -100,17 +100,17 @@ fn refuse_rule(counted: Counted) -> Judged
 }
 
 // The refusal of a model file.
-fn refuse_model(answer: Acceptance) -> Judged
+fn refuse_model(answer: FileRead) -> Judged
     ensures { λ r. ⌜ r ≡ modelRefusal answer ⌝ }
 {
     match answer {
-        Acceptance::Accepted => Judged::Refused(0, 0),
-        Acceptance::Refused(number, place) => Judged::Refused(number, place),
+        FileRead::Accepted => Judged::Refused(0, 0),
+        FileRead::Refused(number, place) => Judged::Refused(number, place),
     }
 }
 
 // What is said where the model is refused: 10 and the refusals of the rule come first.
-fn refuse(rule: &[u8], capacity: usize, answer: Acceptance) -> Judged
+fn refuse(rule: &[u8], capacity: usize, answer: FileRead) -> Judged
     ensures { λ r. ⌜ r ≡ refusalBefore (countedOf (buildingOf 128 (now (rule .entry)) capacity)) answer ⌝ }
 {
     if capacity < 32768 {
@@ -134,7 +134,7 @@ pub fn judge(rule: &[u8], model: &[u8], table: &mut [u8]) -> Judged
 {
     let reading = read_model(model);
     let answer = reading.answer;
-    let Acceptance::Accepted = answer else {
+    let FileRead::Accepted = answer else {
         return refuse(rule, table.len(), answer);
     };
     let built = synthesis::build(rule, table);

@@ -4,7 +4,7 @@ use crate::records;
 use crate::records::StepRead;
 use crate::steps::no_step;
 use crate::steps::put_step;
-use reading::Acceptance;
+use reading::FileRead;
 ghost use mathlib.Core.Path.{_≡_};
 ghost use mathlib.Core.Bool.{false};
 ghost use mathlib.Core.List.{List};
@@ -15,7 +15,7 @@ ghost use Rattle.models.specs.Loading.{StepsBegun, NextRead, LoadedAs};
 // count.
 pub(crate) struct Next {
     more: bool,
-    answer: Acceptance,
+    answer: FileRead,
     step: Step,
     n: usize,
     at: usize,
@@ -23,13 +23,13 @@ pub(crate) struct Next {
 
 // The steps that are read, the first nsteps of the array. They count only where the answer accepts.
 pub(crate) struct Loaded {
-    pub(crate) answer: Acceptance,
+    pub(crate) answer: FileRead,
     pub(crate) steps: [Step; 512],
     pub(crate) nsteps: usize,
 }
 
 // No more is read.
-fn no_more(answer: Acceptance, n: usize) -> Next
+fn no_more(answer: FileRead, n: usize) -> Next
     ensures { λ r. ⌜ r ≡ record { more = false; answer = answer; step = noStep; n = n; at = 0 } ⌝ }
 {
     let step = no_step();
@@ -48,7 +48,7 @@ fn next_step(bytes: &[u8], states: usize, n: usize, at: usize) -> Next
     ensures { λ r. ⌜ ((steps : List Step) → StepsBegun (now (bytes .entry)) states steps n at → NextRead (now (bytes .entry)) states steps n r) ⌝ }
 {
     if bytes.len() <= at {
-        return no_more(Acceptance::Accepted, n);
+        return no_more(FileRead::Accepted, n);
     }
     let found = records::read_step(bytes, states, at, 512 - n);
     let StepRead::Read(step) = found else {
@@ -57,7 +57,7 @@ fn next_step(bytes: &[u8], states: usize, n: usize, at: usize) -> Next
     let width = records::record_length(step);
     Next {
         more: true,
-        answer: Acceptance::Accepted,
+        answer: FileRead::Accepted,
         step,
         n,
         at: at + width,

@@ -1,7 +1,7 @@
 // The records of a model file.
 use crate::SILENT;
 use crate::Step;
-use reading::Acceptance;
+use reading::FileRead;
 ghost use mathlib.Core.Path.{_≡_};
 ghost use Prim.Native.Nat.{_<_};
 ghost use lib.ListN.{length};
@@ -122,21 +122,21 @@ pub(crate) fn record_length(step: Step) -> usize
 }
 
 // The answer to a file whose first record was found so.
-pub(crate) fn states_answer(found: StatesRead) -> Acceptance
+pub(crate) fn states_answer(found: StatesRead) -> FileRead
     ensures { λ r. ⌜ r ≡ statesAnswer found ⌝ }
 {
     match found {
-        StatesRead::Read(_) => Acceptance::Accepted,
-        StatesRead::Refused(number, place) => Acceptance::Refused(number, place),
+        StatesRead::Read(_) => FileRead::Accepted,
+        StatesRead::Refused(number, place) => FileRead::Refused(number, place),
     }
 }
 
 // The answer to a file one of whose steps was found so.
-pub(crate) fn step_answer(found: StepRead) -> Acceptance
+pub(crate) fn step_answer(found: StepRead) -> FileRead
     ensures { λ r. ⌜ r ≡ stepAnswer found ⌝ }
 {
     match found {
-        StepRead::Read(_) => Acceptance::Accepted,
-        StepRead::Refused(number, place) => Acceptance::Refused(number, place),
+        StepRead::Read(_) => FileRead::Accepted,
+        StepRead::Refused(number, place) => FileRead::Refused(number, place),
     }
 }

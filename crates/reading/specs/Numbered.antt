@@ -9,7 +9,7 @@ use Rattle.reading.specs.Nodes.{EnclosingMax, preorder}
 use Rattle.reading.specs.declared.Pattern.{Pattern}
 use Rattle.reading.specs.declared.Extent.{Extent}
 use Rattle.reading.specs.declared.NumberedRule.{NumberedRule}
-use Rattle.reading.specs.declared.Acceptance.the-variants.{Accepted, Refused}
+use Rattle.reading.specs.declared.FileRead.the-variants.{Accepted, Refused}
 use Rattle.reading.specs.declared.Reading.{Reading}
 
 -- the kind of a node

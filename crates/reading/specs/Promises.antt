@@ -13,8 +13,8 @@ use Rattle.reading.specs.Faults.{Fault}
 use Rattle.reading.specs.Numbered.{kind, argument, numberOf, numbered, noPattern, noExtent, readingOf}
 use Rattle.reading.specs.Nodes.{EnclosingMax, Node, guardsAt, Resolves}
 use Rattle.reading.specs.declared.Pattern.{Pattern}
-use Rattle.reading.specs.declared.Acceptance.{Acceptance}
-use Rattle.reading.specs.declared.Acceptance.the-variants.{Accepted, Refused}
+use Rattle.reading.specs.declared.FileRead.{FileRead}
+use Rattle.reading.specs.declared.FileRead.the-variants.{Accepted, Refused}
 
 -- 1. A file is accepted exactly as the encoding of a well-formed rule within the limits, and then as that rule.
 abbrev pub AcceptsEncodings : Type 0
@@ -36,7 +36,7 @@ RefusesAtTheFault =
     (s : List ℕ) → Bytes s → (number place : ℕ) → (readingOf (ruleOf s) .answer ≡ Refused number place) ↔ Fault s number place
 
 -- So no two of its clauses differ in number or place, and none holds exactly where the file is accepted.
-pub record OneFault (answer : Acceptance) (Holds : (number place : ℕ) → Type 0) : Type 0 where
+pub record OneFault (answer : FileRead) (Holds : (number place : ℕ) → Type 0) : Type 0 where
   pub one : {number place number′ place′ : ℕ} → Holds number place → Holds number′ place′ → (number ≡ number′) × (place ≡ place′)
   pub none : (answer ≡ Accepted) ↔ ((number place : ℕ) → Holds number place → ⊥)
 

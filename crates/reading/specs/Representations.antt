@@ -11,8 +11,8 @@ use Rattle.reading.specs.File.{Outcome, accepted, refused, refuse, andTh
 use Rattle.reading.specs.Rule.{Guards, Symbol, kindByte, bodyBytes}
 use Rattle.reading.specs.Numbered.{kinds, args, padded, noPattern, noExtent}
 use Rattle.reading.specs.declared.Pattern.{Pattern}
-use Rattle.reading.specs.declared.Acceptance.{Acceptance}
-use Rattle.reading.specs.declared.Acceptance as Acceptance′
+use Rattle.reading.specs.declared.FileRead.{FileRead}
+use Rattle.reading.specs.declared.FileRead as FileRead′
 use Rattle.reading.specs.declared.patterns.PatternRead.{PatternRead}
 use Rattle.reading.specs.declared.patterns.PatternRead as PatternRead′
 use Rattle.reading.specs.declared.patterns.Head.{Head}
@@ -48,13 +48,13 @@ formulaRead = byCase (λ f. FormulaRead′.the-variants.Read (restOf f)) Formula
 
 -- ---- refusals passed up
 
-abbrev pub patternAnswer : PatternRead → Acceptance
-patternAnswer (PatternRead′.the-variants.Read p) = Acceptance′.the-variants.Accepted
-patternAnswer (PatternRead′.the-variants.Refused number place) = Acceptance′.the-variants.Refused number place
+abbrev pub patternAnswer : PatternRead → FileRead
+patternAnswer (PatternRead′.the-variants.Read p) = FileRead′.the-variants.Accepted
+patternAnswer (PatternRead′.the-variants.Refused number place) = FileRead′.the-variants.Refused number place
 
-abbrev pub formulaAnswer : FormulaRead → Acceptance
-formulaAnswer (FormulaRead′.the-variants.Read r) = Acceptance′.the-variants.Accepted
-formulaAnswer (FormulaRead′.the-variants.Refused number place) = Acceptance′.the-variants.Refused number place
+abbrev pub formulaAnswer : FormulaRead → FileRead
+formulaAnswer (FormulaRead′.the-variants.Read r) = FileRead′.the-variants.Accepted
+formulaAnswer (FormulaRead′.the-variants.Refused number place) = FileRead′.the-variants.Refused number place
 
 -- no caller passes a node up that was read, so any case will do for it
 abbrev pub passedUp : NodeRead → FormulaRead
@@ -83,7 +83,7 @@ pub record RecordsBegun {A : Type 0} (r : RecordFormat A) (blank : A) (limit sta
 
 abbrev pub headOf : Records Pattern → Head
 headOf ps = record {
-  answer = Acceptance′.the-variants.Accepted;
+  answer = FileRead′.the-variants.Accepted;
   next = ps .next;
   count = length (ps .list);
   list = padded 32 noPattern (ps .list);
@@ -92,7 +92,7 @@ headOf ps = record {
 
 abbrev pub HeadOf : Outcome (Records Pattern) → Head → Type 0
 HeadOf (accepted ps) h = h ≡ headOf ps
-HeadOf (refused number place) h = h .answer ≡ Acceptance′.the-variants.Refused number place
+HeadOf (refused number place) h = h .answer ≡ FileRead′.the-variants.Refused number place
 
 -- ---- the max nodes around a record
 

@@ -1,5 +1,5 @@
 // Node records, and a formula in prefix order.
-use crate::Acceptance;
+use crate::FileRead;
 use crate::kinds::BOTH;
 use crate::kinds::MAX;
 use crate::kinds::NECESSITY;
@@ -234,11 +234,11 @@ pub(crate) fn read_formula(
 }
 
 // The answer to a file whose formula was found so.
-pub(crate) fn answer(found: FormulaRead) -> Acceptance
+pub(crate) fn answer(found: FormulaRead) -> FileRead
     ensures { λ r. ⌜ r ≡ formulaAnswer found ⌝ }
 {
     match found {
-        FormulaRead::Read(_) => Acceptance::Accepted,
-        FormulaRead::Refused(number, place) => Acceptance::Refused(number, place),
+        FormulaRead::Read(_) => FileRead::Accepted,
+        FormulaRead::Refused(number, place) => FileRead::Refused(number, place),
     }
 }

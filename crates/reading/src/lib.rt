@@ -33,14 +33,14 @@ pub struct NumberedRule {
 }
 
 // What is said of a file: accepted, or refused with a number and a place.
-pub enum Acceptance {
+pub enum FileRead {
     Accepted,
     Refused(u8, usize),
 }
 
 // What reading a rule file gives. The rule of a refused file is blank.
 pub struct Reading {
-    pub answer: Acceptance,
+    pub answer: FileRead,
     pub rule: NumberedRule,
 }
 
@@ -87,7 +87,7 @@ fn blank_rule() -> NumberedRule
 }
 
 // A refused file.
-fn refused(answer: Acceptance) -> Reading
+fn refused(answer: FileRead) -> Reading
     ensures { λ r. ⌜ r ≡ record { answer = answer; rule = blank } ⌝ }
 {
     let rule = blank_rule();
@@ -100,7 +100,7 @@ pub fn read_rule(bytes: &[u8]) -> Reading
 {
     let head = patterns::read_patterns(bytes);
     let answer = head.answer;
-    let Acceptance::Accepted = answer else {
+    let FileRead::Accepted = answer else {
         return refused(answer);
     };
     let at = head.next;
@@ -115,7 +115,7 @@ pub fn read_rule(bytes: &[u8]) -> Reading
     let next = rest.next;
     let left = rest.left;
     if next < bytes.len() {
-        return refused(Acceptance::Refused(3, next));
+        return refused(FileRead::Refused(3, next));
     }
     let patterns = head.list;
     let extents = head.extents;
@@ -128,7 +128,7 @@ pub fn read_rule(bytes: &[u8]) -> Reading
         nnodes: 64 - left,
     };
     Reading {
-        answer: Acceptance::Accepted,
+        answer: FileRead::Accepted,
         rule,
     }
 }

@@ -1,6 +1,6 @@
 // Pattern records: reading one, its lowest code and count, and all that a file begins with.
-use crate::Acceptance;
 use crate::Extent;
+use crate::FileRead;
 use crate::Pattern;
 use crate::blank_rule;
 use crate::kinds::PATTERN;
@@ -19,7 +19,7 @@ pub(crate) enum PatternRead {
 
 // The patterns that a file begins with, and the place after them.
 pub(crate) struct Head {
-    pub(crate) answer: Acceptance,
+    pub(crate) answer: FileRead,
     pub(crate) next: usize,
     pub(crate) count: usize,
     pub(crate) list: [Pattern; 32],
@@ -83,12 +83,12 @@ fn is_pattern(bytes: &[u8], at: usize) -> bool
 }
 
 // The answer to a file one of whose patterns was found so.
-fn answer(found: PatternRead) -> Acceptance
+fn answer(found: PatternRead) -> FileRead
     ensures { λ r. ⌜ r ≡ patternAnswer found ⌝ }
 {
     match found {
-        PatternRead::Read(_) => Acceptance::Accepted,
-        PatternRead::Refused(number, place) => Acceptance::Refused(number, place),
+        PatternRead::Read(_) => FileRead::Accepted,
+        PatternRead::Refused(number, place) => FileRead::Refused(number, place),
     }
 }
 
@@ -119,7 +119,7 @@ pub(crate) fn read_patterns(bytes: &[u8]) -> Head
         at = at + 4;
     }
     Head {
-        answer: Acceptance::Accepted,
+        answer: FileRead::Accepted,
         next: at,
         count: n,
         list,

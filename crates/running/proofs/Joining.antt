@@ -15,10 +15,10 @@ use Rattle.running.proofs.RunCases.{run-unfit, run-fit}
 use Rattle.running.proofs.Tables.{fits-well-formed, well-formed-fits, ends-inside}
 
 -- two runs, the second from where the first ended
-followed-together : (mark : ℕ) (table : List ℕ) (s : State) (v w : List ℕ)
+runFrom-together : (mark : ℕ) (table : List ℕ) (s : State) (v w : List ℕ)
     → Together s (accepted (runFrom mark table s v)) (accepted (runFrom mark table (ended (answerIn mark table) s v) w))
     (accepted (runFrom mark table s (v ++ w)))
-followed-together mark table s v w =
+runFrom-together mark table s v w =
     let F = answerIn mark table in
     let e = ended F s v in
     record {
@@ -49,7 +49,7 @@ two-calls limit mark table count s v w o₁ v₁ o₂ v₂ o₃ v₃ r₁ r₂ r
           run-fit limit mark table count e w o₂ v₂ r₂ f′,
           run-fit limit mark table count s (v ++ w) o₃ v₃ r₃ f,
         )
-        (followed-together mark table s v w)
+        (runFrom-together mark table s v w)
     on false f =
         rw (
           run-unfit limit mark table count s v o₁ v₁ r₁ f,

@@ -14,7 +14,7 @@ use Rattle.synthesis.proofs.Monitors.Runs.{verdicts-length}
 use Rattle.synthesis.proofs.Monitors.Verdicts.{verdicts-range}
 use Rattle.running.specs.Running.{answerIn, runFrom, resultOf, overlay}
 use Rattle.running.specs.Calls.{Call}
-use Rattle.running.specs.Promises.{Unchanged, RefusedUnchanged, OnlyFront, OnlyFronts, RestUnchanged}
+use Rattle.running.specs.Promises.{RunUnchanged, RefusedUnchanged, OnlyFront, OnlyFronts, RestUnchanged}
 use Rattle.running.specs.declared.State.{State}
 use Rattle.running.specs.declared.Checked.the-variants.{Fit, Refused}
 use Rattle.running.proofs.Counting.{kept-dropped}
@@ -27,7 +27,7 @@ use Rattle.running.proofs.Refusals.{has-room-lengths}
 pub refused-unchanged : RefusedUnchanged
 refused-unchanged limit mark s c number place =
     run-cases limit mark (c .table) (c .count) s (c .scans) (length (c .output)) (length (c .verdicts))
-    (λ o. resultOf s o .checked ≡ Refused number place → Unchanged s c o)
+    (λ o. resultOf s o .checked ≡ Refused number place → RunUnchanged s c o)
     (λ r e. record { handed-back = refl; output = refl; verdicts = refl })
     (λ r f e. record { handed-back = refl; output = refl; verdicts = refl })
     (λ r f e. let z : _≡_ {A = ℕ} 0 1 = cc in absurd (omega arith))
@@ -41,9 +41,9 @@ overlay-front front buffer h = record {
   rest = drop-append-seam front (drop (length front) buffer);
 }
 
-followed-fronts : (mark : ℕ) (s : State) (c : Call) → length (c .scans) ≤ length (c .output) → length (c .scans) ≤ length (c .verdicts)
+runFrom-fronts : (mark : ℕ) (s : State) (c : Call) → length (c .scans) ≤ length (c .output) → length (c .scans) ≤ length (c .verdicts)
     → OnlyFronts s c (accepted (runFrom mark (c .table) s (c .scans)))
-followed-fronts mark s c ro rv =
+runFrom-fronts mark s c ro rv =
     let F = answerIn mark (c .table) in
     let w = c .scans in
     let all = kept-dropped F s w in
@@ -63,4 +63,4 @@ rest-unchanged limit mark s c =
     (λ o. resultOf s o .checked ≡ Fit → OnlyFronts s c o)
     (λ r e. let z : _≡_ {A = ℕ} 0 1 = cc in absurd (omega arith))
     (λ r f e. let z : _≡_ {A = ℕ} 0 1 = cc in absurd (omega arith))
-    (λ r f e. let room = has-room-lengths (c .scans) (length (c .output)) (length (c .verdicts)) r in followed-fronts mark s c (room .0) (room .1))
+    (λ r f e. let room = has-room-lengths (c .scans) (length (c .output)) (length (c .verdicts)) r in runFrom-fronts mark s c (room .0) (room .1))

@@ -24,24 +24,24 @@ answer-by-entry : (mark : ℕ) (table : List ℕ) (s : State) (c entry : ℕ) �
 answer-by-entry mark table s c entry h true q = rw (← h, q)
 answer-by-entry mark table s c entry h false q = rw (← h, q)
 
-module _ (mark : ℕ) (table : List ℕ) (s : State) (output₀ judged₀ : List ℕ) where
+module _ (mark : ℕ) (table : List ℕ) (s : State) (output₀ buffer₀ : List ℕ) where
   -- what the loop has when it has gone over the scans w: where the row of the equation begins, how many were kept, and the buffers
-  pub record Has (w output judged : List ℕ) (from keeps : ℕ) : Type 0 where
+  pub record Written (w output buffer : List ℕ) (from keeps : ℕ) : Type 0 where
     pub from-is : from ≡ 256 * ended (answerIn mark table) s w .equation
     pub keeps-is : keeps ≡ length (kept (answerIn mark table) s w)
     pub output-is : output ≡ overlay (kept (answerIn mark table) s w) output₀
-    pub judged-is : judged ≡ overlay (verdicts (answerIn mark table) s w) judged₀
+    pub buffer-is : buffer ≡ overlay (verdicts (answerIn mark table) s w) buffer₀
 
-  module _ (w output judged : List ℕ) (from keeps c : ℕ) (h : Has w output judged from keeps) where
+  module _ (w output buffer : List ℕ) (from keeps c : ℕ) (h : Written w output buffer from keeps) where
     -- its buffers, with one more kept scan and one more verdict
     output-last : keeps < length output₀ → set output keeps c ≡ overlay (kept (answerIn mark table) s w ++ (c ∷ [])) output₀
     output-last r = rw (h .output-is, h .keeps-is) (overlay-set (kept (answerIn mark table) s w) output₀ c (rw (h .keeps-is) at r))
 
-    judged-last : (n v : ℕ) → length w ≡ n → n < length judged₀
-        → set judged n v ≡ overlay (verdicts (answerIn mark table) s w ++ (v ∷ [])) judged₀
-    judged-last n v l r =
+    buffer-last : (n v : ℕ) → length w ≡ n → n < length buffer₀
+        → set buffer n v ≡ overlay (verdicts (answerIn mark table) s w ++ (v ∷ [])) buffer₀
+    buffer-last n v l r =
         let e : length (verdicts (answerIn mark table) s w) ≡ n = verdicts-length (answerIn mark table) s w ∙ l in
-        rw (h .judged-is, ← e) (overlay-set (verdicts (answerIn mark table) s w) judged₀ v (omega arith))
+        rw (h .buffer-is, ← e) (overlay-set (verdicts (answerIn mark table) s w) buffer₀ v (omega arith))
 
     module _ (entry : ℕ) (is : entry ≡ getD (rowOf 256 table (from / 256)) c mark) where
       -- the table's answer where the run stands
@@ -53,8 +53,8 @@ module _ (mark : ℕ) (table : List ℕ) (s : State) (output₀ judged₀ : List
           answer-by-entry mark table (ended (answerIn mark table) s w) c entry (rw e at is)
 
       -- with the entry for c, the loop has what it should after w and c
-      has-next : (n : ℕ) → length w ≡ n → keeps < length output₀ → n < length judged₀ → (b : Bool) → eqb entry mark ≡ b
-          → Has (w ++ (c ∷ [])) (set output keeps (cond b (getD output keeps 0) c)) (set judged n (cond b 1 0))
+      has-next : (n : ℕ) → length w ≡ n → keeps < length output₀ → n < length buffer₀ → (b : Bool) → eqb entry mark ≡ b
+          → Written (w ++ (c ∷ [])) (set output keeps (cond b (getD output keeps 0) c)) (set buffer n (cond b 1 0))
           (cond b from (256 * entry)) (keeps + cond b 0 1)
       has-next n l ro rj true q =
           let F = answerIn mark table in
@@ -63,7 +63,7 @@ module _ (mark : ℕ) (table : List ℕ) (s : State) (output₀ judged₀ : List
             from-is = h .from-is ∙ ap (λ (x : State). 256 * x .equation) (sym (ended-drop F s w c d));
             keeps-is = rw (kept-drop F s w c d, add-zero) (h .keeps-is);
             output-is = rw (kept-drop F s w c d) (set-getD output keeps 0 ∙ h .output-is);
-            judged-is = rw (verdicts-drop F s w c d) (judged-last n 1 l rj);
+            buffer-is = rw (verdicts-drop F s w c d) (buffer-last n 1 l rj);
           }
       has-next n l ro rj false q =
           let F = answerIn mark table in
@@ -72,26 +72,26 @@ module _ (mark : ℕ) (table : List ℕ) (s : State) (output₀ judged₀ : List
             from-is = ap (λ (x : State). 256 * x .equation) (sym (ended-last F s w c d));
             keeps-is = rw (kept-last F s w c d) (ap (λ (n : ℕ). n + 1) (h .keeps-is) ∙ sym (length-append (kept F s w) (c ∷ [])));
             output-is = rw (kept-last F s w c d) (output-last ro);
-            judged-is = rw (verdicts-last F s w c d) (judged-last n 0 l rj);
+            buffer-is = rw (verdicts-last F s w c d) (buffer-last n 0 l rj);
           }
 
   module _ (scans : List ℕ) where
     -- what holds after i of the scans, with the bounds that the code needs
-    pub record After (output judged : List ℕ) (from keeps i : ℕ) : Type 0 where
+    pub record After (output buffer : List ℕ) (from keeps i : ℕ) : Type 0 where
       pub inside : i ≤ length scans
       pub few : keeps ≤ i
       pub small : from < 65536
       pub output-length : length output ≡ length output₀
-      pub judged-length : length judged ≡ length judged₀
-      pub has : Has (take i scans) output judged from keeps
+      pub buffer-length : length buffer ≡ length buffer₀
+      pub has : Written (take i scans) output buffer from keeps
 
-    module _ (output judged : List ℕ) (from keeps i : ℕ) (h : After output judged from keeps i) (more : i < length scans) where
+    module _ (output buffer : List ℕ) (from keeps i : ℕ) (h : After output buffer from keeps i) (more : i < length scans) where
       -- what the iteration writes and goes on with is told by equations, as its calls tell it
-      pub after-next : length scans ≤ length output₀ → length scans ≤ length judged₀ → (entry : ℕ) → entry < 256
+      pub after-next : length scans ≤ length output₀ → length scans ≤ length buffer₀ → (entry : ℕ) → entry < 256
           → entry ≡ getD (rowOf 256 table (from / 256)) (getD scans i 0) mark
           → {x v from′ k : ℕ} → x ≡ cond (eqb entry mark) (getD output keeps 0) (getD scans i 0) → v ≡ cond (eqb entry mark) 1 0
           → from′ ≡ cond (eqb entry mark) from (256 * entry) → k ≡ cond (eqb entry mark) 0 1
-          → After (set output keeps x) (set judged i v) from′ (keeps + k) (i + 1)
+          → After (set output keeps x) (set buffer i v) from′ (keeps + k) (i + 1)
       after-next ro rj entry below is ex ev ef ek =
           let l = length-take-le i scans (omega arith) in
           let grown : take (i + 1) scans ≡ take i scans ++ (getD scans i 0 ∷ []) = rw (add-one, take-suc scans i 0) in
@@ -100,9 +100,9 @@ module _ (mark : ℕ) (table : List ℕ) (s : State) (output₀ judged₀ : List
             few = rw ek (few-more (eqb entry mark));
             small = rw ef (small-more (eqb entry mark));
             output-length = simp length-set (h .output-length);
-            judged-length = simp length-set (h .judged-length);
+            buffer-length = simp length-set (h .buffer-length);
             has = rw (grown, ex, ev, ef, ek)
-                (has-next (take i scans) output judged from keeps (getD scans i 0) (h .has) entry is i l (omega arith) (omega arith)
+                (has-next (take i scans) output buffer from keeps (getD scans i 0) (h .has) entry is i l (omega arith) (omega arith)
                 (eqb entry mark) refl);
           }
         where
@@ -121,33 +121,33 @@ abbrev pub stateAt : (from : ℕ) → State
 stateAt from = moved start (from / 256)
 
 -- what the function hands back after all scans
-abbrev HandsBack : (mark : ℕ) → (table : List ℕ) → State → (output₀ judged₀ scans output judged : List ℕ) → (from keeps : ℕ) → Type 0
-HandsBack mark table s output₀ judged₀ scans output judged from keeps =
+abbrev HandsBack : (mark : ℕ) → (table : List ℕ) → State → (output₀ buffer₀ scans output buffer : List ℕ) → (from keeps : ℕ) → Type 0
+HandsBack mark table s output₀ buffer₀ scans output buffer from keeps =
     let run = runFrom mark table s scans in
     (stateAt from ≡ run .state)
-    × ((keeps ≡ length (run .kept)) × ((output ≡ overlay (run .kept) output₀) × (judged ≡ overlay (run .verdicts) judged₀)))
+    × ((keeps ≡ length (run .kept)) × ((output ≡ overlay (run .kept) output₀) × (buffer ≡ overlay (run .verdicts) buffer₀)))
 
-module _ (mark : ℕ) (table : List ℕ) (s : State) (output₀ judged₀ scans : List ℕ) where
+module _ (mark : ℕ) (table : List ℕ) (s : State) (output₀ buffer₀ scans : List ℕ) where
   -- from the beginning of a row back to its equation
   row-begin-is : 256 * s .equation / 256 ≡ s .equation
   row-begin-is = mul-div-right (s .equation) (omega arith)
 
   pub after-none : s .equation < 256
-      → After mark table (stateAt (256 * s .equation)) output₀ judged₀ scans output₀ judged₀ (256 * s .equation) 0 0
+      → After mark table (stateAt (256 * s .equation)) output₀ buffer₀ scans output₀ buffer₀ (256 * s .equation) 0 0
   after-none r = record {
     inside = omega arith;
     few = omega arith;
     small = omega arith;
     output-length = refl;
-    judged-length = refl;
-    has = record { from-is = rw row-begin-is; keeps-is = refl; output-is = refl; judged-is = refl };
+    buffer-length = refl;
+    has = record { from-is = rw row-begin-is; keeps-is = refl; output-is = refl; buffer-is = refl };
   }
 
-  pub after-all : (output judged : List ℕ) (from keeps i : ℕ)
-      → After mark table (stateAt (256 * s .equation)) output₀ judged₀ scans output judged from keeps i → length scans ≤ i
-      → HandsBack mark table s output₀ judged₀ scans output judged from keeps
-  after-all output judged from keeps i h r =
+  pub after-all : (output buffer : List ℕ) (from keeps i : ℕ)
+      → After mark table (stateAt (256 * s .equation)) output₀ buffer₀ scans output buffer from keeps i → length scans ≤ i
+      → HandsBack mark table s output₀ buffer₀ scans output buffer from keeps
+  after-all output buffer from keeps i h r =
       let all = take-all i scans r in
       let e = rw (row-begin-is, all) at (h .has) in
       let row : from / 256 ≡ ended (answerIn mark table) s scans .equation = rw (e .from-is) (mul-div-right _ (omega arith)) in
-      (ap (moved start) row, (e .keeps-is, (e .output-is, e .judged-is)))
+      (ap (moved start) row, (e .keeps-is, (e .output-is, e .buffer-is)))

@@ -112,7 +112,7 @@ NeverUnfit =
 
 -- 5. The lent buffers, in the terms of the contract of `run`: those of a call, with one field here for each. A refused run hands back the state that
 -- it was given and counts of 0, and leaves every byte of every buffer as it was.
-pub record Unchanged (s : State) (c : Call) (outcome : Outcome Run) : Type 0 where
+pub record RunUnchanged (s : State) (c : Call) (outcome : Outcome Run) : Type 0 where
   pub handed-back : resultOf s outcome ≡ record { checked = resultOf s outcome .checked; state = s; kept = 0; dropped = 0 }
   pub output : outputAfter outcome (c .output) ≡ c .output
   pub verdicts : verdictsAfter outcome (c .verdicts) ≡ c .verdicts
@@ -120,7 +120,7 @@ pub record Unchanged (s : State) (c : Call) (outcome : Outcome Run) : Type 0 whe
 abbrev pub RefusedUnchanged : Type 0
 RefusedUnchanged =
     (limit mark : ℕ) (s : State) (c : Call) (number place : ℕ) → resultOf s (outcomeOf limit mark s c) .checked ≡ Refused number place
-    → Unchanged s c (outcomeOf limit mark s c)
+    → RunUnchanged s c (outcomeOf limit mark s c)
 
 -- This list stands at the front of a buffer, and behind it the buffer is as it was.
 pub record OnlyFront (front before after : List ℕ) : Type 0 where

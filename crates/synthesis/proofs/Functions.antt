@@ -3,7 +3,7 @@ pub mod HoldsLaws
 pub mod FillingRows
 pub mod Gathering
 pub mod SetsByTest
-pub mod EnablingCodes
+pub mod AddingToCodes
 pub mod NodeArrays
 pub mod OpeningArrays
 pub mod Linking

@@ -3,6 +3,6 @@ pub mod Rows
 pub mod WellFormedTables
 pub mod FilledTables
 pub mod TableMonitors
-pub mod Synthesized
+pub mod SynthesisOutcomes
 pub mod Equations
 pub mod Built

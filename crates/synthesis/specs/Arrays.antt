@@ -20,7 +20,7 @@ use Rattle.synthesis.specs.declared.graph.Graph.{Graph}
 -- ---- the nodes of a rule
 
 -- The kinds and the arguments are those of the nodes of a well-formed rule.
-pub record IsRule (r : Rule) (kinds args : List ℕ) : Type 0 where
+pub record RuleArrays (r : Rule) (kinds args : List ℕ) : Type 0 where
   pub within-limits : RuleWithinLimits r
   pub kinds-are : kinds ≡ numbered r .kinds
   pub args-are : args ≡ numbered r .args
@@ -28,7 +28,7 @@ pub record IsRule (r : Rule) (kinds args : List ℕ) : Type 0 where
 -- node k is one of some such rule
 pub record SomeNode (kinds args : List ℕ) (k : ℕ) : Type 0 where
   pub rule : Rule
-  pub is-rule : IsRule rule kinds args
+  pub is-rule : RuleArrays rule kinds args
   pub below : k < size (rule .formula)
 
 -- what opening each of some nested maxes gives, as an array has it
@@ -41,7 +41,7 @@ ZeroFrom k xs = (j : ℕ) → k ≤ j → getD xs j 0 ≡ 0
 
 -- `e` is what opening node k gives, where the array has what opening the maxes before it gives.
 pub record IsOpening (kinds args opened : List ℕ) (k e : ℕ) : Type 0 where
-  pub is : (r : Rule) → IsRule r kinds args → ZeroFrom k opened → (ms : List EnclosingMax) (f : Formula) → Node (r .formula) k ms f
+  pub is : (r : Rule) → RuleArrays r kinds args → ZeroFrom k opened → (ms : List EnclosingMax) (f : Formula) → Node (r .formula) k ms f
       → e ≡ opening k (listedAround opened ms) f
 
 -- Two arrays have, for each node below k, what opening it gives where it is a max, and what opening the formula after it gives where it
@@ -72,12 +72,12 @@ pub record HasKind (kind : ℕ) (kinds : List ℕ) (n e : ℕ) : Type 0 where
 -- ---- the answers of equations
 
 -- Node k was put into the set of each code that the pattern covers.
-pub record CodesEnabled (p : Pattern) (k : ℕ) (before after : List ℕ) : Type 0 where
+pub record AddedToCodes (p : Pattern) (k : ℕ) (before after : List ℕ) : Type 0 where
   pub is : (c : ℕ) → c < 256 → getD after c 0 ≡ withNode (getD before c 0) k (covers p c)
 
 -- a numbered rule is that of r
 pub record IsNumbered (r : Rule) (n : NumberedRule) : Type 0 where
-  pub is-rule : IsRule r (n .kinds) (n .args)
+  pub is-rule : RuleArrays r (n .kinds) (n .args)
   pub patterns-are : n .patterns ≡ numbered r .patterns
   pub nnodes-is : n .nnodes ≡ size (r .formula)
 

@@ -3,8 +3,8 @@ use Prim.Native.Nat.{_≤_}
 use mathlib.Core.Path.{_≡_}
 use lib.ListN.{length, take}
 use Rattle.reading.specs.File.{Outcome, accepted, refused}
-use Rattle.reading.specs.declared.Acceptance.{Acceptance}
-use Rattle.reading.specs.declared.Acceptance.the-variants.{Accepted, Refused}
+use Rattle.reading.specs.declared.FileRead.{FileRead}
+use Rattle.reading.specs.declared.FileRead.the-variants.{Accepted, Refused}
 use Rattle.synthesis.specs.Building.{Synthesis, countedOf}
 use Rattle.synthesis.specs.Arrays.{IsGraph}
 use Rattle.synthesis.specs.declared.Counted.{Counted}
@@ -12,7 +12,7 @@ use Rattle.synthesis.specs.declared.Counted.the-variants as counted
 use Rattle.synthesis.specs.declared.Plan.{Plan}
 
 -- The refusal of a file that couldn't be read; one that could isn't asked for.
-abbrev pub refusalOf : Acceptance → Counted
+abbrev pub refusalOf : FileRead → Counted
 refusalOf Accepted = counted.Refused 0 0
 refusalOf (Refused number place) = counted.Refused number place
 

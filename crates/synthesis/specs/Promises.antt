@@ -77,13 +77,13 @@ pub record ChecksTable (limit : ℕ) (s : List ℕ) (capacity : ℕ) : Type 0 wh
   pub enough : 256 * limit ≤ capacity → buildingOf limit s capacity ≡ synthesisOf limit s
 
 -- A building that is refused leaves every byte of what it is lent as it was: the table.
-pub record Unchanged (mark : ℕ) (before : List ℕ) (outcome : Outcome Synthesis) : Type 0 where
+pub record TableUnchanged (mark : ℕ) (before : List ℕ) (outcome : Outcome Synthesis) : Type 0 where
   pub table : tableAfter mark outcome before ≡ before
 
 abbrev pub RefusedUnchanged : Type 0
 RefusedUnchanged =
     (limit mark : ℕ) (s table : List ℕ) (number place : ℕ) → countedOf (buildingOf limit s (length table)) ≡ Refused number place
-    → Unchanged mark table (buildingOf limit s (length table))
+    → TableUnchanged mark table (buildingOf limit s (length table))
 
 -- ---- the table that building leaves, as a monitor
 
@@ -138,7 +138,7 @@ RefusesTooMany =
 
 -- 6. The equations that are counted: they are sets of necessities, no two are the same, kept codes lead from the first to each, and the
 -- codes lead to no other.
-pub record Reachable (r : Rule) (es : List ℕ) : Type 0 where
+pub record ReachableEquations (r : Rule) (es : List ℕ) : Type 0 where
   pub members : (i n : ℕ) → i < length es → Has (getD es i 0) n
       → (p : ℕ) × (ms : List EnclosingMax) × (f : Formula) × Node (r .formula) n ms (necessity p f)
   pub distinct : (i j : ℕ) → i < length es → j < length es → getD es i 0 ≡ getD es j 0 → i ≡ j
@@ -149,7 +149,7 @@ pub record Reachable (r : Rule) (es : List ℕ) : Type 0 where
 abbrev pub ReachesEquations : Type 0
 ReachesEquations =
     (limit : ℕ) (s : List ℕ) → Bytes s → (r : Rule) (n : ℕ) → ruleOf s ≡ accepted r → countedOf (synthesisOf limit s) ≡ Equations n
-    → Reachable r (equationsOf limit r)
+    → ReachableEquations r (equationsOf limit r)
 
 -- Two numbers with the same members are the same number. So equations that differ as numbers differ as sets, and the count is one of sets.
 abbrev pub SameMembersSameSet : Type 0
@@ -181,7 +181,7 @@ NumberedAsFound = (limit : ℕ) (r : Rule) → AsFound 256 (answerOf r) (firstOf
 -- A list of equations as in 6 has no other order that is as found.
 abbrev pub OneNumbering : Type 0
 OneNumbering =
-    (r : Rule) (es es′ : List ℕ) → Reachable r es → Reachable r es′ → AsFound 256 (answerOf r) (firstOf r) es
+    (r : Rule) (es es′ : List ℕ) → ReachableEquations r es → ReachableEquations r es′ → AsFound 256 (answerOf r) (firstOf r) es
     → AsFound 256 (answerOf r) (firstOf r) es′ → es ≡ es′
 
 -- ---- the bytes of the table

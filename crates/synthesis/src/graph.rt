@@ -10,7 +10,7 @@ ghost use mathlib.Core.Path.{_≡_};
 ghost use Prim.Native.Nat.{ℕ, _+_, _≤_, _<_};
 ghost use lib.ListN.{length, replicate};
 ghost use Rattle.reading.specs.Rule.{size, Rule};
-ghost use Rattle.synthesis.specs.Arrays.{IsRule, SomeNode, IsOpening, Linked, AfterAll, withNode, HasKind, CodesEnabled};
+ghost use Rattle.synthesis.specs.Arrays.{RuleArrays, SomeNode, IsOpening, Linked, AfterAll, withNode, HasKind, AddedToCodes};
 ghost use Rattle.synthesis.specs.Arrays.{IsNumbered, SomeNumbered, EnabledBelow, Enabled, IsGraph};
 
 // The first equation and the ff nodes of a rule; for each node that is a necessity, what opening the formula after it gives; for each
@@ -64,7 +64,7 @@ fn opening(kinds: &[u8], args: &[u8], opened: &[u64], k: usize) -> u64
 // Puts what opening node k gives, where it is a max, and what opening the formula after it gives, where it is a necessity.
 fn link(kinds: &[u8], args: &[u8], k: usize, opened: &mut [u64], after: &mut [u64])
     requires { ⌜ SomeNode (now kinds) (now args) k × (length (now opened) ≡ 64) × (length (now after) ≡ 64) ⌝ }
-    ensures { λ _. ⌜ ((r : Rule) → IsRule r (now (kinds .entry)) (now (args .entry)) → Linked r k (now (opened .entry)) (now (after .entry))
+    ensures { λ _. ⌜ ((r : Rule) → RuleArrays r (now (kinds .entry)) (now (args .entry)) → Linked r k (now (opened .entry)) (now (after .entry))
         → Linked r (k + 1) (now (opened .exit)) (now (after .exit))) ⌝ }
 {
     let kind = kinds[k];
@@ -80,7 +80,7 @@ fn link(kinds: &[u8], args: &[u8], k: usize, opened: &mut [u64], after: &mut [u6
 // Puts, for each necessity among n nodes, what opening the formula after it gives.
 fn link_all(kinds: &[u8], args: &[u8], n: usize, after: &mut [u64])
     requires { ⌜ ((k : ℕ) → k < n → SomeNode (now kinds) (now args) k) × (length (now after) ≡ 64) ⌝ }
-    ensures { λ _. ⌜ ((r : Rule) → IsRule r (now (kinds .entry)) (now (args .entry)) → size (r .formula) ≤ n → AfterAll r (now (after .exit))) ⌝ }
+    ensures { λ _. ⌜ ((r : Rule) → RuleArrays r (now (kinds .entry)) (now (args .entry)) → size (r .formula) ≤ n → AfterAll r (now (after .exit))) ⌝ }
 {
     let mut opened = [0u64; 64];
     let mut k = 0;
@@ -116,9 +116,9 @@ fn falsities(kinds: &[u8], n: usize) -> u64
 }
 
 // Puts node k into the set of each code that the pattern covers.
-fn enable_codes(p: Pattern, k: usize, enabled: &mut [u64])
+fn add_to_codes(p: Pattern, k: usize, enabled: &mut [u64])
     requires { ⌜ (k < 64) × (length (now enabled) ≡ 256) ⌝ }
-    ensures { λ _. ⌜ CodesEnabled p k (now (enabled .entry)) (now (enabled .exit)) ⌝ }
+    ensures { λ _. ⌜ AddedToCodes p k (now (enabled .entry)) (now (enabled .exit)) ⌝ }
 {
     let mut c = 0;
     while c < 256 {
@@ -139,7 +139,7 @@ fn enable(rule: NumberedRule, k: usize, enabled: &mut [u64])
     let args = rule.args;
     let patterns = rule.patterns;
     let i = args[k] as usize;
-    enable_codes(patterns[i], k, enabled);
+    add_to_codes(patterns[i], k, enabled);
 }
 
 // Puts, for each code, the necessities whose patterns cover it.

@@ -4,7 +4,7 @@ mod graph;
 mod search;
 
 use graph::Graph;
-use reading::Acceptance;
+use reading::FileRead;
 ghost use mathlib.Core.Path.{_≡_};
 ghost use lib.ListN.{length};
 ghost use Rattle.synthesis.specs.Monitor.{rowOf};
@@ -28,12 +28,12 @@ struct Plan {
 }
 
 // The refusal of a rule file that couldn't be read.
-fn refusal(answer: Acceptance) -> Counted
+fn refusal(answer: FileRead) -> Counted
     ensures { λ r. ⌜ r ≡ refusalOf answer ⌝ }
 {
     match answer {
-        Acceptance::Accepted => Counted::Refused(0, 0),
-        Acceptance::Refused(number, place) => Counted::Refused(number, place),
+        FileRead::Accepted => Counted::Refused(0, 0),
+        FileRead::Refused(number, place) => Counted::Refused(number, place),
     }
 }
 
@@ -56,7 +56,7 @@ fn plan_of(rule: &[u8]) -> Plan
 {
     let reading = reading::read_rule(rule);
     let answer = reading.answer;
-    let Acceptance::Accepted = answer else {
+    let FileRead::Accepted = answer else {
         return no_plan(refusal(answer));
     };
     let graph = graph::of_rule(reading.rule);

@@ -2,8 +2,8 @@
 // A case is a length of three bytes, highest first, and then that many bytes of a rule file. The input ends after the last.
 use libc::STDIN_FILENO;
 use libc::STDOUT_FILENO;
-use reading::Acceptance;
 use reading::Extent;
+use reading::FileRead;
 use reading::NumberedRule;
 use reading::Pattern;
 use reading::Reading;
@@ -67,12 +67,12 @@ fn print_reading(reading: Reading) {
     let answer = reading.answer;
     let rule = reading.rule;
     match answer {
-        Acceptance::Accepted => {
+        FileRead::Accepted => {
             io::write_all(STDOUT_FILENO, b"accepted");
             print_patterns(rule);
             print_nodes(rule);
         }
-        Acceptance::Refused(number, place) => {
+        FileRead::Refused(number, place) => {
             print_refusal(number, place);
         }
     }

@@ -6,8 +6,8 @@ use mir.Val.{Val}
 use denote.RattleType.{RattleType}
 use denote.Laws.{Is}
 use denote.Struct.Laws as LL
-use Rattle.reading.proofs.Acceptance as Acceptance
-use Rattle.reading.proofs.Acceptance.Laws as Acceptance′
+use Rattle.reading.proofs.FileRead as FileRead
+use Rattle.reading.proofs.FileRead.Laws as FileRead′
 use Rattle.models.specs.declared.loading.Next.{Next}
 use Rattle.models.proofs.loading.Next as T
 use Rattle.models.proofs.loading.Next.Laws as T′
@@ -24,13 +24,13 @@ abbrev pub nextTy : Ty
 nextTy = T′.mir
 
 abbrev pub answer-low : Next → Val
-answer-low x = Acceptance′.the-field-laws .val (Acceptance.the-field .into (x .answer))
+answer-low x = FileRead′.the-field-laws .val (FileRead.the-field .into (x .answer))
 
 abbrev pub IsNext : Next → Type 0
 IsNext x = Is N x (vals the-next x)
 
 module _ (x : Next) (is : IsNext x) where
-  pub answer-is : Is (Acceptance.the-field .row) (Acceptance.the-field .into (x .answer)) (answer-low x ∷ [])
+  pub answer-is : Is (FileRead.the-field .row) (FileRead.the-field .into (x .answer)) (answer-low x ∷ [])
   answer-is = LL.owed T.the-type T′.the-laws x _ is .1 .0
 
   pub step-is : Is R (x .step) (vals the-step (x .step))

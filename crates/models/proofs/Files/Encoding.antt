@@ -10,12 +10,12 @@ use lib.Dec.{eqb, ltb}
 use borrow.Author.Tests.{ltb-false, eqb-true, eqb-false, le-ltb, ne-eqb, not-false}
 use Rattle.reading.specs.Rule.{Bytes}
 use Rattle.reading.specs.File.{Outcome, accepted, refused}
-use Rattle.reading.specs.declared.Acceptance.the-variants.{Accepted}
+use Rattle.reading.specs.declared.FileRead.the-variants.{Accepted}
 use Rattle.reading.proofs.Basics.EncodeLaws.{encodeEach-bytes}
 use Rattle.reading.proofs.Basics.Outcomes.{accepted-is, andThen-accepted, andThen-accepts, refuse-accepted}
 use Rattle.reading.proofs.Basics.Places.{from-place}
 use Rattle.reading.proofs.Numbering.NumberedLaws.{padded-at}
-use Rattle.models.specs.Phone.{Phone, WellFormedStep, WellFormedPhone, PhoneWithinLimits, recordBytes, encodeStep, encodeSteps, encodePhone}
+use Rattle.models.specs.Phone.{Phone, WellFormedStep, WellFormedPhone, PhoneWithinLimits, stepBytes, encodeStep, encodeSteps, encodePhone}
 use Rattle.models.specs.Phone.{noStep, statesKind, statesOf, stepsAt, phoneOf}
 use Rattle.models.specs.Judging.{stored, modelReadingOf}
 use Rattle.models.specs.Promises.{AcceptsPhones, OnePhone, StoresModel, AnswersAccepted}
@@ -89,7 +89,7 @@ phone-within-limits f y bytes e = phone-stands f bytes y e .0
 step-is-bytes : (states : ℕ) → states ≤ 256 → (x : Step) → WellFormedStep states x → Bytes (encodeStep x)
 step-is-bytes states few x w = on (eqb (x .label) 256) refl
   where
-    on : (b : Bool) → eqb (x .label) 256 ≡ b → Bytes (recordBytes b x)
+    on : (b : Bool) → eqb (x .label) 256 ≡ b → Bytes (stepBytes b x)
     on true is = (omega arith, (omega (arith, w .from), (omega (arith, w .to), tt)))
     on false is =
         let code : x .label < 256 = omega (arith, w .label, eqb-false (x .label) 256 is) in

@@ -13,7 +13,7 @@ use Rattle.reading.specs.Faults.{KindAt}
 use Rattle.reading.specs.Rule.{Bytes}
 use Rattle.reading.specs.File.{Outcome, accepted, refused, refuse, andThen, recordsAt}
 use Rattle.reading.specs.Representations.{recordAt}
-use Rattle.reading.specs.declared.Acceptance.the-variants.{Refused}
+use Rattle.reading.specs.declared.FileRead.the-variants.{Refused}
 use Rattle.models.specs.Phone.{Phone, statesKind, isStep, statesOf, among, endingAt, stepAt, recordLength, stepFormat, stepsAt, phoneOf}
 use Rattle.models.specs.Judging.{modelReadingOf}
 use Rattle.models.specs.Faults.{ModelBefore, BeginsModel, IsCount, IsStep, afterStep}

@@ -8,8 +8,8 @@ use lib.ListN.{length}
 use borrow.Author.Tests.{lt-ltb, le-ltb}
 use Rattle.reading.specs.File.{Outcome, accepted, refused, andThen, Records}
 use Rattle.reading.specs.Representations.{recordAt}
-use Rattle.reading.specs.declared.Acceptance.{Acceptance}
-use Rattle.reading.specs.declared.Acceptance.the-variants.{Accepted, Refused}
+use Rattle.reading.specs.declared.FileRead.{FileRead}
+use Rattle.reading.specs.declared.FileRead.the-variants.{Accepted, Refused}
 use Rattle.reading.proofs.Basics.Outcomes.{byCase-refused}
 use Rattle.reading.proofs.RecordLists.RecordsRead.{begun-one, begun-all, begun-refused}
 use Rattle.models.specs.Phone.{noStep, statesOf, recordLength, stepFormat, stepsAt, phoneOf}
@@ -29,7 +29,7 @@ use Rattle.models.proofs.Files.Cases.{states-cases, step-cases}
 -- ---- the ways out of `next_step`
 
 module _ {f : List ℕ} {states : ℕ} {steps : List Step} {n at : ℕ} (b : StepsBegun f states steps n at) where
-  next-none : (answer : Acceptance) → LoadedAs (stepsAt 512 f states 2) steps answer n
+  next-none : (answer : FileRead) → LoadedAs (stepsAt 512 f states 2) steps answer n
       → (next : Next) → next ≡ record { more = false; answer = answer; step = noStep; n = n; at = 0 } → NextRead f states steps n next
   next-none answer loaded next is =
       rw is record { number-is = refl; begun = λ e. absurd (let z : _≡_ {A = ℕ} 0 1 = cc in omega arith); at-end = λ _. loaded }
@@ -39,7 +39,7 @@ module _ {f : List ℕ} {states : ℕ} {steps : List Step} {n at : ℕ} (b : Ste
   next-at-end over = next-none Accepted (rw (begun-all b (le-ltb _ _ over)) (refl, b .stored, sym (b .counted)))
 
   pub next-refused : at < length f → (found : StepRead) → found ≡ stepRead (recordAt (stepFormat f states) (512 - n) at)
-      → {number place : ℕ} → found ≡ StepRead′.Refused number place → (a : Acceptance) → a ≡ stepAnswer found
+      → {number place : ℕ} → found ≡ StepRead′.Refused number place → (a : FileRead) → a ≡ stepAnswer found
       → (next : Next) → next ≡ record { more = false; answer = a; step = noStep; n = n; at = 0 } → NextRead f states steps n next
   next-refused inside found is e a is-a =
       next-none a (rw (begun-refused b (lt-ltb _ _ inside) (byCase-refused step-cases (λ x. x) _ _ _ (sym e ∙ is))) (is-a ∙ rw e))
@@ -56,7 +56,7 @@ module _ {f : List ℕ} {states : ℕ} {steps : List Step} {n at : ℕ} (b : Ste
 
 module _ (f : List ℕ) (found : StatesRead) (is : found ≡ statesRead (statesOf f)) where
   pub states-refused : {number place : ℕ} → found ≡ StatesRead′.Refused number place
-      → (a : Acceptance) → a ≡ statesAnswer found → (r : ModelReading) → r ≡ record { answer = a; model = blank } → r ≡ modelReadingOf (phoneOf f)
+      → (a : FileRead) → a ≡ statesAnswer found → (r : ModelReading) → r ≡ record { answer = a; model = blank } → r ≡ modelReadingOf (phoneOf f)
   unfolding phoneOf
   states-refused e a is-a r is-r = is-r ∙ rw (byCase-refused states-cases (λ n. n) (statesOf f) _ _ (sym e ∙ is), is-a, e)
 

@@ -14,7 +14,7 @@ use Rattle.reading.specs.File.{accepted, refused}
 use Rattle.reading.proofs.Basics.AllLaws.{all-append, all-front, all-last}
 use Rattle.reading.proofs.Basics.EncodeLaws.{encodeEach-append, encodeEach-front}
 use Rattle.reading.proofs.RecordLists.RecordsAccepted.{records-after}
-use Rattle.models.specs.Phone.{WellFormedStep, recordBytes, encodeStep, encodeSteps, encodePhone}
+use Rattle.models.specs.Phone.{WellFormedStep, stepBytes, encodeStep, encodeSteps, encodePhone}
 use Rattle.models.specs.Phone.{codeStepKind, silentStepKind, statesOf, stepAt, recordLength, stepFormat, stepsAt, phoneOf}
 use Rattle.models.specs.Faults.{ModelBefore, BeginsModel}
 use Rattle.models.specs.declared.Step.{Step}
@@ -35,7 +35,7 @@ step-same x y from label to =
 step-told : (x y : Step) (p q : List ℕ) → encodeStep x ++ p ≡ encodeStep y ++ q → (x ≡ y) × (p ≡ q)
 step-told x y p q = on (eqb (x .label) 256) (eqb (y .label) 256) refl refl
   where
-    on : (b b′ : Bool) → eqb (x .label) 256 ≡ b → eqb (y .label) 256 ≡ b′ → recordBytes b x ++ p ≡ recordBytes b′ y ++ q → (x ≡ y) × (p ≡ q)
+    on : (b b′ : Bool) → eqb (x .label) 256 ≡ b → eqb (y .label) 256 ≡ b′ → stepBytes b x ++ p ≡ stepBytes b′ y ++ q → (x ≡ y) × (p ≡ q)
     on true true is is′ e =
         let silent : x .label ≡ 256 = eqb-true _ _ is in
         let silent′ : y .label ≡ 256 = eqb-true _ _ is′ in

@@ -15,7 +15,7 @@ use Rattle.reading.proofs.Basics.ByteLaws.{byte-at}
 use Rattle.reading.proofs.Basics.Outcomes.{refuse-accepted}
 use Rattle.reading.proofs.Basics.Places.{Byte, from-byte, from-place, byte-of, first-byte, rest-after}
 use Rattle.reading.proofs.RecordLists.RecordsAccepted.{ReadsRecords, FindsRecords, RecordsStand, records-read, records-full, records-accept}
-use Rattle.models.specs.Phone.{WellFormedStep, codeStepKind, silentStepKind, recordBytes, encodeStep, encodeSteps}
+use Rattle.models.specs.Phone.{WellFormedStep, codeStepKind, silentStepKind, stepBytes, encodeStep, encodeSteps}
 use Rattle.models.specs.Phone.{endingAt, codeStepAt, silentStepAt, isStep, stepAt, recordLength, stepFormat, stepsAt}
 use Rattle.models.specs.Faults.{IsStep, afterStep}
 use Rattle.models.specs.declared.Step.{Step}
@@ -26,7 +26,7 @@ use Rattle.models.proofs.Files.StepLaws.{tested-step, among-accepted, r
 pub length-step : (x : Step) → length (encodeStep x) ≡ recordLength x
 length-step x = on (eqb (x .label) 256)
   where
-    on : (b : Bool) → length (recordBytes b x) ≡ cond b 3 4
+    on : (b : Bool) → length (stepBytes b x) ≡ cond b 3 4
     on true = refl
     on false = refl
 
@@ -106,7 +106,7 @@ module _ (f : List ℕ) (states at : ℕ) (x : Step) where
   step-reads : WellFormedStep states x → (rest : List ℕ) → drop at f ≡ encodeStep x ++ rest → stepAt f states at ≡ accepted x
   step-reads w rest e = on (eqb (x .label) 256) refl e
     where
-      on : (b : Bool) → eqb (x .label) 256 ≡ b → drop at f ≡ recordBytes b x ++ rest → stepAt f states at ≡ accepted x
+      on : (b : Bool) → eqb (x .label) 256 ≡ b → drop at f ≡ stepBytes b x ++ rest → stepAt f states at ≡ accepted x
       on true is from =
           let label : x .label ≡ 256 = eqb-true _ _ is in
           let last = byte-of f at 2 (at + 2) from refl (omega arith) in

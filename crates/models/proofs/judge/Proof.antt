@@ -2,8 +2,8 @@
 use borrow.Author.Needs.{needs}
 use Rattle.reading.specs.Rule.{Bytes}
 use Rattle.reading.proofs.Basics.ByteLaws.{slice-bytes}
-use Rattle.models.proofs.Verdicts.Judgment.{judges-model-refused, judges-rule-refused, Accepts, both-accepted}
-use Rattle.models.proofs.Verdicts.Judgment.{model-has-phone, table-well-formed, judges-meets, judges-breaks}
+use Rattle.models.proofs.Judgments.Judgment.{judges-model-refused, judges-rule-refused, Accepts, both-accepted}
+use Rattle.models.proofs.Judgments.Judgment.{model-has-phone, table-well-formed, judges-meets, judges-breaks}
 use Rattle.models.proofs.judge.Statement.{statement}
 use Rattle.models.proofs.judge.Tie as tie
 

@@ -1,6 +1,6 @@
 -- `refuse` meets its contract.
 use borrow.Author.Needs.{needs}
-use Rattle.models.proofs.Verdicts.Refusing.{short-refuses, rule-refuses, model-refuses}
+use Rattle.models.proofs.Judgments.Refusing.{short-refuses, rule-refuses, model-refuses}
 use Rattle.models.proofs.refuse.Statement.{statement}
 use Rattle.models.proofs.refuse.Tie as tie
 

@@ -13,7 +13,7 @@ use Rattle.reading.specs.Rule.{Rule, RuleWithinLimits, encodePatterns, e
 use Rattle.reading.specs.File.{Outcome, accepted, refused, isPattern, patternsAt, Parsed, formulaOf, endOfFile, ruleOf}
 use Rattle.reading.specs.Numbered.{numbered, readingOf}
 use Rattle.reading.specs.Promises.{AcceptsEncodings, OneRule, AnswersAccepted}
-use Rattle.reading.specs.declared.Acceptance.the-variants.{Accepted}
+use Rattle.reading.specs.declared.FileRead.the-variants.{Accepted}
 use Rattle.reading.specs.declared.Reading.{Reading}
 use Rattle.reading.proofs.Basics.Outcomes.{accepted-is, andThen-accepted, andThen-accepts, refuse-accepted}
 use Rattle.reading.proofs.Basics.Places.{first-byte, rest-after}

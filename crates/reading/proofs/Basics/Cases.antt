@@ -4,8 +4,8 @@ use mathlib.Core.Logic.{_↔_}
 use Prim.Native.Nat.{ℕ}
 use native.Mathlib.Omega.{arith}
 use Rattle.reading.specs.File.{Outcome, refused, byCase}
-use Rattle.reading.specs.declared.Acceptance.{Acceptance}
-use Rattle.reading.specs.declared.Acceptance.the-variants as Acceptance′
+use Rattle.reading.specs.declared.FileRead.{FileRead}
+use Rattle.reading.specs.declared.FileRead.the-variants as FileRead′
 use Rattle.reading.specs.declared.patterns.PatternRead.the-variants as PatternRead
 use Rattle.reading.specs.declared.formulas.NodeRead.the-variants as NodeRead
 use Rattle.reading.specs.declared.formulas.FormulaRead.the-variants as FormulaRead
@@ -34,15 +34,15 @@ formula-cases = record {
 
 -- ---- the answer to a file
 
-acceptance-cases : Distinct {B = Unit {0}} (λ a. Acceptance′.Accepted) Acceptance′.Refused
+acceptance-cases : Distinct {B = Unit {0}} (λ a. FileRead′.Accepted) FileRead′.Refused
 acceptance-cases = record {
   value-same = λ a a′ e. refl;
   refusal-same = λ number place number′ place′ e. (cc, cc);
   apart = λ a number place e. let z : _≡_ {A = ℕ} 0 1 = cc in omega arith;
 }
 
-abbrev pub acceptanceOf : {A : Type 0} → Outcome A → Acceptance
-acceptanceOf = byCase (λ a. Acceptance′.Accepted) Acceptance′.Refused
+abbrev pub acceptanceOf : {A : Type 0} → Outcome A → FileRead
+acceptanceOf = byCase (λ a. FileRead′.Accepted) FileRead′.Refused
 
-pub acceptance-refused : {A : Type 0} (o : Outcome A) (number place : ℕ) → (o ≡ refused number place) ↔ (acceptanceOf o ≡ Acceptance′.Refused number place)
+pub acceptance-refused : {A : Type 0} (o : Outcome A) (number place : ℕ) → (o ≡ refused number place) ↔ (acceptanceOf o ≡ FileRead′.Refused number place)
 acceptance-refused o number place = (λ e. ap acceptanceOf e, λ e. byCase-refused acceptance-cases (λ a. tt) o number place (sym e))

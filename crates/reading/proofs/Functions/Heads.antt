@@ -11,7 +11,7 @@ use Rattle.reading.specs.Numbered.{padded, noPattern, noExtent}
 use Rattle.reading.specs.Representations.{recordAt, RecordsBegun, HeadOf}
 use Rattle.reading.specs.declared.Pattern.{Pattern}
 use Rattle.reading.specs.declared.Extent.{Extent}
-use Rattle.reading.specs.declared.Acceptance as Acceptance′
+use Rattle.reading.specs.declared.FileRead as FileRead′
 use Rattle.reading.specs.declared.patterns.Head.{Head}
 use Rattle.reading.proofs.RecordLists.RecordWays.{record-accepted}
 use Rattle.reading.proofs.RecordLists.RecordsRead.{set-padded, begun-none, begun-one, begun-all, begun-refused}
@@ -39,9 +39,9 @@ module _ (s : List ℕ) (list : List Pattern) (extents : List Extent) (at n : �
       }
 
   pub patterns-begun-all : isPattern s at ≡ false
-      → HeadOf (patternsAt 32 s 0) (record { answer = Acceptance′.the-variants.Accepted; next = at; count = n; list = list; extents = extents })
+      → HeadOf (patternsAt 32 s 0) (record { answer = FileRead′.the-variants.Accepted; next = at; count = n; list = list; extents = extents })
   patterns-begun-all over = rw (begun-all (b .begun) over) (rw (b .begun .stored, b .measured, ← b .begun .counted))
 
   pub patterns-begun-refused : (number place : ℕ) (h : Head) → isPattern s at ≡ true → recordAt (patternFormat s) (32 - n) at ≡ refused number place
-      → h .answer ≡ Acceptance′.the-variants.Refused number place → HeadOf (patternsAt 32 s 0) h
+      → h .answer ≡ FileRead′.the-variants.Refused number place → HeadOf (patternsAt 32 s 0) h
   patterns-begun-refused number place h more e a = rw (begun-refused (b .begun) more e) a

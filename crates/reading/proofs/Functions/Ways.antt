@@ -11,8 +11,8 @@ use Rattle.reading.specs.File.{Outcome, accepted, refused, andThen, Reco
 use Rattle.reading.specs.Numbered.{kinds, args, padded, blank, readingOf}
 use Rattle.reading.specs.Representations.{HeadOf, headOf, IsScope, enclosing, guardsOf, restOf, Reads, formulaAnswer}
 use Rattle.reading.specs.declared.Pattern.{Pattern}
-use Rattle.reading.specs.declared.Acceptance.{Acceptance}
-use Rattle.reading.specs.declared.Acceptance as Acceptance′
+use Rattle.reading.specs.declared.FileRead.{FileRead}
+use Rattle.reading.specs.declared.FileRead as FileRead′
 use Rattle.reading.specs.declared.Reading.{Reading}
 use Rattle.reading.specs.declared.patterns.Head.{Head}
 use Rattle.reading.specs.declared.formulas.Scope.{Scope}
@@ -38,18 +38,18 @@ sets-blank m x vs h =
 
 -- ---- the patterns
 
-head-refused-is : (o : Outcome (Records Pattern)) (h : Head) → HeadOf o h → {number place : ℕ} → h .answer ≡ Acceptance′.the-variants.Refused number place
+head-refused-is : (o : Outcome (Records Pattern)) (h : Head) → HeadOf o h → {number place : ℕ} → h .answer ≡ FileRead′.the-variants.Refused number place
     → o ≡ refused number place
 head-refused-is (accepted ps) h e a = let z : _≡_ {A = ℕ} 0 1 = cc (ap (λ (x : Head). x .answer) e) in absurd (omega arith)
 head-refused-is (refused number place) h e a = cc
 
-head-accepted-is : (o : Outcome (Records Pattern)) (h : Head) → HeadOf o h → h .answer ≡ Acceptance′.the-variants.Accepted
+head-accepted-is : (o : Outcome (Records Pattern)) (h : Head) → HeadOf o h → h .answer ≡ FileRead′.the-variants.Accepted
     → (ps : Records Pattern) × (o ≡ accepted ps) × (h ≡ headOf ps)
 head-accepted-is (accepted ps) h e a = (ps, refl, e)
 head-accepted-is (refused number place) h e a = let z : _≡_ {A = ℕ} 0 1 = cc in absurd (omega arith)
 
 pub head-refused : (s : List ℕ) (h : Head) (r : Reading) → HeadOf (patternsAt 32 s 0) h → {number place : ℕ}
-    → h .answer ≡ Acceptance′.the-variants.Refused number place → r ≡ record { answer = h .answer; rule = blank } → r ≡ readingOf (ruleOf s)
+    → h .answer ≡ FileRead′.the-variants.Refused number place → r ≡ record { answer = h .answer; rule = blank } → r ≡ readingOf (ruleOf s)
 unfolding ruleOf
 head-refused s h r is e a = a ∙ rw (head-refused-is (patternsAt 32 s 0) h is e, e)
 
@@ -84,14 +84,14 @@ module _ {s : List ℕ} {h : Head} {ks gs : List ℕ} {rest : Rest} (x : AfterFo
   pub rest-few : rest .left ≤ 64
   rest-few = omega (arith, rest-left, x .nodes)
 
-  pub end-refused : rest .next < length s → (r : Reading) → r ≡ record { answer = Acceptance′.the-variants.Refused 3 (rest .next); rule = blank }
+  pub end-refused : rest .next < length s → (r : Reading) → r ≡ record { answer = FileRead′.the-variants.Refused 3 (rest .next); rule = blank }
       → r ≡ readingOf (ruleOf s)
   end-refused more r a =
       let inside : x .f .next < length s = omega (arith, rest-next) in
-      a ∙ rw (x .says, lt-ltb _ _ inside) (ap (λ (n : ℕ). record { answer = Acceptance′.the-variants.Refused 3 n; rule = blank }) rest-next)
+      a ∙ rw (x .says, lt-ltb _ _ inside) (ap (λ (n : ℕ). record { answer = FileRead′.the-variants.Refused 3 n; rule = blank }) rest-next)
 
   pub end-accepted : length s ≤ rest .next → record {
-    answer = Acceptance′.the-variants.Accepted;
+    answer = FileRead′.the-variants.Accepted;
     rule = record { patterns = h .list; extents = h .extents; npatterns = h .count; kinds = ks; args = gs; nnodes = 64 - rest .left };
   } ≡ readingOf (ruleOf s)
   end-accepted ends =
@@ -107,7 +107,7 @@ rule-after-patterns : (s : List ℕ) (ps : Records Pattern) → patternsAt 32 s 
 unfolding ruleOf
 rule-after-patterns s ps e = rw e
 
-module _ (s : List ℕ) (h : Head) (is : HeadOf (patternsAt 32 s 0) h) (ok : h .answer ≡ Acceptance′.the-variants.Accepted)
+module _ (s : List ℕ) (h : Head) (is : HeadOf (patternsAt 32 s 0) h) (ok : h .answer ≡ FileRead′.the-variants.Accepted)
     (sc : Scope) (outer : IsScope sc 0 [] []) (ks gs : List ℕ) (found : FormulaRead)
     (reads : Reads (formulaOf s (h .count) (h .next) 64 (guardsOf (sc .count) (sc .unguarded))) 64 (enclosing sc)
     (replicate 64 0) (replicate 64 0) ks gs found) where
@@ -121,7 +121,7 @@ module _ (s : List ℕ) (h : Head) (is : HeadOf (patternsAt 32 s 0) h) (ok : h .
           record { ps = ps; read = read; is = e; reads = rw (outer .numbers, outer .guards, next, count) at reads }
 
   pub formula-refused : {number place : ℕ} → found ≡ FormulaRead′.the-variants.Refused number place
-      → (a : Acceptance) → a ≡ formulaAnswer found → (r : Reading) → r ≡ record { answer = a; rule = blank } → r ≡ readingOf (ruleOf s)
+      → (a : FileRead) → a ≡ formulaAnswer found → (r : Reading) → r ≡ record { answer = a; rule = blank } → r ≡ readingOf (ruleOf s)
   formula-refused {number} {place} e a is-a r is-r =
       let p = after-patterns in
       let refusal : formulaOf s (length (p .ps .list)) (p .ps .next) 64 [] ≡ refused number place =

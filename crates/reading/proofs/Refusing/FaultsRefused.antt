@@ -18,7 +18,7 @@ use Rattle.reading.specs.Numbered.{readingOf}
 use Rattle.reading.specs.Promises.{RefusesAtTheFault, HasOneFault}
 use Rattle.reading.specs.Representations.{recordAt, patternRead, nodeOf, nodeRead}
 use Rattle.reading.specs.declared.Pattern.{Pattern}
-use Rattle.reading.specs.declared.Acceptance.the-variants.{Refused}
+use Rattle.reading.specs.declared.FileRead.the-variants.{Refused}
 use Rattle.reading.specs.declared.patterns.PatternRead.the-variants as PatternRead
 use Rattle.reading.specs.declared.formulas.NodeRead.the-variants as NodeRead
 use Rattle.reading.proofs.Basics.ByteLaws.{byte-at}

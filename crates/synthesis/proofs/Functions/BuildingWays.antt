@@ -14,7 +14,7 @@ use Rattle.synthesis.specs.declared.Counted.{Counted}
 use Rattle.synthesis.specs.declared.Counted.the-variants.{Equations, Refused}
 use Rattle.synthesis.specs.declared.Plan.{Plan}
 use Rattle.synthesis.proofs.Tables.FilledTables.{filled-cong}
-use Rattle.synthesis.proofs.Tables.Synthesized.{building-enough, building-short}
+use Rattle.synthesis.proofs.Tables.SynthesisOutcomes.{building-enough, building-short}
 use Rattle.synthesis.proofs.Functions.GraphLaws.{graph-answers}
 
 -- the answer and the table after a call

@@ -15,7 +15,7 @@ use Rattle.reading.specs.declared.Pattern.{Pattern}
 use Rattle.reading.specs.declared.NumberedRule.{NumberedRule}
 use Rattle.reading.proofs.Numbering.NodeLaws.{node-exists, well-formed-at}
 use Rattle.reading.proofs.Numbering.NumberedLaws.{repeated-at, pattern-at}
-use Rattle.synthesis.specs.Arrays.{IsNumbered, SomeNumbered, IsEnabled, EnabledBelow, Enabled, CodesEnabled}
+use Rattle.synthesis.specs.Arrays.{IsNumbered, SomeNumbered, IsEnabled, EnabledBelow, Enabled, AddedToCodes}
 use Rattle.synthesis.proofs.Functions.SetsByTest.{with-node-next, empty-below-zero}
 use Rattle.synthesis.proofs.Functions.NodeArrays.{node-below, kind-at, argument-at, node-resolves}
 
@@ -62,7 +62,7 @@ module _ {n : NumberedRule} {k : ℕ} {enabled : List ℕ} (r : Rule) (num : IsN
           ∙ ap (λ (i : ℕ). covers (getD (r .patterns) i noPattern) c) (argument-at (num .is-rule) node) ∙ t
 
   -- a necessity is enabled by the codes that its pattern covers
-  pub enabled-necessity : (enabled′ : List ℕ) → k < size (r .formula) → getD (n .kinds) k 0 ≡ 5 → CodesEnabled ownPattern k enabled enabled′
+  pub enabled-necessity : (enabled′ : List ℕ) → k < size (r .formula) → getD (n .kinds) k 0 ≡ 5 → AddedToCodes ownPattern k enabled enabled′
       → EnabledBelow r (k + 1) enabled′
   enabled-necessity enabled′ h q m = record {
     is = λ c j l. rw (m .is c l) (with-node-next (IsEnabled r c) (getD enabled c 0) k (covers ownPattern c) (own-pattern-covers h q c) (λ i. w .is c i l) j);

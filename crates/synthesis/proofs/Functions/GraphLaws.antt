@@ -15,7 +15,7 @@ use Rattle.synthesis.specs.Violation.{coveredBy}
 use Rattle.synthesis.specs.NodeSet.{Has, intersection}
 use Rattle.synthesis.specs.Opening.{IsFalsity}
 use Rattle.synthesis.specs.Answering.{falsities, reached, firstOf, answerFrom, answerOf}
-use Rattle.synthesis.specs.Arrays.{IsRule, SomeNode, SomeNumbered, IsOpening, HasKind, IsGraph, gathered, answerBy}
+use Rattle.synthesis.specs.Arrays.{RuleArrays, SomeNode, SomeNumbered, IsOpening, HasKind, IsGraph, gathered, answerBy}
 use Rattle.synthesis.specs.declared.graph.Graph.{Graph}
 use Rattle.synthesis.proofs.Unfolding.NodeSetLaws.{same-members-same-set, has-common}
 use Rattle.synthesis.proofs.Unfolding.NodeWise.{falsities-has, reached-has}
@@ -25,7 +25,7 @@ use Rattle.synthesis.proofs.Functions.NodeArrays.{node-below, kind-at, 
 pub some-node : {n : NumberedRule} {k : ℕ} → SomeNumbered n k → SomeNode (n .kinds) (n .args) k
 some-node s = record { rule = s .rule; is-rule = s .is-numbered .is-rule; below = s .below }
 
-module _ {r : Rule} {kinds args : List ℕ} (ir : IsRule r kinds args) where
+module _ {r : Rule} {kinds args : List ℕ} (ir : RuleArrays r kinds args) where
   pub first-opened : {e : ℕ} (n : ℕ) → IsOpening kinds args (replicate n 0) 0 e → e ≡ firstOf r
   unfolding firstOf
   first-opened n o = o .is r ir (λ j h. repeated-at 0 n j) [] (r .formula) whole

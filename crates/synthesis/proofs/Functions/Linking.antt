@@ -12,7 +12,7 @@ use Rattle.reading.specs.Rule.{Formula, necessity, max, size, Rule}
 use Rattle.reading.specs.Nodes.{EnclosingMax, Node, whole, first, second, after, body}
 use Rattle.reading.proofs.Numbering.NumberedLaws.{repeated-at}
 use Rattle.synthesis.specs.Answering.{opening, opensAround}
-use Rattle.synthesis.specs.Arrays.{IsRule, IsOpening, listedAround, Linked, AfterAll}
+use Rattle.synthesis.specs.Arrays.{RuleArrays, IsOpening, listedAround, Linked, AfterAll}
 use Rattle.synthesis.proofs.Functions.NodeArrays.{kind-at, node-below}
 
 -- the array has what opening the maxes around a node gives
@@ -48,7 +48,7 @@ linked-next {r} {k} {opened′ = opened′} {afters′} l same-opened same-after
       (λ j h p ms f n. same-after j (λ q. omega (arith, q)) ∙ l .after-is j p ms f h n) at-necessity j h p ms f;
 }
 
-module _ {kinds args opened afters : List ℕ} {k e : ℕ} (r : Rule) (ir : IsRule r kinds args) (l : Linked r k opened afters) where
+module _ {kinds args opened afters : List ℕ} {k e : ℕ} (r : Rule) (ir : RuleArrays r kinds args) (l : Linked r k opened afters) where
   pub linked-max : k < length opened → getD kinds k 0 ≡ 6 → IsOpening kinds args opened (k + 1) e → Linked r (k + 1) (set opened k e) afters
   linked-max h q o =
       linked-next l (λ j d. getD-set-other opened k j e 0 d) (λ j d. refl) max-opened
@@ -70,7 +70,7 @@ module _ {kinds args opened afters : List ℕ} {k e : ℕ} (r : Rule) (ir : IsRu
           let x = o .is r ir (λ j h. l .unopened j (omega arith)) ms f (rw (add-one k) (after n)) in
           getD-set-same afters k e 0 h ∙ rw (add-one k, listed-around-is l n (omega arith)) at x
 
-pub linked-other : {kinds args opened afters : List ℕ} {k : ℕ} (r : Rule) → IsRule r kinds args → Linked r k opened afters
+pub linked-other : {kinds args opened afters : List ℕ} {k : ℕ} (r : Rule) → RuleArrays r kinds args → Linked r k opened afters
     → (getD kinds k 0 ≡ 6 → ⊥) → (getD kinds k 0 ≡ 5 → ⊥) → Linked r (k + 1) opened afters
 linked-other r ir l p q =
     linked-next l (λ j d. refl) (λ j d. refl) (λ ms f n. absurd (p (kind-at ir n))) (λ i ms f n. absurd (q (kind-at ir n)))

@@ -10,14 +10,14 @@ use Rattle.reading.specs.Numbered.{kind, argument, numberOf, kinds, args}
 use Rattle.reading.proofs.Numbering.NodeLaws.{node-fits}
 use Rattle.reading.proofs.Numbering.Listings.{size-positive}
 use Rattle.reading.proofs.Numbering.NumberedLaws.{padded-long, kinds-size, args-size, numbers-nodes}
-use Rattle.synthesis.specs.Arrays.{IsRule}
+use Rattle.synthesis.specs.Arrays.{RuleArrays}
 
 pub node-below : {root : Formula} {k : ℕ} {ms : List EnclosingMax} {f : Formula} → Node root k ms f → k < size root
 node-below {f = f} n = omega (arith, node-fits n, size-positive f)
 
 -- ---- the arrays of a known rule
 
-module _ {r : Rule} {ks xs : List ℕ} (ir : IsRule r ks xs) where
+module _ {r : Rule} {ks xs : List ℕ} (ir : RuleArrays r ks xs) where
   few-nodes : size (r .formula) ≤ 64
   few-nodes = ir .within-limits .few-nodes
 

@@ -14,7 +14,7 @@ use Rattle.reading.specs.Numbered.{kind, numberOf}
 use Rattle.reading.proofs.Numbering.NodeLaws.{Numbers, node-exists, variable-bound}
 use Rattle.reading.proofs.Basics.ListLaws.{mapped-at}
 use Rattle.synthesis.specs.Answering.{opening}
-use Rattle.synthesis.specs.Arrays.{IsRule, SomeNode, ZeroFrom, IsOpening, listedAround}
+use Rattle.synthesis.specs.Arrays.{RuleArrays, SomeNode, ZeroFrom, IsOpening, listedAround}
 use Rattle.synthesis.proofs.Unfolding.NodeSetLaws.{shiftedOne, shl-one}
 use Rattle.synthesis.proofs.Functions.NodeArrays.{node-below, kinds-length, args-length, kind-at, argument-at, node-below-64, node-resolves}
 
@@ -70,7 +70,7 @@ module _ {kinds args : List ℕ} {k : ℕ} (some : SomeNode kinds args k) where
 -- Where node k is of the kind kd, e is what opening it gives.
 abbrev OpensByKind : (kinds args opened : List ℕ) → (k kd e : ℕ) → Type 0
 OpensByKind kinds args opened k kd e =
-    (r : Rule) → IsRule r kinds args → ZeroFrom k opened → (ms : List EnclosingMax) (f : Formula) → Node (r .formula) k ms f
+    (r : Rule) → RuleArrays r kinds args → ZeroFrom k opened → (ms : List EnclosingMax) (f : Formula) → Node (r .formula) k ms f
     → (x : ℕ) → getD args k 0 ≡ x → Resolves (r .formula) k ms kd x f → e ≡ opening k (listedAround opened ms) f
 
 module _ {kinds args opened : List ℕ} {k : ℕ} where

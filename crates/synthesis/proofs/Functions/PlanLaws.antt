@@ -12,7 +12,7 @@ use borrow.Author.Tests.{ne-eqb, eq-eqb}
 use Rattle.reading.specs.Rule.{Rule, Bytes}
 use Rattle.reading.specs.File.{Outcome, accepted, refused, ruleOf}
 use Rattle.reading.specs.Numbered.{readingOf}
-use Rattle.reading.specs.declared.Acceptance.the-variants.{Accepted, Refused}
+use Rattle.reading.specs.declared.FileRead.the-variants.{Accepted, Refused}
 use Rattle.reading.specs.declared.Reading.{Reading}
 use Rattle.reading.specs.declared.NumberedRule.{NumberedRule}
 use Rattle.reading.proofs.Accepting.Accepted.{accepts-encodings}
@@ -28,7 +28,7 @@ use Rattle.synthesis.specs.declared.Counted.the-variants as counted
 use Rattle.synthesis.specs.declared.Plan.{Plan}
 use Rattle.synthesis.specs.declared.graph.Graph.{Graph}
 use Rattle.synthesis.proofs.Numberings.Finding.{found-cong}
-use Rattle.synthesis.proofs.Tables.Synthesized.{accepts-with-equations, refuses-eight, refuses-nine}
+use Rattle.synthesis.proofs.Tables.SynthesisOutcomes.{accepts-with-equations, refuses-eight, refuses-nine}
 use Rattle.synthesis.proofs.Functions.HoldsLaws.{held-few, held-many}
 use Rattle.synthesis.proofs.Functions.GraphLaws.{graph-answers}
 

@@ -27,8 +27,8 @@ use Rattle.synthesis.proofs.Numberings.Indices.{Member}
 use Rattle.synthesis.proofs.Tables.FilledTables.{entries-length, filled-length, filled-row, filled-rest}
 use Rattle.synthesis.proofs.Monitors.MonitorLaws.{drops-violations}
 use Rattle.synthesis.proofs.Tables.TableMonitors.{table-renames, table-range, table-answers}
-use Rattle.synthesis.proofs.Tables.Synthesized.{synthesis-accepts, building-accepts, refused-eight, refuses-eight}
-use Rattle.synthesis.proofs.Tables.Synthesized.{counted-accepts, counted-refuses, accepts-as}
+use Rattle.synthesis.proofs.Tables.SynthesisOutcomes.{synthesis-accepts, building-accepts, refused-eight, refuses-eight}
+use Rattle.synthesis.proofs.Tables.SynthesisOutcomes.{counted-accepts, counted-refuses, accepts-as}
 use Rattle.synthesis.proofs.Tables.Equations.{file-well-formed, first-index, first-member, equations-closed}
 
 -- ---- a run over a table that goes as one over the equations

@@ -20,7 +20,7 @@ use Rattle.synthesis.specs.Opening.{IsFalsity, Leads, leads, Answers}
 use Rattle.synthesis.specs.Answering.{firstOf, answerOf, unsatisfiable}
 use Rattle.synthesis.specs.Search.{indexOf, found}
 use Rattle.synthesis.specs.Building.{equationsOf, Synthesis, withEquations, synthesisOf, countedOf}
-use Rattle.synthesis.specs.Promises.{WellFormedFormula, Counts, AnswersCount, ChecksTable, Closed, RefusesTooMany, Reachable, ReachesEquations}
+use Rattle.synthesis.specs.Promises.{WellFormedFormula, Counts, AnswersCount, ChecksTable, Closed, RefusesTooMany, ReachableEquations, ReachesEquations}
 use Rattle.synthesis.specs.declared.Counted.the-variants.{Refused}
 use Rattle.synthesis.proofs.Numberings.Indices.{Member, index-is, index-first, member-at, Distinct, distinct-indices, distinct-fits}
 use Rattle.synthesis.proofs.Numberings.Finding.{ClosedUnder, found-closed, found-inside, ReachedBy, found-reached, found-all}
@@ -28,8 +28,8 @@ use Rattle.synthesis.proofs.Numberings.Finding.{found-first, found-dist
 use Rattle.synthesis.proofs.Unfolding.AnsweringLaws.{answers-as-defined}
 use Rattle.synthesis.proofs.Unfolding.EquationLaws.{tracks-violation}
 use Rattle.synthesis.proofs.Monitors.RuleMonitor.{unsatisfiable-iff}
-use Rattle.synthesis.proofs.Tables.Synthesized.{synthesis-accepts, building-short, building-enough, refused-nine, refuses-eight, refuses-nine}
-use Rattle.synthesis.proofs.Tables.Synthesized.{counted-accepts, counted-refuses, accepts-as}
+use Rattle.synthesis.proofs.Tables.SynthesisOutcomes.{synthesis-accepts, building-short, building-enough, refused-nine, refuses-eight, refuses-nine}
+use Rattle.synthesis.proofs.Tables.SynthesisOutcomes.{counted-accepts, counted-refuses, accepts-as}
 
 -- a file that is read is a rule with a well-formed formula
 pub file-well-formed : (s : List ℕ) → Bytes s → (r : Rule) → ruleOf s ≡ accepted r → WellFormedFormula r
@@ -154,7 +154,7 @@ checks-table limit s capacity = record { short = building-short limit s capacity
 pub reaches-equations : ReachesEquations
 reaches-equations limit s bytes r n read e =
     let y = counted-accepts (synthesisOf limit s) n e in
-    synthesis-accepts limit s (λ z. z ≡ withEquations limit r → Reachable r (equationsOf limit r))
+    synthesis-accepts limit s (λ z. z ≡ withEquations limit r → ReachableEquations r (equationsOf limit r))
     (λ r′ read′ satisfiable few q.
     let same : r′ ≡ r = ap (λ (z : Synthesis). z .rule) q in
     let hope : unsatisfiable r ≡ false = subst (λ x. unsatisfiable x ≡ false) same satisfiable in

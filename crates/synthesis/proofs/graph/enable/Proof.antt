@@ -17,14 +17,14 @@ array-read-i c = search needs
 cast-i : tie.Need-cast-i
 cast-i c = search needs
 
-mul-enable-codes : tie.Need-mul-enable-codes
-mul-enable-codes c = omega (arith, pattern-below-32 (c .before .before .before .before .before .pre .0) (c .before .before .if1 .left))
+mul-add-to-codes : tie.Need-mul-add-to-codes
+mul-add-to-codes c = omega (arith, pattern-below-32 (c .before .before .before .before .before .pre .0) (c .before .before .if1 .left))
 
-array-copy-out-enable-codes : tie.Need-array-copy-out-enable-codes
-array-copy-out-enable-codes c = pattern-below-32 (c .before .before .before .before .before .pre .0) (c .before .before .if1 .left)
+array-copy-out-add-to-codes : tie.Need-array-copy-out-add-to-codes
+array-copy-out-add-to-codes c = pattern-below-32 (c .before .before .before .before .before .pre .0) (c .before .before .if1 .left)
 
-enable-codes-requires : tie.Need-enable-codes-requires
-enable-codes-requires c κs = search needs
+add-to-codes-requires : tie.Need-add-to-codes-requires
+add-to-codes-requires c κs = search needs
 
 same-length : tie.Need-same-length
 same-length c = search needs
@@ -35,7 +35,7 @@ returns-2 c r num w =
     let test = enabled-codes .before .before .before .before .before in
     let some = test .before .before .before .pre .0 in
     enabled-necessity r num w _ (omega (arith, some .below, some .is-numbered .nnodes-is, num .nnodes-is)) (test .if1 .left)
-    (enabled-codes .enable-codes .ensures)
+    (enabled-codes .add-to-codes .ensures)
 
 pub enable-spec : {M : Type 1} → statement M
 enable-spec =
@@ -45,8 +45,8 @@ enable-spec =
     returns
     array-read-i
     cast-i
-    mul-enable-codes
-    array-copy-out-enable-codes
-    enable-codes-requires
+    mul-add-to-codes
+    array-copy-out-add-to-codes
+    add-to-codes-requires
     same-length
     returns-2)

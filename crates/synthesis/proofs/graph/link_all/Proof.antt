@@ -5,14 +5,14 @@ use native.Mathlib.Omega.{arith}
 use lib.ListN.{length}
 use borrow.Author.Needs.{needs}
 use Rattle.reading.specs.Rule.{Rule}
-use Rattle.synthesis.specs.Arrays.{IsRule, Linked}
+use Rattle.synthesis.specs.Arrays.{RuleArrays, Linked}
 use Rattle.synthesis.proofs.Functions.Linking.{linked-none, linked-all}
 use Rattle.synthesis.proofs.graph.link_all.Statement.{statement}
 use Rattle.synthesis.proofs.graph.link_all.Tie as tie
 
 abbrev Inv-loop : tie.InvT-loop
 Inv-loop kinds args n after₀ opened₀ k₀ after opened k =
-    (length opened ≡ 64) × (length after ≡ length after₀) × ((r : Rule) → IsRule r kinds args → Linked r k opened after)
+    (length opened ≡ 64) × (length after ≡ length after₀) × ((r : Rule) → RuleArrays r kinds args → Linked r k opened after)
 
 abbrev μ-loop : tie.MeasureT-loop
 μ-loop kinds args n after₀ opened₀ k₀ after opened k = n - k

@@ -3,12 +3,12 @@ use Prim.Native.Nat.{_-_, _≤_, _<_}
 use native.Mathlib.Omega.{arith}
 use lib.ListN.{length}
 use borrow.Author.Needs.{needs}
-use Rattle.synthesis.proofs.Functions.EnablingCodes.{CodesEnabledTo, codes-enabled-none, codes-enabled-next, codes-enabled-all}
-use Rattle.synthesis.proofs.graph.enable_codes.Statement.{statement}
-use Rattle.synthesis.proofs.graph.enable_codes.Tie as tie
+use Rattle.synthesis.proofs.Functions.AddingToCodes.{AddedToCodesBelow, added-to-codes-none, added-to-codes-next, added-to-codes-all}
+use Rattle.synthesis.proofs.graph.add_to_codes.Statement.{statement}
+use Rattle.synthesis.proofs.graph.add_to_codes.Tie as tie
 
 abbrev Inv-loop : tie.InvT-loop
-Inv-loop p k enabled₀ c₀ enabled c = (c ≤ 256) × CodesEnabledTo c p k enabled₀ enabled
+Inv-loop p k enabled₀ c₀ enabled c = (c ≤ 256) × AddedToCodesBelow c p k enabled₀ enabled
 
 abbrev μ-loop : tie.MeasureT-loop
 μ-loop p k enabled₀ c₀ enabled c = 256 - c
@@ -18,7 +18,7 @@ room : (c : tie.In-loop Inv-loop μ-loop) → c .before .loop .c < length (c .be
 room c = omega (arith, c .before .loop .inv .1 .long)
 
 loop-holds : tie.Need-loop-holds Inv-loop μ-loop
-loop-holds c = (search needs, codes-enabled-none _ _ _)
+loop-holds c = (search needs, added-to-codes-none _ _ _)
 
 mul-with-node : tie.Need-mul-with-node Inv-loop μ-loop
 mul-with-node c = search needs
@@ -50,16 +50,16 @@ loop-less c = search needs
 loop-again : tie.Need-loop-again Inv-loop μ-loop
 loop-again c =
     let expanded = c .before .before .before in
-    (search needs, codes-enabled-next _ _ (room expanded) (c .before .covers .ensures) (c .with-node .ensures) (expanded .before .loop .inv .1))
+    (search needs, added-to-codes-next _ _ (room expanded) (c .before .covers .ensures) (c .with-node .ensures) (expanded .before .loop .inv .1))
 
 same-length : tie.Need-same-length Inv-loop μ-loop
 same-length c = c .before .loop .inv .1 .long
 
 returns : tie.Need-returns Inv-loop μ-loop
-returns c = codes-enabled-all (c .loop-test .left) (c .before .loop .inv .1)
+returns c = added-to-codes-all (c .loop-test .left) (c .before .loop .inv .1)
 
-pub enable-codes-spec : {M : Type 1} → statement M
-enable-codes-spec =
+pub add-to-codes-spec : {M : Type 1} → statement M
+add-to-codes-spec =
     tie.close
     (tie.spec
     Inv-loop

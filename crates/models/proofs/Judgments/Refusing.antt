@@ -2,16 +2,16 @@
 use Prim.Native.Nat.{ℕ, _≤_, _<_}
 use mathlib.Core.Path.{_≡_}
 use mathlib.Core.List.{List}
-use Rattle.reading.specs.declared.Acceptance.{Acceptance}
+use Rattle.reading.specs.declared.FileRead.{FileRead}
 use Rattle.synthesis.specs.Building.{synthesisOf, buildingOf, countedOf}
 use Rattle.synthesis.specs.declared.Counted.{Counted}
 use Rattle.synthesis.specs.declared.Counted.the-variants.{Equations, Refused}
-use Rattle.synthesis.proofs.Tables.Synthesized.{building-short, building-enough}
+use Rattle.synthesis.proofs.Tables.SynthesisOutcomes.{building-short, building-enough}
 use Rattle.models.specs.Readings.{ruleRefusal, modelRefusal, refusalBefore}
 use Rattle.models.specs.declared.Judged.{Judged}
 use Rattle.models.specs.declared.Judged as Judged′
 
-module _ (s : List ℕ) (capacity : ℕ) (answer : Acceptance) where
+module _ (s : List ℕ) (capacity : ℕ) (answer : FileRead) where
   -- the answer to a model that is refused
   abbrev Refuses : Judged → Type 0
   Refuses r = r ≡ refusalBefore (countedOf (buildingOf 128 s capacity)) answer

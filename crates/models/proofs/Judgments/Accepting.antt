@@ -15,7 +15,7 @@ use Rattle.synthesis.specs.Answering.{unsatisfiable}
 use Rattle.synthesis.specs.Building.{equationsOf, Synthesis, withEquations, synthesisOf, countedOf}
 use Rattle.synthesis.specs.declared.Counted.the-variants.{Equations, Refused}
 use Rattle.synthesis.proofs.Monitors.RuleMonitor.{unsatisfiable-iff}
-use Rattle.synthesis.proofs.Tables.Synthesized.{synthesis-of}
+use Rattle.synthesis.proofs.Tables.SynthesisOutcomes.{synthesis-of}
 use Rattle.synthesis.proofs.Tables.Equations.{file-well-formed, answers-count, checks-table, reaches-equations, refuses-too-many}
 use Rattle.synthesis.proofs.Tables.Built.{refuses-violated-by-empty}
 use Rattle.enforcement.specs.Model.{Model, Finite, Satisfies}

@@ -1,6 +1,6 @@
 -- What is said of a rule and a model, and what the table of a rule enforces.
 pub mod TablesEnforce
-pub mod Acceptance
+pub mod Accepting
 pub mod JudgingLaws
 pub mod Refusing
 pub mod Judgment

@@ -10,20 +10,20 @@ use lib.Seq.{getD-set-same, getD-set-other}
 use borrow.Author.Count.{below-more}
 use Rattle.reading.specs.Pattern.{covers}
 use Rattle.reading.specs.declared.Pattern.{Pattern}
-use Rattle.synthesis.specs.Arrays.{withNode, CodesEnabled}
+use Rattle.synthesis.specs.Arrays.{withNode, AddedToCodes}
 
 -- the codes below c are done
-pub record CodesEnabledTo (c : ℕ) (p : Pattern) (k : ℕ) (before after : List ℕ) : Type 0 where
+pub record AddedToCodesBelow (c : ℕ) (p : Pattern) (k : ℕ) (before after : List ℕ) : Type 0 where
   pub long : length after ≡ length before
   pub done : (j : ℕ) → j < c → getD after j 0 ≡ withNode (getD before j 0) k (covers p j)
   pub rest : (j : ℕ) → c ≤ j → getD after j 0 ≡ getD before j 0
 
-pub codes-enabled-none : (p : Pattern) (k : ℕ) (xs : List ℕ) → CodesEnabledTo 0 p k xs xs
-codes-enabled-none p k xs = record { long = refl; done = λ j h. absurd (omega arith); rest = λ j h. refl }
+pub added-to-codes-none : (p : Pattern) (k : ℕ) (xs : List ℕ) → AddedToCodesBelow 0 p k xs xs
+added-to-codes-none p k xs = record { long = refl; done = λ j h. absurd (omega arith); rest = λ j h. refl }
 
-pub codes-enabled-next : {c : ℕ} {p : Pattern} {k : ℕ} {before after : List ℕ} (b : Bool) (e : ℕ) → c < length after → b ≡ covers p c
-    → e ≡ withNode (getD after c 0) k b → CodesEnabledTo c p k before after → CodesEnabledTo (c + 1) p k before (set after c e)
-codes-enabled-next {c} {p} {k} {before} {after} b e h q w m = record {
+pub added-to-codes-next : {c : ℕ} {p : Pattern} {k : ℕ} {before after : List ℕ} (b : Bool) (e : ℕ) → c < length after → b ≡ covers p c
+    → e ≡ withNode (getD after c 0) k b → AddedToCodesBelow c p k before after → AddedToCodesBelow (c + 1) p k before (set after c e)
+added-to-codes-next {c} {p} {k} {before} {after} b e h q w m = record {
   long = length-set after c e ∙ m .long;
   done = below-more (λ j. getD (set after c e) j 0 ≡ withNode (getD before j 0) k (covers p j)) c
       (λ j l. getD-set-other after c j e 0 (λ z. omega (arith, z)) ∙ m .done j l)
@@ -31,5 +31,5 @@ codes-enabled-next {c} {p} {k} {before} {after} b e h q w m = record {
   rest = λ j l. getD-set-other after c j e 0 (λ z. omega (arith, z)) ∙ m .rest j (omega arith);
 }
 
-pub codes-enabled-all : {c : ℕ} {p : Pattern} {k : ℕ} {before after : List ℕ} → 256 ≤ c → CodesEnabledTo c p k before after → CodesEnabled p k before after
-codes-enabled-all l m = record { is = λ j h. m .done j (omega arith) }
+pub added-to-codes-all : {c : ℕ} {p : Pattern} {k : ℕ} {before after : List ℕ} → 256 ≤ c → AddedToCodesBelow c p k before after → AddedToCodes p k before after
+added-to-codes-all l m = record { is = λ j h. m .done j (omega arith) }

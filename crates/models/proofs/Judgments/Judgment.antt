@@ -9,13 +9,13 @@ use native.Mathlib.Omega.{arith}
 use lib.ListN.{length}
 use Rattle.reading.specs.Rule.{Rule, Bytes}
 use Rattle.reading.specs.File.{Outcome, accepted, refused}
-use Rattle.reading.specs.declared.Acceptance as Acceptance′
+use Rattle.reading.specs.declared.FileRead as FileRead′
 use Rattle.synthesis.specs.Monitor.{lookup}
 use Rattle.synthesis.specs.Table.{WellFormedTable}
 use Rattle.synthesis.specs.Building.{Synthesis, buildingOf, countedOf, tableAfter, tableLeft, Builds}
 use Rattle.synthesis.specs.declared.Counted.{Counted}
 use Rattle.synthesis.specs.declared.Counted.the-variants.{Equations, Refused}
-use Rattle.synthesis.proofs.Tables.Synthesized.{counted-refuses}
+use Rattle.synthesis.proofs.Tables.SynthesisOutcomes.{counted-refuses}
 use Rattle.synthesis.proofs.Tables.Built.{builds-accepted, table-monitors, built-well-formed}
 use Rattle.enforcement.specs.Model.{SatisfiesDecided}
 use Rattle.models.specs.Phone.{Phone, modelOf, PhoneWithinLimits, phoneOf}
@@ -32,7 +32,7 @@ use Rattle.models.proofs.Files.Encoding.{phone-accepted, phone-within-l
 use Rattle.models.proofs.Files.FileFaults.{model-refused}
 use Rattle.models.proofs.Phones.PhoneCodes.{phone-codes}
 use Rattle.models.proofs.Phones.DecidedSets.{decided-satisfies}
-use Rattle.models.proofs.Verdicts.JudgingLaws.{judging-case}
+use Rattle.models.proofs.Judgments.JudgingLaws.{judging-case}
 
 module _ (s table f : List ℕ) where
   -- the answer and the table after a call
@@ -58,12 +58,12 @@ module _ (s table f : List ℕ) where
   phone-refused-judges e q = refused-judges (rw (e, q))
 
   pub judges-model-refused : {reading : ModelReading} {number place : ℕ} {r : Judged} → reading ≡ modelReadingOf (phoneOf f)
-      → reading .answer ≡ Acceptance′.the-variants.Refused number place
+      → reading .answer ≡ FileRead′.the-variants.Refused number place
       → r ≡ refusalBefore (countedOf (buildingOf 128 s (length table))) (reading .answer) → Judges r table
   judges-model-refused {reading} {number} {place} {r} read told e = on (buildingOf 128 s (length table)) refl (rw told at e)
     where
       on : (o : Outcome Synthesis) → buildingOf 128 s (length table) ≡ o
-          → r ≡ refusalBefore (countedOf o) (Acceptance′.the-variants.Refused number place) → Judges r table
+          → r ≡ refusalBefore (countedOf o) (FileRead′.the-variants.Refused number place) → Judges r table
       on (accepted y) built e =
           rw e (phone-refused-judges built (model-refused (phoneOf f) number place .1 (sym (ap (λ (x : ModelReading). x .answer) read) ∙ told)))
       on (refused number′ place′) built e = rw e (building-refused-judges built)
@@ -88,7 +88,7 @@ module _ (s table f : List ℕ) where
     pub is-stored : model ≡ stored phone
 
   pub both-accepted : {reading : ModelReading} {built : Counted} {after : List ℕ} (n : ℕ) → Bytes s → Bytes f
-      → reading ≡ modelReadingOf (phoneOf f) → reading .answer ≡ Acceptance′.the-variants.Accepted
+      → reading ≡ modelReadingOf (phoneOf f) → reading .answer ≡ FileRead′.the-variants.Accepted
       → built ≡ countedOf (buildingOf 128 s (length table)) → after ≡ tableLeft 128 255 s table
       → built ≡ Equations n → Accepts after (reading .model)
   both-accepted n rule-bytes bytes read told is left counted =
