@@ -17,7 +17,7 @@ use Rattle.running.proofs.Refusals.{runs-on-tables}
 use Rattle.running.proofs.BuiltTables.{never-unfit}
 use Rattle.running.proofs.Leaving as leaving
 use Rattle.running.proofs.DemandTwo.{drops-exactly}
-use Rattle.models.proofs.Files.Encoding.{answers-accepted}
+use Rattle.models.proofs.Files.Encoding.{accepts-phones, encode-bytes, answers-accepted}
 use Rattle.models.proofs.Files.FileFaults as models
 use Rattle.models.proofs.Judgments.Accepting.{accepts-exactly}
 use Rattle.models.proofs.Judgments.JudgingLaws as judging
@@ -76,6 +76,10 @@ demand-two = record {
   takes = call-taken;
   reads-rule = rules-accepted;
   reads-model = answers-accepted;
+  models = λ f y. (
+    λ (bytes, read). accepts-phones f bytes y .0 read,
+    λ (w, is). (rw is (encode-bytes y (w .well-formed)), accepts-phones f (rw is (encode-bytes y (w .well-formed))) y .1 (w, is)),
+  );
   builds = λ s table r n left. building.builds-iff 128 255 s table r n left (omega arith);
   accepts = accepts-exactly 128;
   judges = judging.judges-exactly 128 255;

@@ -81,6 +81,7 @@ pub record DemandTwo : Type 1 where
       ↔ ((r : Rule) × RuleWithinLimits r × (s ≡ encode r) × (readingOf (ruleOf s) .rule ≡ numbered r))
   pub reads-model : (f : List ℕ) → Bytes f → (modelReadingOf (phoneOf f) .answer ≡ Reading.Accepted)
       ↔ ((y : Phone) × PhoneWithinLimits y × (f ≡ encodePhone y) × (modelReadingOf (phoneOf f) .model ≡ stored y))
+  pub models : (f : List ℕ) (y : Phone) → (Bytes f × (phoneOf f ≡ accepted y)) ↔ (PhoneWithinLimits y × (f ≡ encodePhone y))
   pub builds : (s table : List ℕ) (r : Rule) (n : ℕ) (left : List ℕ) → Builds 128 255 s table r n left
       ↔ (RuleWithinLimits r × (s ≡ encode r) × (countedOf (building s table) ≡ Counted.Equations n) × (left ≡ tableBuilt s table))
   pub accepts : (s table : List ℕ) → Bytes s → 32768 ≤ length table

@@ -74,7 +74,7 @@ pool-run table rows = rw (rows .row-0, rows .row-2, rows .row-0, rows .row-1, ro
 
 runs-pool : (outcome : Outcome Run) → outcome ≡ accepted poolRun → RunsPool outcome
 unfolding occurrences
-runs-pool outcome e = record { accepts = e; handed-back = rw e; output = λ bytes. rw e; verdicts = λ bytes. rw e }
+runs-pool outcome e = record { accepts = e; handed-back = rw e; ends-in = rw e; output = λ bytes. rw e; verdicts = λ bytes. rw e }
 
 pub pool-scans : (table : List ℕ) → 32768 ≤ length table → PoolScans (tableLeft 128 255 poolFile table)
 pool-scans table room = record {

@@ -51,4 +51,5 @@ overlap-example = record {
   run = λ table room.
       run-left (reads-builds overlapFile overlapRule 3 (overlap-numbers .file) (search arith) table room) overlapScans overlapRun
       (overlap-run table room);
+  ends-in = refl;
 }

@@ -20,6 +20,12 @@ paper-examples = record {
     notes = (refl, refl, refl, refl);
     handovers = (refl, refl, refl, refl);
   };
+  kind-bytes = record {
+    patterns = refl;
+    plain-nodes = (refl, refl, refl, refl);
+    nodes-with-body = (refl, refl);
+    steps = (refl, refl, refl);
+  };
   short-table = λ s table h. rw (building-short 128 s (length table) h);
   number-pool = number-pool;
   pool-table = pool-table;

@@ -8,6 +8,8 @@ use mathlib.Core.List.{List, [], _∷_, _++_, map}
 use lib.ListN.{length, drop, replicate}
 use Rattle.reading.specs.Pattern.{codeOf, kindOf, slotOf, issue, cancel, collect, deliver, sync, return, note, handover, extentOf}
 use Rattle.reading.specs.Rule.{Formula, truth, falsity, both, necessity, max, variable, Rule}
+use Rattle.reading.specs.Rule.{patternKind, truthKind, falsityKind, bothKind, necessityKind, maxKind, variableKind}
+use Rattle.models.specs.Phone.{statesKind, codeStepKind, silentStepKind}
 use Rattle.reading.specs.File.{Outcome, accepted, refused, ruleOf}
 use Rattle.reading.specs.declared.Pattern.{Pattern}
 use Rattle.reading.specs.declared.Extent.{Extent}
@@ -48,19 +50,28 @@ pub record Codes : Type 0 where
   pub notes : IsKind note 6 0 192
   pub handovers : IsKind handover 7 31 255
 
+-- ---- records
+
+-- the kind bytes of the records of rule files and of model files, by the paper's numbers
+pub record KindBytes : Type 0 where
+  pub patterns : patternKind ≡ 1
+  pub plain-nodes : (truthKind ≡ 2) × (falsityKind ≡ 3) × (bothKind ≡ 4) × (maxKind ≡ 6)
+  pub nodes-with-body : (necessityKind ≡ 5) × (variableKind ≡ 7)
+  pub steps : (statesKind ≡ 16) × (codeStepKind ≡ 17) × (silentStepKind ≡ 18)
+
 -- ---- what is said of a file
 
 -- Counting answers so, and building too with every table of at least 32,768 bytes.
 pub record Answers (s : List ℕ) (answer : Counted) : Type 0 where
-  pub countingModel : countedOf (synthesisOf 128 s) ≡ answer
+  pub counting : countedOf (synthesisOf 128 s) ≡ answer
   pub building : (table : List ℕ) → 32768 ≤ length table → countedOf (buildingOf 128 s (length table)) ≡ answer
 
--- reading refuses the file, and so do countingModel and building
+-- reading refuses the file, and so do counting and building
 pub record Refuses (s : List ℕ) (number place : ℕ) : Type 0 where
   pub reading : ruleOf s ≡ refused number place
   pub answers : Answers s (Refused number place)
 
--- reading accepts the file as this rule, and countingModel and building answer so
+-- reading accepts the file as this rule, and counting and building answer so
 pub record Reads (s : List ℕ) (r : Rule) (answer : Counted) : Type 0 where
   pub reading : ruleOf s ≡ accepted r
   pub answers : Answers s answer
@@ -172,6 +183,7 @@ poolRun = record {
 pub record RunsPool (outcome : Outcome Run) : Type 0 where
   pub accepts : outcome ≡ accepted poolRun
   pub handed-back : resultOf start outcome ≡ record { checked = Fit; state = moved start 1; kept = 5; dropped = 1 }
+  pub ends-in : resultOf start outcome .state .equation ≡ 1
   pub output : (bytes : List ℕ) → outputAfter outcome bytes ≡ 37 ∷ 128 ∷ 5 ∷ 37 ∷ 5 ∷ drop 5 bytes
   pub verdicts : (bytes : List ℕ) → verdictsAfter outcome bytes ≡ 0 ∷ 1 ∷ 0 ∷ 0 ∷ 0 ∷ 0 ∷ drop 6 bytes
 
@@ -185,6 +197,7 @@ pub record PoolScans (table : List ℕ) : Type 0 where
 
 pub record PaperExamples : Type 0 where
   pub codes : Codes
+  pub kind-bytes : KindBytes
   pub short-table : ShortTable
   pub number-pool : NumberPool
   pub pool-table : (table : List ℕ) → 32768 ≤ length table → PoolTable (tableLeft 128 255 poolFile table)

@@ -58,3 +58,4 @@ pub record OverlapExample : Type 0 where
   pub numbers : Numbers overlapFile overlapRule overlapSets overlapListing
   pub run : (table : List ℕ) → 32768 ≤ length table → (output verdicts : ℕ) → 9 ≤ output → 9 ≤ verdicts
       → runOf 128 255 (tableLeft 128 255 overlapFile table) 3 start overlapScans output verdicts ≡ accepted overlapRun
+  pub ends-in : overlapRun .state .equation ≡ 1

@@ -111,7 +111,7 @@ NeverUnfit =
 -- ---- lent buffers
 
 -- 5. The lent buffers, in the terms of the contract of `run`: those of a call, with one field here for each. A refused run hands back the state that
--- it was given and counts of 0, and leaves every byte of every buffer as it was.
+-- it was given and counts of 0, and leaves every byte of every buffer as it was. (Its answer is the refusal that is supposed.)
 pub record RunUnchanged (s : State) (c : Call) (outcome : Outcome Run) : Type 0 where
   pub handed-back : resultOf s outcome ≡ record { checked = resultOf s outcome .checked; state = s; kept = 0; dropped = 0 }
   pub output : outputAfter outcome (c .output) ≡ c .output
