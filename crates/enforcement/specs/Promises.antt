@@ -1,5 +1,5 @@
--- What this crate promises, as statements over the definitions; proofs/ has a theorem of each of these types. The records between them say what
--- a statement says of one model.
+-- What this crate promises, as statements over the definitions; proofs/ has a theorem of each of these types. A record says
+-- what is claimed of one model, and the statement after it claims that of every one.
 use Prim.Native.Nat.{ℕ}
 use mathlib.Core.Path.{_≡_}
 use mathlib.Core.Logic.{_↔_}

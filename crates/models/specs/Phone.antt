@@ -1,5 +1,6 @@
 -- Phone models: a count of states and a list of steps; which are well formed, and their encoding as the bytes of a file. What the bytes of a model
--- file say: the checks of each record stand in the order of the paper's table, a line each. f is the file, `at` the place of a record.
+-- file say: the checks of each record stand in the order of the paper's table, a line each; that for a full list comes with the list. f is the file, `at` the
+-- place of a record.
 use Prim.Native.Nat.{ℕ, _≤_, _<_, _+_}
 use mathlib.Core.Path.{_≡_}
 use mathlib.Core.Bool.{Bool, true, false, cond, not, _||_}

@@ -23,7 +23,7 @@ use Rattle.models.specs.declared.Judged.the-variants.{Meets, Breaks, Ref
 
 -- ---- enforcing
 
--- Demand 3 holds for the table that building leaves, whatever the table held before, and every model file that isn't refused, with
+-- 1. Demand 3 holds for the table that building leaves, whatever the table held before, and every model file that isn't refused, with
 -- dropped scans in the claim.
 abbrev pub TablesEnforce : Type 1
 TablesEnforce =
@@ -33,7 +33,7 @@ TablesEnforce =
 
 -- ---- judging
 
--- 3. Judging. For phone models satisfaction with decided sets is satisfaction,
+-- 2. Judging. For phone models satisfaction with decided sets is satisfaction,
 abbrev pub DecidedSatisfies : Type 1
 DecidedSatisfies = (y : Phone) (r : Rule) → SatisfiesDecided (modelOf y) r ↔ Satisfies (modelOf y) r
 
@@ -62,7 +62,7 @@ RefusedUnchanged =
 
 -- ---- which rules are accepted
 
--- 4. Demand 2, acceptance. With a table that is long enough, building isn't refused exactly when the file is the encoding of a well-formed
+-- 3. Demand 2, acceptance. With a table that is long enough, building isn't refused exactly when the file is the encoding of a well-formed
 -- rule within 32 patterns and 64 nodes, of which at most `limit` equations are reached, and which some finite model satisfies. All that are
 -- reached stand in a list of at most so many sets that is closed under the codes.
 pub record Acceptable (limit : ℕ) (s : List ℕ) : Type 1 where
@@ -94,7 +94,7 @@ RefusesUnsatisfiable =
 
 -- ---- model files
 
--- 5. A model file is accepted exactly as the encoding of a phone model within the limits, and then as that model.
+-- 4. A model file is accepted exactly as the encoding of a phone model within the limits, and then as that model.
 abbrev pub AcceptsPhones : Type 0
 AcceptsPhones = (f : List ℕ) → Bytes f → (y : Phone) → (phoneOf f ≡ accepted y) ↔ (PhoneWithinLimits y × (f ≡ encodePhone y))
 

@@ -1,4 +1,5 @@
--- What the bytes of a rule file say. The checks of each record stand in the order of the paper's table, a line each.
+-- What the bytes of a rule file say. The checks of each record stand in the order of the paper's table, a line each; where a list of records is full comes with
+-- the list.
 -- s is the file, `at` the place of a record, n the number of patterns, and g says which of the maxes around a node are guarded.
 use Prim.Native.Nat.{ℕ, zero, suc, _+_, _-_}
 use mathlib.Core.Bool.{Bool, true, false, cond, _||_, _&&_, not}

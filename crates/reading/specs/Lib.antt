@@ -1,4 +1,4 @@
--- In the order in which to read them. `Representations` serves the reader's own functions alone.
+-- In the order in which to read them. `Representations` serves private functions alone, those of the reader and those that read the steps of models.
 pub mod Pattern
 pub mod Rule
 pub mod File

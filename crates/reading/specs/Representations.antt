@@ -1,4 +1,4 @@
--- What the reader's own enums, structures and arrays stand for. No public contract cites these.
+-- What the enums, structures and arrays of private functions stand for, and how far a loop over records has read. No public contract cites these.
 use Prim.Native.Nat.{ℕ, zero, suc, _+_, _-_, _≤_}
 use mathlib.Core.Path.{_≡_}
 use mathlib.Core.List.{List, [], _∷_, _++_, map}

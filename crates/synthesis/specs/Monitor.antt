@@ -50,7 +50,7 @@ module _ {E : Type 0} (answer : E → ℕ → Answer E) where
 unfoldable pub rowOf : (codes : ℕ) → List ℕ → ℕ → List ℕ
 rowOf codes table k = cond (leb (codes * k + codes) (length table)) (take codes (drop (codes * k) table)) []
 
--- An entry of a table is the mark, a number that stands for dropped and is no equation's, or else the number of the next equation.
+-- An entry of a table is the mark, which stands for dropped, or else the number of the next equation. So no equation should have the mark for its number.
 abbrev pub meaning : (mark : ℕ) → ℕ → Answer ℕ
 meaning mark x = cond (eqb x mark) dropped (next x)
 

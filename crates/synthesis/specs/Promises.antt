@@ -87,7 +87,8 @@ RefusedUnchanged =
 
 -- ---- the table that building leaves, as a monitor
 
--- Where building answers with a count, it builds: what is promised of each file that builds is promised of each that isn't refused.
+-- Where building answers a list of bytes with a count, and the limit is up to the mark, it builds: what is promised of each file that builds is promised
+-- of each that isn't refused.
 abbrev pub BuildsAccepted : Type 0
 BuildsAccepted =
     (limit mark : ℕ) (s table : List ℕ) (n : ℕ) → limit ≤ mark → Bytes s → countedOf (buildingOf limit s (length table)) ≡ Equations n

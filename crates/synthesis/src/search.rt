@@ -67,7 +67,7 @@ fn insert(list: &mut [u64], n: usize, e: u64) -> usize
     n + 1
 }
 
-// Notes the next equation, unless the set of reached nodes has an ff node.
+// Inserts the next equation, unless the set of reached nodes has an ff node.
 fn insert_answer(list: &mut [u64], n: usize, falsities: u64, reached: u64) -> usize
     requires { ⌜ length (now list) ≡ 128 ⌝ }
     ensures { λ r. ⌜ ((l : List ℕ) → Holds 128 (now (list .entry)) n l
@@ -79,7 +79,7 @@ fn insert_answer(list: &mut [u64], n: usize, falsities: u64, reached: u64) -> us
     insert(list, n, reached)
 }
 
-// Notes what an equation answers to each code.
+// Explores what an equation answers to each code, and inserts what is new.
 fn explore(
     after: &[u64],
     enabled: &[u64],
@@ -102,7 +102,7 @@ fn explore(
     m
 }
 
-// Notes what equation k answers to each code, if there is an equation k.
+// Expands equation k, if there is one: explores what it answers to each code.
 fn expand(
     after: &[u64],
     enabled: &[u64],
