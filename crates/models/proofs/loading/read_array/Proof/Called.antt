@@ -1,4 +1,5 @@
--- `read_steps` as `read_array` calls it: what it asks, and what it gives back.
+-- `read_steps` as `read_array` calls it: what it asks, and what it gives back. What it asks is put together of the tokens and the arguments, and the file's
+-- slice is copied for it; what it gives back is taken apart into the result, the tokens and the last records.
 use mathlib.Core.Path.{_≡_, refl}
 use Prim.Native.Nat.{ℕ, _<_, _^_}
 use mathlib.Core.List.{List, [], _∷_}
