@@ -140,8 +140,8 @@ module _ {M : Type 1} (𝓤 : URA M) (H : Heap 𝓤) (A : Atoms 𝓤) (W : Given
       qed W (Tokens κs qs ∷ ‵ (finally u8 (seen (a .1 .1) .name) ms) ∷ ‵ (finally u16 (pairs (a .1 .1) .name) ps) ∷ ‵ (bool .own z (w ∷ [])) ∷ []) ∵
       suffices ! _ (ends-at 𝓤 H A search-array.ended stayed (search-array.clauses 𝓤 H A mem run) W ((κs, qs, tt, a, vals κs a), tt) w z
       (tt, (tt, (tt, (tt, (tt, (ms, (ps, tt))))))) (tt, (tt, (tt, (tt, (tt, (ms-length, (ps-length, tt)))))))) $ says ! e $ frame ! $
-      nothing ! $ move ! (2 ∷ 0 ∷ []) $ fjoin ! $ move ! (1 ∷ 0 ∷ []) $ fjoin ! $ joins-true ! $ joins-true ! $ joins-true ! $ joins-true ! $ joins-true ! $ frame ! $
-      done !
+      nothing ! $ move ! (2 ∷ 0 ∷ []) $ fjoin ! $ move ! (1 ∷ 0 ∷ []) $ fjoin ! $
+      joins-true ! $ joins-true ! $ joins-true ! $ joins-true ! $ joins-true ! $ frame ! $ done !
 
   -- ---- having the array back
 
