@@ -12,7 +12,9 @@ use Rattle.listing.specs.declared.ListingLine.{ListingLine}
 use Rattle.listing.proofs.LaterLines.{listing-line-later}
 use Rattle.commands.specs.Printing.{LeadTo, first, next}
 
--- so many lines lead to a position, which isn't after the last
+-- ---- lines that lead to a position
+
+-- so many lead to it, and it isn't after the last
 pub record Leads (rule : NumberedRule) (table : List ℕ) (count lines at : ℕ) : Type 0 where
   pub lead : LeadTo rule table count lines at
   pub fewer : lines ≤ at
@@ -37,7 +39,7 @@ module _ {rule : NumberedRule} {table : List ℕ} {count : ℕ} where
         on = after .0;
       })
 
--- ---- their text
+-- ---- the text of lines from a position on
 
 module _ (rule : NumberedRule) (table : List ℕ) (count : ℕ) where
   abbrev linesAt : (most at : ℕ) → List ℕ
@@ -57,6 +59,8 @@ module _ (rule : NumberedRule) (table : List ℕ) (count : ℕ) where
   lines-zero : (at : ℕ) → linesAt 0 at ≡ []
   unfolding linesFrom
   lines-zero at = refl
+
+  -- ---- the text of some lines, and of more after them
 
   -- lines that lead to a position, and so many from there on
   lines-add : {lines at : ℕ} → LeadTo rule table count lines at → (more : ℕ) → linesAt (lines + more) 0 ≡ linesAt lines 0 ++ linesAt more at

@@ -1,4 +1,4 @@
--- A model that isn't finite, and two that satisfy the same rules and aren't strongly bisimilar: countingModel passes every list of states, and of models
+-- A model that isn't finite, and two that satisfy the same rules and aren't strongly bisimilar: counting goes past every list of states, and of models
 -- without codes only the empty list tells whether they satisfy a rule.
 use Prim.Native.Nat.{ℕ, zero, suc, _+_, _≤_}
 use mathlib.Core.Path.{refl}
@@ -17,7 +17,7 @@ use Rattle.examples.specs.Examples.{poolRule}
 use Rattle.examples.specs.ModelExamples.{countingModel, stillPhone, idlePhone, Distinctions}
 use Rattle.examples.proofs.PhoneSteps.{step-at, every-step}
 
--- ---- countingModel leads past the total of every list
+-- ---- counting leads past the total of every list
 
 abbrev total : List ℕ → ℕ
 total [] = 0

@@ -19,7 +19,7 @@ use Rattle.synthesis.proofs.Tables.SynthesisOutcomes.{accepts-with-equations, r
 use Rattle.examples.specs.Examples.{Answers, Refuses, Reads}
 
 module _ (s : List ℕ) where
-  -- with room for the rows, building answers as countingModel does
+  -- with room for the rows, building answers as counting does
   answers : (answer : Counted) → countedOf (synthesisOf 128 s) ≡ answer → Answers s answer
   answers answer e = record { countingModel = e; building = λ table room. rw (building-enough 128 s (length table) room) e }
 

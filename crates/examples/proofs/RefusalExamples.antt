@@ -1,4 +1,4 @@
--- What reading says of the refused files is computed, and with it what countingModel, building and judging answer.
+-- What reading says of the refused files is computed, and with it what counting, building and judging answer.
 use Prim.Native.Nat.{ℕ}
 use mathlib.Core.Path.{_≡_, refl}
 use mathlib.Core.List.{List, [], _∷_}

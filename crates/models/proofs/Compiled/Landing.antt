@@ -1,4 +1,5 @@
--- A call's result v lands as the value u that it is known to be, in room for it or over what the local held. Assumes `Given`.
+-- A call's result v lands as the value u that it is known to be, in room for it or over what the local held: the rules for writing u
+-- serve for v, since the two are equal. Assumes `Given`.
 use mathlib.Core.Path.{_≡_, sym, subst}
 use Prim.Native.Nat.{ℕ}
 use mathlib.Core.List.{List}
