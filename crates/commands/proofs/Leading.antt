@@ -9,10 +9,12 @@ use borrow.Author.Tests.{eq-eqb, ne-eqb}
 use Rattle.reading.specs.declared.NumberedRule.{NumberedRule}
 use Rattle.listing.specs.Positions.{textOf, listingLineAt, linesFrom}
 use Rattle.listing.specs.declared.ListingLine.{ListingLine}
-use Rattle.listing.proofs.LaterLines.{later}
+use Rattle.listing.proofs.LaterLines.{listing-line-later}
 use Rattle.commands.specs.Printing.{LeadTo, first, next}
 
--- so many lines lead to a position, which isn't after the last
+-- ---- lines that lead to a position
+
+-- so many lead to it, and it isn't after the last
 pub record Leads (rule : NumberedRule) (table : List ℕ) (count lines at : ℕ) : Type 0 where
   pub lead : LeadTo rule table count lines at
   pub fewer : lines ≤ at
@@ -30,14 +32,14 @@ module _ {rule : NumberedRule} {table : List ℕ} {count : ℕ} where
   pub leads-next : {lines at : ℕ} {l : ListingLine} → Leads rule table count lines at → l ≡ listingLineAt rule table count at
       → (l .line .len ≡ 0 → ⊥) → LeadsOn rule table count lines at (l .next)
   leads-next {lines} {at} w e some =
-      let after = later rule table count at (rw e at some) in
+      let after = listing-line-later rule table count at (rw e at some) in
       rw e
       (record {
         leads = record { lead = rw (add-one lines) (next (w .lead) (rw e at some)); fewer = omega (arith, w .fewer); inside = after .1 };
         on = after .0;
       })
 
--- ---- their text
+-- ---- the text of lines from a position on
 
 module _ (rule : NumberedRule) (table : List ℕ) (count : ℕ) where
   abbrev linesAt : (most at : ℕ) → List ℕ
@@ -58,6 +60,8 @@ module _ (rule : NumberedRule) (table : List ℕ) (count : ℕ) where
   unfolding linesFrom
   lines-zero at = refl
 
+  -- ---- the text of some lines, and of more after them
+
   -- lines that lead to a position, and so many from there on
   lines-add : {lines at : ℕ} → LeadTo rule table count lines at → (more : ℕ) → linesAt (lines + more) 0 ≡ linesAt lines 0 ++ linesAt more at
   lines-add first more =
@@ -71,7 +75,7 @@ module _ (rule : NumberedRule) (table : List ℕ) (count : ℕ) where
       (all, one, lines-add lead 1, lines-add lead (suc more), lines-suc more at some, lines-suc 0 at some, lines-zero (l .next), append-nil)
       (sym (append-assoc (linesAt lines 0) (textOf (l .line)) (linesAt more (l .next))))
 
-  -- where no line follows, more turns don't give more
+  -- where no line follows, more iterations don't give more
   pub lines-end : {lines at : ℕ} → LeadTo rule table count lines at → listingLineAt rule table count at .line .len ≡ 0 → (more : ℕ)
       → linesAt lines 0 ≡ linesAt (lines + more) 0
   lines-end {lines} {at} lead e more = sym (lines-add lead more ∙ rw (lines-none more at e) (append-nil (linesAt lines 0)))

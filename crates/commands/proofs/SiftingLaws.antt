@@ -28,10 +28,10 @@ fit-calls-on-table : (table : List ℕ) (count : ℕ) (h : History) → Calls 12
 fit-calls-on-table table count = calls-weaken 128 255 (λ h c may. inl (may .on))
 
 -- one more call, with room for its scans
-pub goes-on-by-call : (table : List ℕ) (count : ℕ) (s : State) (scans output verdicts : List ℕ) {s′ : State}
+pub call-goes-on : (table : List ℕ) (count : ℕ) (s : State) (scans output verdicts : List ℕ) {s′ : State}
     → length scans ≤ length output → length scans ≤ length verdicts → Bytes scans
     → s′ ≡ resultOf s (runOf 128 255 table count s scans (length output) (length verdicts)) .state → GoesOn table count s s′
-goes-on-by-call table count s scans output verdicts ro rv bytes e =
+call-goes-on table count s scans output verdicts ro rv bytes e =
     inr (record { table = table; count = count; scans = scans; output = output; verdicts = verdicts }, bytes, ro, rv, e)
 
 -- Fit calls, and maybe one more on the same well-formed table: it isn't refused.

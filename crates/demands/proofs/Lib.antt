@@ -1,3 +1,4 @@
+-- What each function refuses: counting and building first, then, with the tables that are unfit, running and judging. Last, the three demands.
 pub mod Refused
 pub mod UnfitTables
 pub mod RefusedCalls

@@ -24,11 +24,11 @@ use Rattle.models.proofs.Judgments.Accepting.{unrefused-satisfiable, refuses-un
 use Rattle.demands.specs.Outcomes.{counting, RefusedIff}
 use Rattle.demands.specs.Refusals.{CountRefused, in-file, no-finite-model, too-many, BuildRefused, short-table, in-rule}
 
+-- ---- counting: the clauses of its refusals
+
 module _ (s : List ℕ) (bytes : Bytes s) where
   abbrev CountRefuses : ℕ → ℕ → Type 0
   CountRefuses number place = countedOf (synthesisOf 128 s) ≡ Counted.Refused number place
-
-  -- ---- counting
 
   refused-eight-iff : (r : Rule) → ruleOf s ≡ accepted r → CountRefuses 8 0 ↔ ((m : Model) → Finite m → Satisfies m r → ⊥)
   refused-eight-iff r read = rw (building-enough 128 s 32768 (omega arith)) at (refuses-unsatisfiable 128 s 32768 r bytes (omega arith) read .no-finite)
@@ -55,6 +55,8 @@ module _ (s : List ℕ) (bytes : Bytes s) where
       andThen-refused (ruleOf s) (synthesisOfRule 128) (counted-refuses (synthesisOf 128 s) number place e)
       (λ e′. in-file (refuses-at-the-fault s bytes number place .0 (answer-refused (ruleOf s) number place .0 e′)))
       (λ r read e′. rule-refusal-clause r read number place e′)
+
+  -- ---- counting: each clause is refused
 
   count-clause-refuses : {number place : ℕ} → CountRefused s number place → CountRefuses number place
   unfolding synthesisOf

@@ -46,25 +46,25 @@ module _ {E : Type 0} (answer : E → ℕ → Answer E) (respond : E → ℕ →
     data Beside : m .State → behind .State → Type 0 where
       beside : {s : m .State} {e : E} → Passes answer m e s → Beside s (s, e)
 
-    beside-forth : (s s′ : m .State) (x : behind .State) (a : Label) → Beside s x → m .Step s a s′
+    beside-step-forth : (s s′ : m .State) (x : behind .State) (a : Label) → Beside s x → m .Step s a s′
         → (x′ : behind .State) × behind .Step x a x′ × Beside s′ x′
-    beside-forth s s′ x silent (beside {e = e} passes) h = ((s′, e), silent-step h, beside (passes-silent answer m h passes))
-    beside-forth s s′ x (code c) (beside {e = e} passes) h = on (answer e c) refl
+    beside-step-forth s s′ x silent (beside {e = e} passes) h = ((s′, e), silent-step h, beside (passes-silent answer m h passes))
+    beside-step-forth s s′ x (code c) (beside {e = e} passes) h = on (answer e c) refl
       where
         on : (a : Answer E) → answer e c ≡ a → (x′ : behind .State) × behind .Step (s, e) (code c) x′ × Beside s′ x′
         on dropped q = absurd (passes-drop answer m h q passes)
         on (next e′) q = ((s′, e′), passed-step h (same e e′ c .1 q), beside (passes-code answer m h q passes))
 
-    beside-back : (s : m .State) (x x′ : behind .State) (a : Label) → Beside s x → behind .Step x a x′
+    beside-step-back : (s : m .State) (x x′ : behind .State) (a : Label) → Beside s x → behind .Step x a x′
         → (s′ : m .State) × m .Step s a s′ × Beside s′ x′
-    beside-back s x x′ a (beside passes) (silent-step {t = t} h) = (t, h, beside (passes-silent answer m h passes))
-    beside-back s x x′ a (beside passes) (passed-step {t = t} {c} {e} {e′} h q) =
+    beside-step-back s x x′ a (beside passes) (silent-step {t = t} h) = (t, h, beside (passes-silent answer m h passes))
+    beside-step-back s x x′ a (beside passes) (passed-step {t = t} {c} {e} {e′} h q) =
         (t, h, beside (passes-code answer m h (same e e′ c .0 q) passes))
-    beside-back s x x′ a (beside passes) (suppressed-step {c = c} {e} h q) =
+    beside-step-back s x x′ a (beside passes) (suppressed-step {c = c} {e} h q) =
         absurd (passes-drop answer m h (suppressed-dropped respond answer same e c q) passes)
 
     beside-bisimulation : Bisimulation m behind Beside
-    beside-bisimulation = record { forth = beside-forth; back = beside-back }
+    beside-bisimulation = record { forth = beside-step-forth; back = beside-step-back }
 
 -- ---- the promises
 

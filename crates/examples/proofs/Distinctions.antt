@@ -1,4 +1,4 @@
--- A model that isn't finite, and two that satisfy the same rules and aren't strongly bisimilar: counting passes every list of states, and of models
+-- A model that isn't finite, and two that satisfy the same rules and aren't strongly bisimilar: counting goes past every list of states, and of models
 -- without codes only the empty list tells whether they satisfy a rule.
 use Prim.Native.Nat.{ℕ, zero, suc, _+_, _≤_}
 use mathlib.Core.Path.{refl}

@@ -1,3 +1,4 @@
+-- What the examples share, then the paper's rules and files, then its models, and last the refusals.
 pub mod FileAnswers
 pub mod RunAnswers
 pub mod Listed

@@ -1,4 +1,5 @@
--- The number-pool rule: its equations, the table that building leaves of it, the listing, and the run of the paper's scans.
+-- The number-pool rule: its equations, the table that building leaves of it, the listing, and the run of the paper's scans. The rule and its equations are
+-- computed from the file; the rows of the table are those of the equations, and from them the listing and the run are computed.
 use Prim.Native.Nat.{ℕ, _≤_, _<_}
 use mathlib.Core.Path.{_≡_, refl}
 use mathlib.Core.Bool.{false}

@@ -30,11 +30,11 @@ pushed l b h t e =
 
 -- ---- one text after another
 
-pub nothing-added : (l : Line) → Adds l [] l
-nothing-added l t e = e ∙ ap lineOf (sym (append-nil t))
+pub adds-nil : (l : Line) → Adds l [] l
+adds-nil l t e = e ∙ ap lineOf (sym (append-nil t))
 
-pub adds-more : {l m r : Line} (a b : List ℕ) → Adds l a m → Adds m b r → Adds l (a ++ b) r
-adds-more a b first second t e = second (t ++ a) (first t e) ∙ ap lineOf (append-assoc t a b)
+pub adds-append : {l m r : Line} (a b : List ℕ) → Adds l a m → Adds m b r → Adds l (a ++ b) r
+adds-append a b first second t e = second (t ++ a) (first t e) ∙ ap lineOf (append-assoc t a b)
 
 pub room-less : {l : Line} {n : ℕ} (m : ℕ) → Room l n → m ≤ n → Room l m
 room-less m room h = record { so-far = room .so-far; is = room .is; room = omega (arith, room .room) }
@@ -69,16 +69,16 @@ has-room {fields = fields} m b h = record { so-far = spaced fields; is = b .is; 
 pub first-field : {l r : Line} {n : ℕ} (m : ℕ) (f : List ℕ) → LineBegun [] n l → Adds l f r → length f + m ≤ n → LineBegun (f ∷ []) m r
 first-field m f b adds h = record { is = adds [] (b .is); fits = omega (arith, b .fits) }
 
-spaced-more : (f : List ℕ) (fs : List (List ℕ)) (g : List ℕ) → spaced ((f ∷ fs) ++ (g ∷ [])) ≡ spaced (f ∷ fs) ++ (text " " ++ g)
-spaced-more f [] g = refl
-spaced-more f (e ∷ fs) g =
-    ap (λ (t : List ℕ). f ++ (text " " ++ t)) (spaced-more e fs g) ∙ sym (append-assoc f (text " " ++ spaced (e ∷ fs)) (text " " ++ g))
+spaced-last : (f : List ℕ) (fs : List (List ℕ)) (g : List ℕ) → spaced ((f ∷ fs) ++ (g ∷ [])) ≡ spaced (f ∷ fs) ++ (text " " ++ g)
+spaced-last f [] g = refl
+spaced-last f (e ∷ fs) g =
+    ap (λ (t : List ℕ). f ++ (text " " ++ t)) (spaced-last e fs g) ∙ sym (append-assoc f (text " " ++ spaced (e ∷ fs)) (text " " ++ g))
 
 pub next-field : {l r : Line} {n : ℕ} {f : List ℕ} {fs : List (List ℕ)} (m : ℕ) (g : List ℕ) → LineBegun (f ∷ fs) n l → Adds l (text " " ++ g) r
     → suc (length g) + m ≤ n → LineBegun ((f ∷ fs) ++ (g ∷ [])) m r
 next-field {f = f} {fs} m g b adds h = record {
-  is = adds (spaced (f ∷ fs)) (b .is) ∙ ap lineOf (sym (spaced-more f fs g));
-  fits = rw (spaced-more f fs g, length-append (spaced (f ∷ fs)) (text " " ++ g)) (omega (arith, b .fits));
+  is = adds (spaced (f ∷ fs)) (b .is) ∙ ap lineOf (sym (spaced-last f fs g));
+  fits = rw (spaced-last f fs g, length-append (spaced (f ∷ fs)) (text " " ++ g)) (omega (arith, b .fits));
 }
 
 pub line-ended : {l r : Line} {n : ℕ} {fields : List (List ℕ)} → LineBegun fields n l → Adds l (text "\n") r → Prints (line fields) r

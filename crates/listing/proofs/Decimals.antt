@@ -13,7 +13,9 @@ use Rattle.listing.specs.Text.{text, digit, decimalIn, decimal}
 use Rattle.listing.specs.Lines.{answerText}
 use Rattle.listing.specs.Promises.{SpellsDecimal}
 
--- more digits than decimal-in-enough change nothing
+-- ---- the two cases of the definition
+
+-- more digits than enough change nothing
 decimal-in-enough : (most more n : ℕ) → n < most → n < more → decimalIn most n ≡ decimalIn more n
 unfolding decimalIn
 decimal-in-enough zero more n h k = absurd (omega arith)
@@ -35,6 +37,8 @@ decimal-more n h = rw (le-ltb n 10 h, decimal-in-enough n (suc (n / 10)) (n / 10
 
 pub spells-decimal : (n : ℕ) → SpellsDecimal n
 spells-decimal n = record { one = decimal-one n; more = decimal-more n }
+
+-- ---- how many digits there are
 
 pub decimal-length : (n : ℕ) → 10 ≤ n → length (decimal n) ≡ length (decimal (n / 10)) + 1
 decimal-length n h = rw (decimal-more n h) (length-append (decimal (n / 10)) (digit (n % 10) ∷ []))

@@ -68,9 +68,9 @@ module _ (n : ℕ) (extents : List Extent) (table : List ℕ) (count at : ℕ) w
 
 -- ---- any rule
 
-pub later : (rule : NumberedRule) (table : List ℕ) (count at : ℕ) → (listingLineAt rule table count at .line .len ≡ 0 → ⊥)
+pub listing-line-later : (rule : NumberedRule) (table : List ℕ) (count at : ℕ) → (listingLineAt rule table count at .line .len ≡ 0 → ⊥)
     → (at < listingLineAt rule table count at .next) × (listingLineAt rule table count at .next ≤ 34 + 256 * count)
 unfolding listingLineAt
-later rule table count at some =
+listing-line-later rule table count at some =
     let (after, inside) = line-later (patternCount rule) (rule .extents) table count at some in
     (after, omega arith)

@@ -1,3 +1,4 @@
+-- Numbers and lines as text first, then the runs of a row, then the lines at all positions and the promises.
 pub mod Decimals
 pub mod Additions
 pub mod RunLaws

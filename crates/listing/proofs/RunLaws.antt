@@ -21,11 +21,11 @@ pub record Same (row : List ℕ) (c last : ℕ) : Type 0 where
   pub same : (j : ℕ) → c ≤ j → j ≤ last → getD row j 0 ≡ getD row c 0
 
 module _ (row : List ℕ) (c : ℕ) where
-  pub same-one : c < length row → Same row c c
-  same-one h = record { some = omega arith; inside = h; same = λ j l m. let is : j ≡ c = omega arith in rw is }
+  pub same-single : c < length row → Same row c c
+  same-single h = record { some = omega arith; inside = h; same = λ j l m. let is : j ≡ c = omega arith in rw is }
 
-  pub same-more : (last : ℕ) → Same row c last → last + 1 < length row → getD row (last + 1) 0 ≡ getD row c 0 → Same row c (last + 1)
-  same-more last s h e = record {
+  pub same-next : (last : ℕ) → Same row c last → last + 1 < length row → getD row (last + 1) 0 ≡ getD row c 0 → Same row c (last + 1)
+  same-next last s h e = record {
     some = omega (arith, s .some);
     inside = h;
     same = λ j l m. on j l m (leb j last) refl;
@@ -95,7 +95,7 @@ module _ (row : List ℕ) where
   run-extends : (more c last : ℕ) → Same row c last → length row ≤ last + suc more → (end : ℕ) × RunTo row c end
   run-extends zero c last s h = (last, same-ends row c last s (λ l m. omega arith))
   run-extends (suc more) c last s h = on (ltb (last + 1) (length row)) refl (eqb (getD row (last + 1) 0) (getD row c 0)) refl
-      (λ l e. run-extends more c (last + 1) (same-more row c last s l e) (omega arith))
+      (λ l e. run-extends more c (last + 1) (same-next row c last s l e) (omega arith))
     where
       on : (a : Bool) → ltb (last + 1) (length row) ≡ a → (b : Bool) → eqb (getD row (last + 1) 0) (getD row c 0) ≡ b
           → (last + 1 < length row → getD row (last + 1) 0 ≡ getD row c 0 → (end : ℕ) × RunTo row c end) → (end : ℕ) × RunTo row c end
@@ -104,4 +104,4 @@ module _ (row : List ℕ) where
       on false f b g more = (last, same-ends row c last s (λ l m. omega (arith, ltb-false (last + 1) (length row) f)))
 
   pub some-run : (c : ℕ) → c < length row → (end : ℕ) × RunTo row c end
-  some-run c h = run-extends (length row) c c (same-one row c h) (omega arith)
+  some-run c h = run-extends (length row) c c (same-single row c h) (omega arith)

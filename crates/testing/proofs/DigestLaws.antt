@@ -1,4 +1,5 @@
--- Digests, with one byte more.
+-- Digests, with one byte more. The number of some bytes and one more is 256 times theirs, and that one, by induction over them; to take the remainder of
+-- theirs first leaves out a multiple of the prime.
 use Prim.Native.Nat.{ℕ, _+_, _*_, _/_, _%_}
 use mathlib.Core.Path.{_≡_, refl}
 use mathlib.Core.List.{List, [], _∷_, _++_}

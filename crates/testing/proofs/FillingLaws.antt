@@ -1,4 +1,5 @@
--- The loop that fills a buffer: what it has at the start, after one more byte, and at the end.
+-- The loop that fills a buffer: what it has at the start, after one more byte, and at the end. Each byte is set where the filled ones end; the next one is
+-- that byte and the step modulo the size, and a remainder taken before adding changes nothing.
 use Prim.Native.Nat.{ℕ, _+_, _*_, _%_, _≤_, _<_}
 use mathlib.Core.Path.{_≡_, refl, sym, _∙_, ap}
 use mathlib.Core.List.{List}
@@ -18,9 +19,9 @@ module _ (size first step : ℕ) (buf₀ : List ℕ) where
     pub next : byte ≡ (first + step * i) % size
     pub below : byte < size
 
-  pub begins : 0 < size → Filling buf₀ (first % size) 0
+  pub filling-start : 0 < size → Filling buf₀ (first % size) 0
   unfolding filled
-  begins some = record {
+  filling-start some = record {
     inside = omega arith;
     same-length = refl;
     front = refl;
@@ -29,9 +30,9 @@ module _ (size first step : ℕ) (buf₀ : List ℕ) where
   }
 
   module _ (buf : List ℕ) (byte i : ℕ) (h : Filling buf byte i) where
-    pub one-more : i < length buf₀ → Filling (set buf i byte) ((byte + step) % size) (i + 1)
+    pub filling-next : i < length buf₀ → Filling (set buf i byte) ((byte + step) % size) (i + 1)
     unfolding filled
-    one-more more = record {
+    filling-next more = record {
       inside = omega arith;
       same-length = simp length-set (h .same-length);
       front = rw (add-one, take-suc-set buf i byte (omega (arith, h .same-length)), h .front, h .next);
@@ -39,7 +40,7 @@ module _ (size first step : ℕ) (buf₀ : List ℕ) where
       below = mod-lt _ (omega arith);
     }
 
-    pub ends : length buf₀ ≤ i → buf ≡ filled size first step (length buf₀)
-    ends left =
+    pub filling-end : length buf₀ ≤ i → buf ≡ filled size first step (length buf₀)
+    filling-end left =
         let e : i ≡ length buf₀ = omega arith in
         sym (take-all i buf (omega arith)) ∙ h .front ∙ ap (λ (n : ℕ). filled size first step n) e

@@ -13,13 +13,13 @@ Inv-loop rule table count at₀ lines₀ t8 at lines = Leads rule table count li
 abbrev μ-loop : tie.MeasureT-loop
 μ-loop rule table count at₀ lines₀ t8 at lines = 34 + 256 * count - at
 
--- the line of a turn that goes on
-turn-leads-on : (c : tie.Else2 Inv-loop μ-loop) →
+-- the line of an iteration that goes on
+iteration-leads-on : (c : tie.Else2 Inv-loop μ-loop) →
     let line = c .before .before .before .before .before .before in
     let x = line .before .before .before .args in
     let now = line .before .loop in
     LeadsOn (x .rule) (x .table .now) (x .count) (now .lines) (now .at) (line .listing-line .result .next)
-turn-leads-on c =
+iteration-leads-on c =
     let line = c .before .before .before .before .before .before in
     leads-next (line .before .loop .inv) (line .listing-line .ensures .0) (c .before .before .before .if1 .left)
 
@@ -46,13 +46,13 @@ returns-2 c =
     record { at = _; lead = start .loop .inv .lead; ends = λ written. absurd (let z : _≡_ {A = ℕ} 0 1 = cc in omega arith) }
 
 add-lines : tie.Need-add-lines Inv-loop μ-loop
-add-lines c = omega (arith, turn-leads-on c)
+add-lines c = omega (arith, iteration-leads-on c)
 
 loop-less : tie.Need-loop-less Inv-loop μ-loop
-loop-less c = omega (arith, turn-leads-on c)
+loop-less c = omega (arith, iteration-leads-on c)
 
 loop-again : tie.Need-loop-again Inv-loop μ-loop
-loop-again c = turn-leads-on c .leads
+loop-again c = iteration-leads-on c .leads
 
 pub print-listing-spec : {M : Type 1} → statement M
 print-listing-spec =

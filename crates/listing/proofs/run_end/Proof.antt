@@ -4,7 +4,7 @@ use native.Mathlib.Omega.{arith}
 use borrow.Author.Needs.{needs}
 use borrow.Author.Tests.{eqb-true, eqb-false}
 use lib.ListN.{length}
-use Rattle.listing.proofs.RunLaws.{Same, same-one, same-more, same-ends}
+use Rattle.listing.proofs.RunLaws.{Same, same-single, same-next, same-ends}
 use Rattle.listing.proofs.run_end.Statement.{statement}
 use Rattle.listing.proofs.run_end.Tie as tie
 
@@ -18,7 +18,7 @@ shared-slice-read-entry : tie.Need-shared-slice-read-entry Inv-loop μ-loop
 shared-slice-read-entry c = search needs
 
 loop-holds : tie.Need-loop-holds Inv-loop μ-loop
-loop-holds c = same-one (c .before .args .row .now) (c .before .args .c) (omega arith)
+loop-holds c = same-single (c .before .args .row .now) (c .before .args .c) (omega arith)
 
 add-loop : tie.Need-add-loop Inv-loop μ-loop
 add-loop c = omega (arith, c .loop .inv .inside)
@@ -39,7 +39,7 @@ loop-again : tie.Need-loop-again Inv-loop μ-loop
 loop-again c =
     let l = c .before .before .before .loop in
     let x = c .before .before .before .before .before .args in
-    same-more (x .row .now) (x .c) (l .last) (l .inv) (omega arith) (eqb-true _ _ (c .if1 .taken))
+    same-next (x .row .now) (x .c) (l .last) (l .inv) (omega arith) (eqb-true _ _ (c .if1 .taken))
 
 returns : tie.Need-returns Inv-loop μ-loop
 returns c =

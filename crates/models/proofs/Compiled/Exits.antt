@@ -1,5 +1,5 @@
--- What the ends of the walks share.
---     unsaid       a parameter of which nothing is had, before those of which something is
+-- What the ends of the walks share. Freeing a local brings its entry and the one that says that it dies to the front, where the rule for freeing takes them.
+--     joins-true   a parameter of which nothing is had, before those of which something is
 --     frees-cell   at the return, the local that is entry n, and holds something, is freed; that it dies is entry m of what is then left
 --     frees-room   the same of a local that holds nothing
 -- Assumes `Given`.
@@ -19,8 +19,8 @@ use types.Run.{free1}
 use denote.Steps.{nothing}
 
 module _ {M : Type 1} {𝓤 : URA M} {H : Heap 𝓤} {A : Atoms 𝓤} {K : Type 0} {W : Given 𝓤 H A} {Γ : List (Item 𝓤)} where
-  pub unsaid : {G : Goal 𝓤 H} → K → {F : Fml} → Step K W (‵ (fsep ftrue F) ∷ Γ) G (‵ F ∷ Γ) G
-  unsaid t = step (λ s. nothing t $ fjoin t $ s)
+  pub joins-true : {G : Goal 𝓤 H} → K → {F : Fml} → Step K W (‵ (fsep ftrue F) ∷ Γ) G (‵ F ∷ Γ) G
+  joins-true t = step (λ s. nothing t $ fjoin t $ s)
 
   -- two entries to the front
   to-front : K → {G : Goal 𝓤 H} (n m : ℕ) {i j : Item 𝓤} → nth 𝓤 H A n Γ ≡ i → nth 𝓤 H A m (del 𝓤 H A n Γ) ≡ j

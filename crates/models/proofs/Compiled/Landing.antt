@@ -1,4 +1,5 @@
--- A call's result v lands as the value u that it is known to be, in room for it or over what the local held. Assumes `Given`.
+-- A call's result v lands as the value u that it is known to be, in room for it or over what the local held: the rules for writing u
+-- serve for v, since the two are equal. Assumes `Given`.
 use mathlib.Core.Path.{_≡_, sym, subst}
 use Prim.Native.Nat.{ℕ}
 use mathlib.Core.List.{List}
@@ -14,14 +15,14 @@ use types.Kit.{Given, Item, ‵, nth, put}
 use types.Run.{Writes, init, store}
 
 module _ {M : Type 1} {𝓤 : URA M} {H : Heap 𝓤} {A : Atoms 𝓤} {K : Type 0} {W : Given 𝓤 H A} {Γ : List (Item 𝓤)} {τ : Ty} {b o : ℕ} {u v : Val} where
-  as-known : (n : ℕ) → v ≡ u → Writes K W Γ τ b o u (put 𝓤 H A n (‵ (fat fullShare τ b o u)) Γ)
+  writes-equal : (n : ℕ) → v ≡ u → Writes K W Γ τ b o u (put 𝓤 H A n (‵ (fat fullShare τ b o u)) Γ)
       → Writes K W Γ τ b o v (put 𝓤 H A n (‵ (fat fullShare τ b o u)) Γ)
-  as-known n e = subst (λ (w : Val). Writes K W Γ τ b o w (put 𝓤 H A n (‵ (fat fullShare τ b o u)) Γ)) (sym e)
+  writes-equal n e = subst (λ (w : Val). Writes K W Γ τ b o w (put 𝓤 H A n (‵ (fat fullShare τ b o u)) Γ)) (sym e)
 
   pub init-as : K → (n : ℕ) → nth 𝓤 H A n Γ ≡ ‵ (froom τ b o) → v ≡ u → Holds (hasTy τ u) × WT u
       → Writes K W Γ τ b o v (put 𝓤 H A n (‵ (fat fullShare τ b o u)) Γ)
-  init-as t n room e typed = as-known n e (init t n room typed)
+  init-as t n room e typed = writes-equal n e (init t n room typed)
 
   pub store-as : K → (n : ℕ) {v₀ : Val} → nth 𝓤 H A n Γ ≡ ‵ (fat fullShare τ b o v₀) → v ≡ u → Holds (hasTy τ u) × WT u
       → Writes K W Γ τ b o v (put 𝓤 H A n (‵ (fat fullShare τ b o u)) Γ)
-  store-as t n held e typed = as-known n e (store t n held typed)
+  store-as t n held e typed = writes-equal n e (store t n held typed)

@@ -1,8 +1,8 @@
 -- A `&κ mut [T]` x that its holder lends on for a call, at a lifetime ν made for the call, and has back when ν has ended. Its list may have changed
--- since x was passed.
---     OnLoan          what the holder keeps meanwhile: the claim on what is lent at ν, and its own borrow at κ, opened
---     lends-again-at  from the slice and the token of κ: the slice at ν, under a new name, and what is kept
---     comes-back-at   ν has ended, and the list is zs, as long as before: the slice at κ is had again, at zs, and the token
+-- since x was passed. The holder opens its borrow at κ and lends the cells at ν; once ν has ended it has the cells, and closes the borrow with them.
+--     OnLoan             what the holder keeps meanwhile: the claim on what is lent at ν, and its own borrow at κ, opened
+--     relends-slice-at   from the slice and the token of κ: the slice at ν, under a new name, and what is kept
+--     regains-slice-at   ν has ended, and the list is zs, as long as before: the slice at κ is had again, at zs, and the token
 -- Assumes `Given`.
 use mathlib.Core.Path.{_≡_, sym, _∙_, ap, subst}
 use Prim.Native.Nat.{ℕ}
@@ -28,6 +28,8 @@ use denote.Lend.{Held, lends-slice, slice-back}
 use denote.Index.{row, whole-out, whole-in, opens-slice, closes-slice}
 use Rattle.models.proofs.Compiled.Slices.{slice-at}
 
+-- ---- what is on loan
+
 module _ (R : RattleType) (κ ν : Lft) (q : Share) (x : RefT (List (R .Denot))) where
   abbrev b : ℕ
   b = x .ptr .0
@@ -46,11 +48,11 @@ module _ (R : RattleType) (κ ν : Lft) (q : Share) (x : RefT (List (R .Denot)))
     abbrev vals : List Val
     vals = sliceVal (x .ptr) (length ys) ∷ []
 
-    -- ---- lending, and having back
+    -- ---- lending
 
-    lends-again : ent 𝓤 (sep 𝓤 (sem 𝓤 H A (MutSlice ℓ κ R .own (slice-at (x .ptr) γ ys) vals)) (A .lft κ q))
+    relends-slice : ent 𝓤 (sep 𝓤 (sem 𝓤 H A (MutSlice ℓ κ R .own (slice-at (x .ptr) γ ys) vals)) (A .lft κ q))
         (H .⇛ (ex 𝓤 (λ (δ : GName). sep 𝓤 (sem 𝓤 H A (MutSlice ℓ′ ν R .own (slice-at (x .ptr) δ ys) vals)) (sem 𝓤 H A (OnLoan δ ys)))))
-    lends-again =
+    relends-slice =
         qed W (‵ (MutSlice ℓ κ R .own (slice-at (x .ptr) γ ys) vals) ∷ ‵ (flft κ q) ∷ []) ∵ updating ! $ fsplit ! $
         pureL ! (at-slice R (slice-at (x .ptr) γ ys) vals) (λ p. fsplit ! $ opens-slice ! tt R ys b o $
         use1 W (‵ (cells (mem R) ys b o)) (whole-in 𝓤 H A W R ys b o) $
@@ -61,10 +63,12 @@ module _ (R : RattleType) (κ ν : Lft) (q : Share) (x : RefT (List (R .Denot)))
         frame ! $
         move ! (2 ∷ 3 ∷ []) $ fjoin ! $ move ! (2 ∷ 0 ∷ []) $ fjoin ! $ move ! (1 ∷ 0 ∷ []) $ fjoin ! $ done !))
 
-    comes-back : (δ : GName) (zs : List (R .Denot)) → Room R (length ys) → length zs ≡ length ys
+    -- ---- having back
+
+    regains-slice : (δ : GName) (zs : List (R .Denot)) → Room R (length ys) → length zs ≡ length ys
         → ent 𝓤 (sep 𝓤 (A .dead ν) (sep 𝓤 (sem 𝓤 H A (OnLoan δ ys)) (sem 𝓤 H A (finally R δ zs))))
         (H .⇛ (sep 𝓤 (sem 𝓤 H A (MutSlice ℓ κ R .own (slice-at (x .ptr) γ zs) vals)) (A .lft κ q)))
-    comes-back δ zs room e =
+    regains-slice δ zs room e =
         qed W (‵ (fdead ν) ∷ ‵ (OnLoan δ ys) ∷ ‵ (finally R δ zs) ∷ []) ∵ updating ! $ move ! (1 ∷ []) $ fsplit ! $ move ! (2 ∷ 0 ∷ 3 ∷ []) $
         use3 W (later (‵ (Arr (mem R) (length ys) .lies zs b o))) (slice-back 𝓤 H A W R ν δ zs (length ys) b o) $ await ! tt $ fsplit ! $ drop ! $
         use1 W (‵ (row R fullShare zs b o)) (whole-out 𝓤 H A W R zs b o) $
@@ -75,22 +79,21 @@ module _ (R : RattleType) (κ ν : Lft) (q : Share) (x : RefT (List (R .Denot)))
         (ap (λ (m : ℕ). sliceVal (x .ptr) m ∷ []) (sym e), subst (Room R) (sym e) room) $
         fjoin ! $ done !
 
-    -- ---- the same at another count
+    -- ---- both, where the slice's count is said as another number that it is
 
-    -- the same where the slice's count is said as another number that it is
-    pub lends-again-at : (n : ℕ) → length ys ≡ n
+    pub relends-slice-at : (n : ℕ) → length ys ≡ n
         → ent 𝓤 (sep 𝓤 (sem 𝓤 H A (MutSlice ℓ κ R .own (slice-at (x .ptr) γ ys) (sliceVal (x .ptr) n ∷ []))) (A .lft κ q))
         (H .⇛ (ex 𝓤 (λ (δ : GName). sep 𝓤 (sem 𝓤 H A (MutSlice ℓ′ ν R .own (slice-at (x .ptr) δ ys) (sliceVal (x .ptr) n ∷ [])))
         (sem 𝓤 H A (OnLoan δ ys)))))
-    lends-again-at n e = subst
+    relends-slice-at n e = subst
         (λ (m : ℕ). ent 𝓤 (sep 𝓤 (sem 𝓤 H A (MutSlice ℓ κ R .own (slice-at (x .ptr) γ ys) (sliceVal (x .ptr) m ∷ []))) (A .lft κ q))
         (H .⇛ (ex 𝓤 (λ (δ : GName). sep 𝓤 (sem 𝓤 H A (MutSlice ℓ′ ν R .own (slice-at (x .ptr) δ ys) (sliceVal (x .ptr) m ∷ [])))
-        (sem 𝓤 H A (OnLoan δ ys)))))) e lends-again
+        (sem 𝓤 H A (OnLoan δ ys)))))) e relends-slice
 
-    pub comes-back-at : (n : ℕ) → length ys ≡ n → Room R n → (δ : GName) (zs : List (R .Denot)) → length zs ≡ n
+    pub regains-slice-at : (n : ℕ) → length ys ≡ n → Room R n → (δ : GName) (zs : List (R .Denot)) → length zs ≡ n
         → ent 𝓤 (sep 𝓤 (A .dead ν) (sep 𝓤 (sem 𝓤 H A (OnLoan δ ys)) (sem 𝓤 H A (finally R δ zs))))
         (H .⇛ (sep 𝓤 (sem 𝓤 H A (MutSlice ℓ κ R .own (slice-at (x .ptr) γ zs) (sliceVal (x .ptr) n ∷ []))) (A .lft κ q)))
-    comes-back-at n e room δ zs l = subst
+    regains-slice-at n e room δ zs l = subst
         (λ (m : ℕ). ent 𝓤 (sep 𝓤 (A .dead ν) (sep 𝓤 (sem 𝓤 H A (OnLoan δ ys)) (sem 𝓤 H A (finally R δ zs))))
         (H .⇛ (sep 𝓤 (sem 𝓤 H A (MutSlice ℓ κ R .own (slice-at (x .ptr) γ zs) (sliceVal (x .ptr) m ∷ []))) (A .lft κ q)))) e
-        (comes-back δ zs (subst (Room R) (sym e) room) (l ∙ sym e))
+        (regains-slice δ zs (subst (Room R) (sym e) room) (l ∙ sym e))

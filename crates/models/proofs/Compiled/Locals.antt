@@ -1,4 +1,4 @@
--- What the walks do with locals. A local is an entry of the context, and its number is given.
+-- What the walks do with locals. A local is an entry of the context, and its number is given; each fact is the logic's rule for this at that entry.
 --     passes-slice, passes-word     a parameter goes into its local: a slice, or a 64-bit number
 --     reads-local, reads-field      an operand that is a local, or a field of one
 --     sets-local                    a value goes into a local that held nothing

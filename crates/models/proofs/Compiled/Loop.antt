@@ -1,4 +1,5 @@
--- What the walks of a `while` share.
+-- What the walks of a `while` share. The test at its head gives two cases; and a loop ends where a measure gets less in each iteration, since there is
+-- no endless descent of numbers.
 --     tests        the test at the loop's head, where it isn't known how it comes out: there is a premise for each
 --     AfterLoop    what is shown where the loop is left: the rest of the body runs
 --     loops-down   the loop and the rest of the body, where each iteration ends with less of a measure.        Less     that order

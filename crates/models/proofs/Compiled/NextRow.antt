@@ -1,4 +1,5 @@
--- What a walk uses of the type `Next`: its row N, and what is known of the fields of a value.
+-- What a walk uses of the type `Next`: its row N, and what is known of the fields of a value. Where the row relates a value, the rows of its fields relate
+-- these, in their order; each fact is one of them.
 use Prim.Native.Nat.{_<_, _^_}
 use mathlib.Core.List.{[], _∷_}
 use mir.Syntax.{Ty}

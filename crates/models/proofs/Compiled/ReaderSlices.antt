@@ -1,4 +1,4 @@
--- The slices that the walks of the reader hold: the bytes of the file, shared, and the records, lent.
+-- The slices that the walks of the reader hold: the bytes of the file, shared, and the records, lent. Names alone, so that the walks say the same of them.
 use Prim.Native.Nat.{ℕ}
 use mathlib.Core.List.{List, [], _∷_}
 use lib.ListN.{length}

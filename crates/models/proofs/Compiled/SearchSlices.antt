@@ -1,4 +1,5 @@
--- The cursor that `search` and `search_array` take, and the five slices after it.
+-- The cursor that `search` and `search_array` take, and the five slices after it. These are names for the most part; what is shown of the five is what
+-- the logic's law of one slice says of each, in their order.
 --     the-cursor                  the type `Cursor`
 --     last … pairs, links         each of the slices, and the links that two of them are
 --     AtStart                     what both functions ask for

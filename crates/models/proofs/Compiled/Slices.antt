@@ -1,4 +1,4 @@
--- A slice as a value: where it begins, the name of its borrow, and its list.
+-- A slice as a value: where it begins, the name of its borrow, and its list. A name alone, which spares the walks the record.
 use Prim.Native.Nat.{ℕ}
 use mathlib.Core.List.{List}
 use base.Fml.{GName}

@@ -1,7 +1,9 @@
--- What a walk over step records uses of the type `Step`, and of an array of 512 records in memory.
---     R, copy      a record's row, and that what it owns is had twice
---     lies, back   the array in one cell, with what it owns, is its records side by side;  and these are the array in one cell again
---     array-known  records side by side are an array that the row relates to its value
+-- What a walk over step records uses of the type `Step`, and of an array of 512 records in memory. The facts of a record are those of any plain struct,
+-- and those of the array follow from them by the logic's laws of arrays, which take a cell apart into its records and put these together again.
+--     R, copy          a record's row, and that what it owns is had twice
+--     cell-to-records  the array in one cell, with what it owns, is its records side by side
+--     records-to-cell  and these are the array in one cell again
+--     array-known      records side by side are an array that the row relates to its value
 -- Assumes `Given`.
 use mathlib.Core.Path.{refl, subst}
 use Prim.Native.Nat.{ℕ}
@@ -68,18 +70,18 @@ module _ {M : Type 1} (𝓤 : URA M) (H : Heap 𝓤) (A : Atoms 𝓤) where
       pub array-typed : Is AR xs (array-low xs ∷ []) → Holds (hasTy arrayTy (array-low xs)) × WT (array-low xs)
       array-typed is = array-lawful 𝓤 H A W R (LL.lawful T.the-type T′.the-laws 𝓤 H A W) 512 .typed xs (array-low xs ∷ []) is .0
 
-      pub lies : (b : ℕ) → ent 𝓤 (⋆ 𝓤 H A (‵ (fat fullShare arrayTy b 0 (array-low xs)) ∷ ‵ (AR .own xs (array-low xs ∷ [])) ∷ []))
+      pub cell-to-records : (b : ℕ) → ent 𝓤 (⋆ 𝓤 H A (‵ (fat fullShare arrayTy b 0 (array-low xs)) ∷ ‵ (AR .own xs (array-low xs ∷ [])) ∷ []))
           (sem 𝓤 H A (arr-parts (shares R) 512 .part fullShare xs b 0))
       unfolding partOf
-      lies b =
+      cell-to-records b =
           qed W (‵ (fat fullShare arrayTy b 0 (array-low xs)) ∷ ‵ (AR .own xs (array-low xs ∷ [])) ∷ []) ∵
           use1 W (‵ (cellAt fullShare (AR .mir) (array-low xs ∷ []) b 0)) (W .laws .at-raw fullShare arrayTy b 0 (array-low xs)) $ fjoin ! $
           fpack ! (List Val) (λ us. fsep (cellAt fullShare (AR .mir) us b 0) (AR .own xs us)) (array-low xs ∷ []) $
           use1 W (‵ (arr-parts (shares R) 512 .part fullShare xs b 0)) (array-apart 𝓤 H A W R fullShare tt 512 xs b 0) $ done !
 
-      pub back : (b : ℕ) → ent 𝓤 (sem 𝓤 H A (arr-parts (shares R) 512 .part fullShare xs b 0)) (sem 𝓤 H A (fat fullShare arrayTy b 0 (array-low xs)))
+      pub records-to-cell : (b : ℕ) → ent 𝓤 (sem 𝓤 H A (arr-parts (shares R) 512 .part fullShare xs b 0)) (sem 𝓤 H A (fat fullShare arrayTy b 0 (array-low xs)))
       unfolding partOf
-      back b =
+      records-to-cell b =
           qed W (‵ (arr-parts (shares R) 512 .part fullShare xs b 0) ∷ []) ∵
           use1 W (‵ (partAt AR fullShare xs b 0)) (array-whole 𝓤 H A W R fullShare 512 xs b 0) $
           fpick ! (λ vs. fsplit ! $ move ! (1 ∷ []) $ peeks ! AR (Is AR) (shows 𝓤 H A AR) xs vs (λ p. drop ! $

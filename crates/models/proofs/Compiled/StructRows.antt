@@ -1,4 +1,5 @@
--- What a walk uses of a declared struct that owns only facts, whichever struct it is.
+-- What a walk uses of a declared struct that owns only facts, whichever struct it is. Each fact is the logic's law of declared structs, at the struct's type
+-- and the laws of its fields.
 --     row-of         its row
 --     low, vals      the machine value of a struct, alone and as a list.        tells     its row relates a struct to no other value
 --     makes          what the row owns is had for nothing.        typed     the value has the struct's type in MIR

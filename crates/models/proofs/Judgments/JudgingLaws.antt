@@ -48,11 +48,11 @@ table-left (accepted x) answer before built (inl (q, sat)) =
     record { refused = λ e. absurd (let z : _≡_ {A = ℕ} 0 1 = cc in omega arith); judged = λ e. refl }
 table-left (accepted x) answer before built (inr (q, none)) =
     record { refused = λ e. absurd (let z : _≡_ {A = ℕ} 0 1 = cc in omega arith); judged = λ e. refl }
-table-left (refused number place) answer before built q = record { refused = λ e. refl; judged = λ e. absurd (neither e) }
+table-left (refused number place) answer before built q = record { refused = λ e. refl; judged = λ e. absurd (refused-not-judged e) }
   where
-    neither : (answer ≡ Meets) ⊎ (answer ≡ Breaks) → ⊥
-    neither (inl e) = let z : _≡_ {A = ℕ} 0 1 = cc in omega arith
-    neither (inr e) = let z : _≡_ {A = ℕ} 0 1 = cc in omega arith
+    refused-not-judged : (answer ≡ Meets) ⊎ (answer ≡ Breaks) → ⊥
+    refused-not-judged (inl e) = let z : _≡_ {A = ℕ} 0 1 = cc in omega arith
+    refused-not-judged (inr e) = let z : _≡_ {A = ℕ} 0 1 = cc in omega arith
 
 pub refused-unchanged : RefusedUnchanged
 refused-unchanged limit mark s f table answer judged =

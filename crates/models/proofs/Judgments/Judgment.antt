@@ -34,14 +34,16 @@ use Rattle.models.proofs.Phones.PhoneCodes.{phone-codes}
 use Rattle.models.proofs.Phones.DecidedSets.{decided-satisfies}
 use Rattle.models.proofs.Judgments.JudgingLaws.{judging-case}
 
+-- ---- the answer and the table
+
 module _ (s table f : List ℕ) where
-  -- the answer and the table after a call
+  -- what a call answers, and the table after it
   abbrev Judges : (answer : Judged) → (after : List ℕ) → Type 0
   Judges answer after =
       JudgedAs (judgingOf 128 s (length table) f) answer
       × (after ≡ tableJudged (judgingOf 128 s (length table) f) (tableLeft 128 255 s table) table)
 
-  -- ---- a refusal
+  -- ---- the answer where the rule or the model is refused
 
   refused-judges : {number place : ℕ} → judgingOf 128 s (length table) f ≡ refused number place
       → Judges (Judged′.the-variants.Refused number place) table
@@ -75,7 +77,7 @@ module _ (s table f : List ℕ) where
       let building = counted-refuses (buildingOf 128 s (length table)) number place (sym is ∙ told) in
       rw (e, told, left ∙ ap (λ (o : Outcome Synthesis). tableAfter 255 o table) building) (building-refused-judges building)
 
-  -- ---- a rule and a model that were accepted
+  -- ---- a rule and a model that were accepted, and what the calls ask for
 
   -- the rule and the model of the files, the table that building leaves, and the struct that has the model
   pub record Accepts (after : List ℕ) (model : PhoneModel) : Type 0 where
@@ -111,6 +113,8 @@ module _ (s table f : List ℕ) where
     pub table-well-formed : (count : ℕ) × WellFormedTable 128 255 count after
     table-well-formed = (a .count, built-well-formed 128 255 s table (a .rule) (a .count) after (a .builds))
 
+    -- ---- the answer of the search
+
     -- nothing is dropped exactly where the model satisfies the rule
     never-drops-satisfies :
         NeverDrops (lookup 256 255 after) 0 (modelOf (a .phone)) ↔ SatisfiesDecided (modelOf (a .phone)) (a .rule)
@@ -127,7 +131,7 @@ module _ (s table f : List ℕ) where
       judging-is : judgingOf 128 s (length table) f ≡ accepted (record { rule = a .rule; phone = a .phone })
       judging-is = judging-case (a .builds) f (a .phone) (a .phone-is)
 
-      -- the answer of the search
+      -- the search finds no dropped step exactly where there is none
       search-iff : (r ≡ true) ↔ NeverDrops (lookup 256 255 after) 0 (modelOf (a .phone))
       search-iff = never (a .phone) (a .is-stored)
 

@@ -45,11 +45,11 @@ module _ (steps : List Step) (l : Links) (chains : Chains steps l) where
     where
       on : (b : Bool) → eqb (source n) s ≡ b → (OnChain l (lastFrom steps s n) i → (i < n) × (source i ≡ s))
           → (i < suc n) × (source i ≡ s)
-      on true q ih = split (chain-cases (rw q at o))
+      on true q ih = cases-sound (chain-cases (rw q at o))
         where
-          split : (i ≡ n) ⊎ OnChain l (getD (l .earlier) n 0) i → (i < suc n) × (source i ≡ s)
-          split (inl e) = (omega arith, rw e (eqb-true (source n) s q))
-          split (inr o′) =
+          cases-sound : (i ≡ n) ⊎ OnChain l (getD (l .earlier) n 0) i → (i < suc n) × (source i ≡ s)
+          cases-sound (inl e) = (omega arith, rw e (eqb-true (source n) s q))
+          cases-sound (inr o′) =
               let a = ih (rw (earlier-last s n h (eqb-true (source n) s q)) at o′) in
               (omega (arith, a .0), a .1)
       on false q ih = let a = ih (rw q at o) in (omega (arith, a .0), a .1)

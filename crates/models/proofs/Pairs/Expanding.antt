@@ -33,18 +33,18 @@ module _ (steps : List Step) (l : Links) (row : List ℕ) (pair : ℕ) (seen₀ 
         → PartlyExpanded steps l row pair seen₀ pairs₀ found₀ (getD (l .earlier) j 0) seen′ pairs′ found′
     expanded-next seen′ pairs′ found′ next is kept enqueued = record {
       extended = extended-trans (Successor steps l row pair) (λ p. p ≡ 64 * next + getD steps j noStep .to) (h .extended) (enqueued .extended)
-          (λ p e. record { step = j; outgoing = next-outgoing; kept = this .kept; is = sym (rw is at e) });
+          (λ p e. record { step = j; outgoing = next-outgoing; kept = step-followed .kept; is = sym (rw is at e) });
       followed = λ i o. followed i (h .followed i o);
       left-outgoing = λ i o. h .left-outgoing i (rw begins (chain-later o));
     }
       where
-        this : Followed steps l row pair seen′ j
-        this = record { kept = rw is at kept; is-seen = rw is at (enqueued .is-seen) }
+        step-followed : Followed steps l row pair seen′ j
+        step-followed = record { kept = rw is at kept; is-seen = rw is at (enqueued .is-seen) }
 
-        rest : (i : ℕ) → (i ≡ j) ⊎ OnChain l (getD (l .earlier) j 0) i → Followed steps l row pair seen′ i ⊎ OnChain l (getD (l .earlier) j 0) i
-        rest i (inl e) = inl (rw e this)
-        rest i (inr o) = inr o
+        followed-or-left : (i : ℕ) → (i ≡ j) ⊎ OnChain l (getD (l .earlier) j 0) i → Followed steps l row pair seen′ i ⊎ OnChain l (getD (l .earlier) j 0) i
+        followed-or-left i (inl e) = inl (rw e step-followed)
+        followed-or-left i (inr o) = inr o
 
         followed : (i : ℕ) → Followed steps l row pair seen i ⊎ OnChain l step i → Followed steps l row pair seen′ i ⊎ OnChain l (getD (l .earlier) j 0) i
         followed i (inl d) = inl (record { kept = d .kept; is-seen = enqueued .extended .keeps-seen (pairAfter steps l row pair i) (d .is-seen) })
-        followed i (inr o) = rest i (chain-cases (rw begins at o))
+        followed i (inr o) = followed-or-left i (chain-cases (rw begins at o))

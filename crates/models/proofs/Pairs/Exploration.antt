@@ -22,6 +22,8 @@ use Rattle.models.proofs.Pairs.Chains.{chain-empty, chain-step, step-on
 use Rattle.models.proofs.Pairs.Leading.{leads-inside, stepsTo}
 use Rattle.models.proofs.Pairs.Leading.{steps-silent, steps-kept, steps-dropped, reachable-step, dropped-step-refutes}
 
+-- ---- the outgoing steps of a pair
+
 module _ (steps : List Step) (l : Links) (table : List ℕ) (steps-range : (i : ℕ) → WellFormedStep 64 (getD steps i noStep)) where
   -- an outgoing step of a pair is one of the phone model
   outgoing-step : (y : Phone) → OfPhone steps l y → (pair i : ℕ) → Outgoing l pair i
@@ -50,24 +52,26 @@ module _ (steps : List Step) (l : Links) (table : List ℕ) (steps-range : (i : 
         (reachable-step table (modelOf y) (pair % 64) _ (pair / 64) (getD steps (h .step) noStep .label) reached
         (outgoing-step y has pair (h .step) (h .outgoing)) (h .kept))
 
-  -- ---- the first pair seen, and one more expanded
+  -- ---- the first pair seen
 
   pub explored-start : (seen pairs : List ℕ) (found : ℕ) → Enqueued 0 (replicate 8192 0) (replicate 8192 0) 0 seen pairs found
       → Explored steps l table seen pairs found 0
   explored-start seen pairs found enqueued = record {
     worklist = enqueued .extended .worklist;
     start-seen = enqueued .is-seen;
-    inside = λ count wf p h. rw (only p h) (omega (arith, wf .some));
-    seen-reachable = λ y has p h. rw (only p h) begin;
+    inside = λ count wf p h. rw (seen-is-start p h) (omega (arith, wf .some));
+    seen-reachable = λ y has p h. rw (seen-is-start p h) begin;
     expanded = λ k h. absurd (omega arith);
   }
     where
-      only : (p : ℕ) → Seen seen p → p ≡ 0
-      only p h = on (enqueued .extended .adds-only p h)
+      seen-is-start : (p : ℕ) → Seen seen p → p ≡ 0
+      seen-is-start p h = on (enqueued .extended .adds-only p h)
         where
           on : Seen (replicate 8192 0) p ⊎ (p ≡ 0) → p ≡ 0
           on (inl z) = absurd (omega (arith, z, repeated-at {A = ℕ} 0 8192 p))
           on (inr e) = e
+
+  -- ---- one more pair expanded
 
   module _ (seen pairs : List ℕ) (found n : ℕ) (explored : Explored steps l table seen pairs found n) (more : n < found) where
     abbrev pair : ℕ
@@ -127,7 +131,7 @@ module _ (steps : List Step) (l : Links) (table : List ℕ) (steps-range : (i : 
           (omega (arith, explored .inside count wf pair pair-seen, wf .few)) is never),
     )
 
-  -- ---- the end where all pairs have been expanded
+  -- ---- the pairs seen, where all have been expanded
 
   module _ (seen pairs : List ℕ) (found n : ℕ) (explored : Explored steps l table seen pairs found n) (all : found ≤ n)
       (y : Phone) (has : OfPhone steps l y) where
@@ -168,6 +172,8 @@ module _ (steps : List Step) (l : Links) (table : List ℕ) (steps-range : (i : 
         let h = reachable-seen r in
         let f = step-target-seen s e (h .0) (h .1) _ t step in
         (f .target, rw (steps-kept table e (f .label) c e′ (f .label-is) answer) at (f .is-seen))
+
+    -- ---- the end where no step is dropped
 
     pub ends-undropped : (false ≡ false) ↔ NeverDrops (lookup 256 255 table) 0 (modelOf y)
     ends-undropped = (

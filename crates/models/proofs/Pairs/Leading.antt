@@ -50,11 +50,11 @@ module _ (row : List ℕ) (e label : ℕ) where
       on true q = rw q inside
       on false q =
           let byte : label < 256 = omega (arith, eqb-false label 256 q) in
-          rw q (known (rw (getD-inside row label 0 255 (omega (arith, fits .whole))) at (fits .range label byte)) (rw q at kept))
+          rw q (kept-entry-below (rw (getD-inside row label 0 255 (omega (arith, fits .whole))) at (fits .range label byte)) (rw q at kept))
         where
-          known : (getD row label 255 ≡ 255) ⊎ (getD row label 255 < count) → (getD row label 255 ≡ 255 → ⊥) → getD row label 255 < count
-          known (inl z) other = absurd (other z)
-          known (inr a) other = a
+          kept-entry-below : (getD row label 255 ≡ 255) ⊎ (getD row label 255 < count) → (getD row label 255 ≡ 255 → ⊥) → getD row label 255 < count
+          kept-entry-below (inl z) other = absurd (other z)
+          kept-entry-below (inr a) other = a
 
 -- ---- the rows of a table
 

@@ -154,9 +154,9 @@ module _ {steps : List Step} {l : Links} {table seen pairs : List ℕ} {at : Cur
             rw rest
             (expanded-next steps l _ _ _ _ _ _ (at .step - 1) (omega arith) _ _ _ expanded-before _ _ _ next leads-from kept (rw is at enqueued))
 
-        pub followed-on : 0 < left
+        pub followed-next-step : 0 < left
             → SearchInvariant steps l table seen′ pairs′ (record { found = found′; index = at .index; pair = at .pair; step = left; dropped = false })
-        followed-on more = record {
+        followed-next-step more = record {
           searchable = s .searchable;
           seen-length = enqueued .extended .worklist .seen-length;
           pairs-length = enqueued .extended .worklist .pairs-length;
@@ -173,8 +173,8 @@ module _ {steps : List Step} {l : Links} {table seen pairs : List ℕ} {at : Cur
           finished = λ z. absurd (omega arith);
         }
 
-        pub followed-next : left ≡ 0 → {r : Cursor} → NextPair (l .last) pairs′ (at .index + 1) found′ r → SearchInvariant steps l table seen′ pairs′ r
-        followed-next z next-pair =
+        pub followed-next-pair : left ≡ 0 → {r : Cursor} → NextPair (l .last) pairs′ (at .index + 1) found′ r → SearchInvariant steps l table seen′ pairs′ r
+        followed-next-pair z next-pair =
             invariant-next-pair (s .searchable)
             (explored-next steps l table (s .searchable .steps-range) _ _ _ _ (expansion .explored) (expansion .more) _ _ _ (rw z at expanded-after)) next-pair
 

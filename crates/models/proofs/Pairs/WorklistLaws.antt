@@ -101,10 +101,10 @@ extended-trans P Q {seen} {pairs} {seen′} {pairs′} {seen″} {pairs″} g h 
   worklist = h .worklist;
   grows = omega (arith, g .grows, h .grows);
   keeps-seen = λ p a. h .keeps-seen p (g .keeps-seen p a);
-  adds-only = λ p a. before p (h .adds-only p a);
+  adds-only = λ p a. adds-only-trans p (h .adds-only p a);
   keeps-listed = λ i a. h .keeps-listed i (omega (arith, g .grows)) ∙ g .keeps-listed i a;
 }
   where
-    before : (p : ℕ) → Seen seen′ p ⊎ Q p → Seen seen p ⊎ P p
-    before p (inl a) = g .adds-only p a
-    before p (inr a) = inr (has p a)
+    adds-only-trans : (p : ℕ) → Seen seen′ p ⊎ Q p → Seen seen p ⊎ P p
+    adds-only-trans p (inl a) = g .adds-only p a
+    adds-only-trans p (inr a) = inr (has p a)

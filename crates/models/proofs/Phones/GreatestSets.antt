@@ -40,8 +40,8 @@ module _ (test : (ℕ → Bool) → ℕ → Bool) where
       pass : ℕ → Bool
       pass i = test (listed l) (getD l i 0)
 
-      apart : (u v : ℕ) → test (listed l) u ≡ true → test (listed l) v ≡ false → u ≡ v → ⊥
-      apart u v h n same = true≢false (sym h ∙ ap (test (listed l)) same ∙ n)
+      pass-fail-distinct : (u v : ℕ) → test (listed l) u ≡ true → test (listed l) v ≡ false → u ≡ v → ⊥
+      pass-fail-distinct u v h n same = true≢false (sym h ∙ ap (test (listed l)) same ∙ n)
 
       on : (b : Bool) → every (length l) pass ≡ b → Greatest l
       on true q = record {
@@ -59,7 +59,7 @@ module _ (test : (ℕ → Bool) → ℕ → Bool) where
             set = g .set;
             passes = g .passes;
             contains = λ P keeps within. g .contains P keeps
-                (λ v p. lt-ltb _ _ (without-member e v l (apart v e (keeps (listed l) within v p) (f .2)) (ltb-true _ _ (within v p))));
+                (λ v p. lt-ltb _ _ (without-member e v l (pass-fail-distinct v e (keeps (listed l) within v p) (f .2)) (ltb-true _ _ (within v p))));
           }
 
   shrink : (n : ℕ) (l : List ℕ) → length l ≤ n → Greatest l

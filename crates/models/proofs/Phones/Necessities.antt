@@ -45,15 +45,15 @@ module _ (y : Phone) (X : ℕ → Bool) where
   always-complete : (s : ℕ) → Listed y s → Always s → always .set s ≡ true
   always-complete s l h = always .contains (λ v. Listed y v × Always v) passes (λ v p. lt-ltb _ _ (p .0)) s (l, h)
     where
-      next : (Y : ℕ → Bool) → Within (λ v. Listed y v × Always v) Y → (v : ℕ) → Always v
+      silent-step-within : (Y : ℕ → Bool) → Within (λ v. Listed y v × Always v) Y → (v : ℕ) → Always v
           → (a : Label) (t : ℕ) → isSilent a ≡ true → StepIn (y .steps) v a t → Y t ≡ true
-      next Y within v p silent t e x = within t (step-listed y x, λ u walk. p u (silent-first x walk))
-      next Y within v p (code c) t e x = absurd (false≢true e)
+      silent-step-within Y within v p silent t e x = within t (step-listed y x, λ u walk. p u (silent-first x walk))
+      silent-step-within Y within v p (code c) t e x = absurd (false≢true e)
 
       passes : (Y : ℕ → Bool) → Within (λ v. Listed y v × Always v) Y → Within (λ v. Listed y v × Always v) (remains Y)
       passes Y within v p =
           and-eq-true-iff (X v) (leads (y .steps) isSilent Y v) .1
-          (p .1 v stay, leads-is (y .steps) isSilent Y v .1 (next Y within v (p .1)))
+          (p .1 v stay, leads-is (y .steps) isSilent Y v .1 (silent-step-within Y within v (p .1)))
 
 -- ---- weak transitions
 
@@ -75,11 +75,11 @@ module _ (y : Phone) (covered : ℕ → Bool) (X : ℕ → Bool) where
 
   pub necessary-complete : (s : ℕ) → Listed y s → Necessary s → necessary s ≡ true
   necessary-complete s l h =
-      always-complete y afterCode s l (λ u walk. leads-is (y .steps) (isCode covered) (always y X .set) u .1 (next u walk))
+      always-complete y afterCode s l (λ u walk. leads-is (y .steps) (isCode covered) (always y X .set) u .1 (code-step-always u walk))
     where
-      next : (u : ℕ) → Walk (modelOf y) s [] u
+      code-step-always : (u : ℕ) → Walk (modelOf y) s [] u
           → (a : Label) (v : ℕ) → isCode covered a ≡ true → StepIn (y .steps) u a v → always y X .set v ≡ true
-      next u walk silent v e x = absurd (false≢true e)
-      next u walk (code c) v e x =
+      code-step-always u walk silent v e x = absurd (false≢true e)
+      code-step-always u walk (code c) v e x =
           always-complete y X v (step-listed y x)
           (λ t walk′. h c t e (record { before = u; after = v; silent-before = walk; step = x; silent-after = walk′ }))

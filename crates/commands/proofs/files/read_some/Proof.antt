@@ -1,4 +1,4 @@
--- `read_some` is safe and ends. The measure is how many turns are left.
+-- `read_some` is safe and ends. The measure is how many iterations are left.
 use mathlib.Core.Path.{_≡_}
 use lib.ListN.{length}
 use borrow.Author.Needs.{needs}

@@ -1,4 +1,4 @@
--- `write_some` meets its contract. The measure is how many turns are left.
+-- `write_some` meets its contract. The measure is how many iterations are left.
 use borrow.Author.Needs.{needs}
 use Rattle.commands.proofs.files.write_some.Statement.{statement}
 use Rattle.commands.proofs.files.write_some.Tie as tie

@@ -1,4 +1,4 @@
--- `sift_all` meets its contract: its calls are all on the one table. The measure is how many turns are left.
+-- `sift_all` meets its contract: its calls are all on the one table. The measure is how many iterations are left.
 use mathlib.Core.Path.{_≡_}
 use native.Mathlib.Omega.{arith}
 use lib.ListN.{length}
@@ -16,11 +16,11 @@ Inv-loop table count scans₀ output₀ verdicts₀ state₀ left₀ scans outpu
 abbrev μ-loop : tie.MeasureT-loop
 μ-loop table count scans₀ output₀ verdicts₀ state₀ left₀ scans output verdicts state left = left
 
--- the state after a turn
-turn-ends-calls : (c : tie.After-sift-some Inv-loop μ-loop) →
+-- the state after an iteration
+iteration-ends-calls : (c : tie.After-sift-some Inv-loop μ-loop) →
     let x = c .before .before .before .before .before .before .before .before .before .before .before .args in
     EndsCallsOn (x .table .now) (x .count) (c .sift-some .result .state)
-turn-ends-calls c =
+iteration-ends-calls c =
     let start = c .before .before .before .before .before .before .before .before .before .before .before in
     let calls = c .before .before .before .before .before .loop .inv .0 in
     ends-calls-next (start .args .table .now) (start .args .count) (start .pre) calls (c .sift-some .ensures)
@@ -53,7 +53,7 @@ sift-some-requires : tie.Need-sift-some-requires Inv-loop μ-loop
 sift-some-requires c κs = search needs
 
 returns : tie.Need-returns Inv-loop μ-loop
-returns c = turn-ends-calls (c .before .before .before .before .before .before)
+returns c = iteration-ends-calls (c .before .before .before .before .before .before)
 
 sub-left : tie.Need-sub-left Inv-loop μ-loop
 sub-left c = omega arith
@@ -62,7 +62,7 @@ loop-less : tie.Need-loop-less Inv-loop μ-loop
 loop-less c = omega arith
 
 loop-again : tie.Need-loop-again Inv-loop μ-loop
-loop-again c = (turn-ends-calls (c .before .before .before .before .before .before), omega arith)
+loop-again c = (iteration-ends-calls (c .before .before .before .before .before .before), omega arith)
 
 returns-2 : tie.Need-returns-2 Inv-loop μ-loop
 returns-2 c = c .before .loop .inv .0

@@ -3,7 +3,7 @@ use mathlib.Core.Path.{refl}
 use mathlib.Core.Logic.{inl}
 use native.Mathlib.Omega.{arith}
 use borrow.Author.Needs.{needs}
-use Rattle.commands.proofs.SiftingLaws.{goes-on-by-call}
+use Rattle.commands.proofs.SiftingLaws.{call-goes-on}
 use Rattle.commands.proofs.sifting.sift_some.Statement.{statement}
 use Rattle.commands.proofs.sifting.sift_some.Tie as tie
 
@@ -48,7 +48,7 @@ returns-2 c =
     let x = start .args in
     let e = block .sift-block .ensures in
     let read = slice-aggregate-sift-block (block .before .before .before) in
-    goes-on-by-call (x .table .now) (x .count) (x .state) _ (x .output .now) (x .verdicts .now) (omega arith) (omega arith) (e .0) (e .1)
+    call-goes-on (x .table .now) (x .count) (x .state) _ (x .output .now) (x .verdicts .now) (omega arith) (omega arith) (e .0) (e .1)
 
 pub sift-some-spec : {M : Type 1} → statement M
 sift-some-spec =

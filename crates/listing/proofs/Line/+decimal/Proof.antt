@@ -6,7 +6,7 @@ use borrow.Fn.Kinds.{In}
 use borrow.Fn.PlainCycle.{Measures, is, falls, and}
 use Rattle.listing.specs.Text.{decimal}
 use Rattle.listing.proofs.Decimals.{decimal-one, decimal-more, decimal-length}
-use Rattle.listing.proofs.Additions.{adds-more, room-less, room-after}
+use Rattle.listing.proofs.Additions.{adds-append, room-less, room-after}
 use Rattle.listing.proofs.Line.decimal.Reads as reads
 use Rattle.listing.proofs.Line.decimal.Kinds as kinds
 use Rattle.listing.proofs.Line.+decimal.Lts-decimal as lts
@@ -61,7 +61,7 @@ module _ (t : ℕ) where
   returns-2 c =
       let x = c .before .before .before .args in
       rw (decimal-more (x .n) (c .before .before .if1 .left))
-      (adds-more (decimal (x .n / 10)) _ (c .before .decimal .ensures) (c .push2 .ensures))
+      (adds-append (decimal (x .n / 10)) _ (c .before .decimal .ensures) (c .push2 .ensures))
 
 pub +decimal-spec : {M : Type 1} → statement M
 +decimal-spec = close μ λ t. lts.spec (claims t) (at t) reads.Post

@@ -6,7 +6,7 @@ use borrow.Author.Needs.{needs}
 use lib.ListN.{length, take}
 use lib.Seq.{take-suc, take-all, length-take-le}
 use Rattle.listing.specs.LineParts.{Adds}
-use Rattle.listing.proofs.Additions.{nothing-added, adds-more, room-after}
+use Rattle.listing.proofs.Additions.{adds-nil, adds-append, room-after}
 use Rattle.listing.proofs.Line.word.Statement.{statement}
 use Rattle.listing.proofs.Line.word.Tie as tie
 
@@ -17,7 +17,7 @@ abbrev μ-loop : tie.MeasureT-loop
 μ-loop word line₀ i₀ line i = length word - i
 
 loop-holds : tie.Need-loop-holds Inv-loop μ-loop
-loop-holds c = (omega arith, nothing-added _)
+loop-holds c = (omega arith, adds-nil _)
 
 shared-slice-read-push : tie.Need-shared-slice-read-push Inv-loop μ-loop
 shared-slice-read-push c = search needs
@@ -38,7 +38,7 @@ loop-again : tie.Need-loop-again Inv-loop μ-loop
 loop-again c =
     let l = c .before .before .before .loop in
     let w = c .before .before .before .before .before .args .word .now in
-    (omega arith, rw (add-one (l .i), take-suc w (l .i) 0 (omega arith)) (adds-more (take (l .i) w) _ (l .inv .1) (c .push .ensures)))
+    (omega arith, rw (add-one (l .i), take-suc w (l .i) 0 (omega arith)) (adds-append (take (l .i) w) _ (l .inv .1) (c .push .ensures)))
 
 returns : tie.Need-returns Inv-loop μ-loop
 returns c =

@@ -13,7 +13,7 @@ use Rattle.models.specs.declared.Step.{Step}
 use Rattle.models.specs.declared.exploring.Cursor.{Cursor}
 use Rattle.models.proofs.Pairs.WorklistLaws.{found-at-most}
 use Rattle.models.proofs.Pairs.Searches.{index-inside, index-before, worklist, row-inside, label-inside, target-inside, next-inside}
-use Rattle.models.proofs.Pairs.Searches.{followed-dropped, followed-on, followed-next}
+use Rattle.models.proofs.Pairs.Searches.{followed-dropped, followed-next-step, followed-next-pair}
 use Rattle.models.proofs.exploring.follow.Statement.{statement}
 use Rattle.models.proofs.exploring.follow.Tie as tie
 
@@ -101,7 +101,7 @@ returns-2 c =
     let n = c .before .before .before .before .before .before .before in
     let e = n .before .before .before .before in
     let p = at-start (e .before) .pre in (
-      λ steps s is. followed-on s (p .2) is (leads-by-row (e .before)) (e .if1 .left) (n .enqueue .ensures) refl (c .if2 .taken),
+      λ steps s is. followed-next-step s (p .2) is (leads-by-row (e .before)) (e .if1 .left) (n .enqueue .ensures) refl (c .if2 .taken),
       omega (arith, p .1 .searchable .links-range .earlier-range (at-start (e .before) .args .at .step - 1), p .2),
     )
 
@@ -138,7 +138,7 @@ followed-by-next-pair c steps s is =
     let e = enqueued c .before .before .before .before in
     let x = start-of-enqueue (enqueued c) .args in
     let none : getD (x .earlier .now) (x .at .step - 1) 0 ≡ 0 = omega (arith, c .before .before .if2 .left) in
-    followed-next s (start-of-enqueue (enqueued c) .pre .2) is (leads-by-row (e .before)) (e .if1 .left) (enqueued c .enqueue .ensures) refl none
+    followed-next-pair s (start-of-enqueue (enqueued c) .pre .2) is (leads-by-row (e .before)) (e .if1 .left) (enqueued c .enqueue .ensures) refl none
     (c .next-pair .ensures)
 
 returns-3 : tie.Need-returns-3

@@ -78,7 +78,7 @@ module _ {M : Type 1} (𝓤 : URA M) (H : Heap 𝓤) (A : Atoms 𝓤) (W : Given
         sets-local ! (of-opd ! (reads-local ! 26 refl)) 14 refl (struct.typed the-cursor 𝓤 H A W (state.from κs a) _ from-is) $
         move ! (32 ∷ []) $ use1 W (raw (⋆ 𝓤 H A (state.Owned 𝓤 H A W mem run κs qs a (seen (a .1 .1) .now) (pairs (a .1 .1) .now))))
         (state.entry-owned 𝓤 H A W mem run κs qs a) $
-        iteration.loop-and-rest 𝓤 H A W mem run κs qs a begun (rooms .seen-room)
+        iteration.loop-returns 𝓤 H A W mem run κs qs a begun (rooms .seen-room)
         (rooms .pairs-room) l₀ l₁ l₂ l₃ l₄ l₅ l₆ l₇ l₈ l₉ l₁₀ l₁₁ l₁₂ l₁₃ l₁₄ l₁₅ 𝓣 known-nth-step known-follow
         start))))))))))))))))
 

@@ -60,7 +60,7 @@ use Rattle.models.proofs.loading.read_array as read-array
 use Rattle.models.proofs.loading.read_array.Statement as stated
 use Rattle.models.proofs.loading.read_array.Code as code
 use Rattle.models.proofs.loading.read_array.Proof.Result.{the-loaded, L, loaded-of, loaded-low, loaded-is}
-use Rattle.models.proofs.loading.read_array.Proof.LentArray.{lends-array, array-back}
+use Rattle.models.proofs.loading.read_array.Proof.LentArray.{lends-array, regains-array}
 use Rattle.models.proofs.loading.read_array.Proof.Called.{ReadSteps, Returned, to-steps, asks-steps, steps-told}
 mod Result
 mod LentArray
@@ -140,7 +140,7 @@ module _ {M : Type 1} (𝓤 : URA M) (H : Heap 𝓤) (A : Atoms 𝓤) (W : Given
         land ! (from ! (stop !)) (init-as ! 12 refl (got .0) (typed the-next 𝓤 H A W x _ (got .1))) $
         lft-end ! tt $ move ! (0 ∷ 5 ∷ 1 ∷ []) $
         use3 W (later (given (Is AR zs (array-low zs ∷ [])) (‵ (fat fullShare arrayTy l₄ 0 (array-low zs)))))
-        (array-back 𝓤 H A W (α ∷ []) l₄ xs long δ zs) $ await ! tt $ learn ! (λ is-list.
+        (regains-array 𝓤 H A W (α ∷ []) l₄ xs long δ zs) $ await ! tt $ learn ! (λ is-list.
         let is = loaded-is x zs (got .1) is-list in
         -- [_4; the token of the file; the file; true; _8; …; _5; …; what frees _4; _3; …; _0; …]
         sets-local ! (of-opd ! (reads-local ! 0 refl)) 4 refl (array-typed 𝓤 H A W zs is-list) $

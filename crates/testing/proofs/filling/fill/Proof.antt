@@ -3,7 +3,7 @@ use Prim.Native.Nat.{_-_}
 use native.Mathlib.Omega.{arith}
 use borrow.Author.Needs.{needs}
 use lib.ListN.{length}
-use Rattle.testing.proofs.FillingLaws.{Filling, begins, one-more, ends}
+use Rattle.testing.proofs.FillingLaws.{Filling, filling-start, filling-next, filling-end}
 use Rattle.testing.proofs.filling.fill.Statement.{statement}
 use Rattle.testing.proofs.filling.fill.Tie as tie
 
@@ -23,7 +23,7 @@ rem-byte : tie.Need-rem-byte Inv-loop μ-loop
 rem-byte c = search needs
 
 loop-holds : tie.Need-loop-holds Inv-loop μ-loop
-loop-holds c = begins _ _ _ _ (omega arith)
+loop-holds c = filling-start _ _ _ _ (omega arith)
 
 cast-buf : tie.Need-cast-buf Inv-loop μ-loop
 cast-buf c = search needs
@@ -49,7 +49,7 @@ loop-less c = search needs
 loop-again : tie.Need-loop-again Inv-loop μ-loop
 loop-again c =
     let l = c .before .before .loop in
-    rw (c .wide2 .ensures .0) (one-more _ _ _ _ (l .buf) (l .byte) (l .i) (l .inv) (omega arith))
+    rw (c .wide2 .ensures .0) (filling-next _ _ _ _ (l .buf) (l .byte) (l .i) (l .inv) (omega arith))
 
 same-length : tie.Need-same-length Inv-loop μ-loop
 same-length c = search needs
@@ -57,7 +57,7 @@ same-length c = search needs
 returns : tie.Need-returns Inv-loop μ-loop
 returns c =
     let l = c .before .loop in
-    rw (← (c .before .before .wide .ensures .0)) (ends _ _ _ _ (l .buf) (l .byte) (l .i) (l .inv) (omega arith))
+    rw (← (c .before .before .wide .ensures .0)) (filling-end _ _ _ _ (l .buf) (l .byte) (l .i) (l .inv) (omega arith))
 
 pub fill-spec : {M : Type 1} → statement M
 fill-spec =

@@ -36,7 +36,7 @@ use Rattle.models.specs.Searching.{SearchInvariant, searchMeasure}
 use Rattle.models.specs.declared.Step.{Step}
 use Rattle.models.specs.declared.exploring.Cursor.{Cursor}
 use Rattle.models.proofs.Compiled.Loop.{Less}
-use Rattle.models.proofs.Compiled.LentAgain.{OnLoan, lends-again-at, comes-back-at}
+use Rattle.models.proofs.Compiled.LentAgain.{OnLoan, relends-slice-at, regains-slice-at}
 use Rattle.models.proofs.Compiled.Slices.{slice-at}
 use Rattle.models.proofs.Compiled.StructRows as struct
 use Rattle.models.proofs.Compiled.StepRows as step
@@ -56,13 +56,17 @@ module _ {M : Type 1} (𝓤 : URA M) (H : Heap 𝓤) (A : Atoms 𝓤) (mem : Mem
   abbrev pub Follow : Contract 𝓤
   Follow = tripleOf 𝓤 H A follow.signature (follow.spec 𝓤 H A mem run)
 
--- the lifetimes and the names at which the two slices are lent again
+-- ---- the slices that are lent again
+
+-- their lifetimes and their names
 abbrev pub Loans : Type 0
 Loans = ℕ × ℕ × GName × GName
 
 module _ {M : Type 1} (𝓤 : URA M) (H : Heap 𝓤) (A : Atoms 𝓤) (W : Given 𝓤 H A) (mem : Memory → SProp 𝓤) (run : Routine → Fun 𝓤)
     (κs : Lfts 6) (qs : Shares 6) (a : Args search.signature κs)
     (begun : AtStart (a .1 .1) (steps κs a .now) (from κs a)) (t : State κs a) where
+  -- ---- what an iteration owns
+
   abbrev Owned : State κs a → List (Item 𝓤)
   Owned u = state.Owned 𝓤 H A W mem run κs qs a (u .seen-now) (u .pairs-now)
 
@@ -100,7 +104,7 @@ module _ {M : Type 1} (𝓤 : URA M) (H : Heap 𝓤) (A : Atoms 𝓤) (W : Given
         (shr-slice-copy 𝓤 H A W (named 0) (κs .0) step.R .twice (steps κs a) (slice-vals (steps κs a))) $ split ! $
         move ! (0 ∷ 2 ∷ []) $ use2 W (raw (NthStep 𝓤 H A mem run .pre to-nth-step)) pre-nth-step $ frame ! $ done !
 
-  -- ---- what goes to `follow`
+  -- ---- the two slices on loan
 
   abbrev LentSeen : Loans → Fml
   LentSeen n = MutSlice (named 3) (n .0 ∷ []) u8 .own (slice-at (seen (a .1 .1) .ptr) (n .2) (t .seen-now)) (slice-vals (seen (a .1 .1)))
@@ -116,7 +120,9 @@ module _ {M : Type 1} (𝓤 : URA M) (H : Heap 𝓤) (A : Atoms 𝓤) (W : Given
   PairsOnLoan n = OnLoan u16 (κs .1 .1 .1 .1 .1 .0) (n .1 ∷ []) (qs .1 .1 .1 .1 .1 .0) (pairs (a .1 .1))
       (n .3) (t .pairs-now)
 
-  -- the lifetimes at which it all goes to `follow`, and the shares of their tokens
+  -- ---- what goes to `follow`
+
+  -- the lifetimes, and the shares of their tokens
   abbrev lifetimes : Loans → Lfts 5
   lifetimes n = (κs .1 .0, (κs .1 .1 .0, (κs .1 .1 .1 .0, (n .0 ∷ [], (n .1 ∷ [], tt)))))
 
@@ -156,7 +162,9 @@ module _ {M : Type 1} (𝓤 : URA M) (H : Heap 𝓤) (A : Atoms 𝓤) (W : Given
   Left n = (‵ (flft (κs .0) (qs .0)) ⊛ ‵ ftrue) ∷ ‵ (Steps κs a) ∷ ‵ (Last κs a) ∷ ‵ (Earlier κs a) ∷ ‵ (Table κs a)
       ∷ ‵ (SeenOnLoan n) ∷ ‵ (PairsOnLoan n) ∷ []
 
-  -- both slices are had again, at the lists of any state
+  -- ---- having both slices again
+
+  -- what that takes, at the lists of any state
   abbrev Regained : Loans → State κs a → List (Item 𝓤)
   Regained n t′ =
       Tokens (lifetimes n) tokens ∷ ‵ (finally u16 (n .3) (t′ .pairs-now)) ∷ ‵ (finally u8 (n .2) (t′ .seen-now)) ∷ Left n
@@ -169,18 +177,20 @@ module _ {M : Type 1} (𝓤 : URA M) (H : Heap 𝓤) (A : Atoms 𝓤) (W : Given
         -- [ν′; true; ν; three tokens; pairs' last; seen's last; the token of steps; steps; last; earlier; table; seen on loan; pairs on loan]
         lft-end ! tt $ move ! (0 ∷ 14 ∷ 6 ∷ []) $
         use3 W (later (‵ (PairsSlice κs a (t′ .pairs-now)) ⊛ ‵ (flft (κs .1 .1 .1 .1 .1 .0) (qs .1 .1 .1 .1 .1 .0))))
-        (comes-back-at u16 (κs .1 .1 .1 .1 .1 .0) (n .1 ∷ []) (qs .1 .1 .1 .1 .1 .0) (pairs (a .1 .1)) 𝓤 H A W (named 5) (named 4)
+        (regains-slice-at u16 (κs .1 .1 .1 .1 .1 .0) (n .1 ∷ []) (qs .1 .1 .1 .1 .1 .0) (pairs (a .1 .1)) 𝓤 H A W (named 5) (named 4)
         (t .pairs-now) (length (pairs (a .1 .1) .now)) (state.pairs-now-length κs a begun t) pairs-room (n .3) (t′ .pairs-now)
         (state.pairs-now-length κs a begun t′)) $
         await ! tt $ split ! $
         move ! (3 ∷ []) $ lft-end ! tt $ move ! (0 ∷ 13 ∷ 7 ∷ []) $
         use3 W (later (‵ (SeenSlice κs a (t′ .seen-now)) ⊛ ‵ (flft (κs .1 .1 .1 .1 .0) (qs .1 .1 .1 .1 .0))))
-        (comes-back-at u8 (κs .1 .1 .1 .1 .0) (n .0 ∷ []) (qs .1 .1 .1 .1 .0) (seen (a .1 .1)) 𝓤 H A W
+        (regains-slice-at u8 (κs .1 .1 .1 .1 .0) (n .0 ∷ []) (qs .1 .1 .1 .1 .0) (seen (a .1 .1)) 𝓤 H A W
         (named 4) (named 3) (t .seen-now) (length (seen (a .1 .1) .now)) (state.seen-now-length κs a begun t) seen-room (n .2) (t′ .seen-now)
         (state.seen-now-length κs a begun t′)) $
         await ! tt $ split ! $
         -- [seen; its token; pairs; its token; true; three tokens; the token of steps; steps; last; earlier; table]
         move ! (8 ∷ []) $ split ! $ at-once ! $ keep ! (0 ∷ 9 ∷ 8 ∷ 7 ∷ 3 ∷ 5 ∷ 10 ∷ 11 ∷ 12 ∷ 13 ∷ 2 ∷ 4 ∷ []) $ done !
+
+  -- ---- the call of `follow`
 
   module _ (s : Step) (u : Val) (is : s ≡ getD (steps κs a .now) index noStep) where
     module _ (more : 0 < t .at .step) where
@@ -200,11 +210,11 @@ module _ {M : Type 1} (𝓤 : URA M) (H : Heap 𝓤) (A : Atoms 𝓤) (W : Given
           qed W (‵ (step.R .own s (u ∷ [])) ∷ (‵ (flft (κs .0) (qs .0)) ⊛ ‵ ftrue) ∷ Beside) ∵ updating ! $
           lft-new ! tt (λ ν. lft-new ! tt (λ ν′. move ! (13 ∷ 8 ∷ []) $
           use2 W (later (some (λ (δ : GName). ‵ (LentSeen (ν, ν′, δ, δ)) ⊛ ‵ (SeenOnLoan (ν, ν′, δ, δ)))))
-          (lends-again-at u8 (κs .1 .1 .1 .1 .0) (ν ∷ []) (qs .1 .1 .1 .1 .0) (seen (a .1 .1)) 𝓤 H A W
+          (relends-slice-at u8 (κs .1 .1 .1 .1 .0) (ν ∷ []) (qs .1 .1 .1 .1 .0) (seen (a .1 .1)) 𝓤 H A W
           (named 4) (named 3) (t .seen-now) (length (seen (a .1 .1) .now)) (state.seen-now-length κs a begun t)) $ await ! tt $
           pick ! (λ δ. split ! $ move ! (14 ∷ 10 ∷ []) $
           use2 W (later (some (λ (δ′ : GName). ‵ (LentPairs (ν, ν′, δ, δ′)) ⊛ ‵ (PairsOnLoan (ν, ν′, δ, δ′)))))
-          (lends-again-at u16 (κs .1 .1 .1 .1 .1 .0) (ν′ ∷ []) (qs .1 .1 .1 .1 .1 .0) (pairs (a .1 .1)) 𝓤 H A W (named 5) (named 4)
+          (relends-slice-at u16 (κs .1 .1 .1 .1 .1 .0) (ν′ ∷ []) (qs .1 .1 .1 .1 .1 .0) (pairs (a .1 .1)) 𝓤 H A W (named 5) (named 4)
           (t .pairs-now) (length (pairs (a .1 .1) .now)) (state.pairs-now-length κs a begun t)) $ await ! tt $ pick ! (λ δ′. split ! $
           -- [pairs; on loan; seen; on loan; ν′; ν; the step; the token of steps; steps; three tokens; last; earlier; table]
           move ! (12 ∷ []) $ use1 W (‵ (Last κs a) ⊛ ‵ (Last κs a))
@@ -220,7 +230,7 @@ module _ {M : Type 1} (𝓤 : URA M) (H : Heap 𝓤) (A : Atoms 𝓤) (W : Given
           -- [table; earlier; last; pairs on loan; seen on loan; the token of steps; steps]
           keep ! (5 ∷ 6 ∷ 2 ∷ 1 ∷ 0 ∷ 4 ∷ 3 ∷ []) $ done !))))
 
-    -- ---- what comes back from it
+    -- ---- what comes back from `follow`
 
     -- what `follow` ensures
     abbrev Kept : Cursor → List ℕ → List ℕ → Type 0

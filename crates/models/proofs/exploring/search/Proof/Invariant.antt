@@ -32,7 +32,7 @@ use Rattle.models.specs.declared.exploring.Cursor.{Cursor}
 use Rattle.models.proofs.Compiled.Slices.{slice-at}
 use Rattle.models.proofs.Compiled.StructRows as struct
 use Rattle.models.proofs.Compiled.StepRows as step
-use Rattle.models.proofs.Compiled.Exits.{unsaid}
+use Rattle.models.proofs.Compiled.Exits.{joins-true}
 use Rattle.models.proofs.Compiled.SearchSlices.{AtStart, slice-rows, Tokens, five-dropped, the-cursor}
 use Rattle.models.proofs.Compiled.SearchSlices.{last, earlier, table, seen, pairs, links, slices-vals}
 use Rattle.models.proofs.exploring.search as search
@@ -128,5 +128,6 @@ module _ {M : Type 1} (𝓤 : URA M) (H : Heap 𝓤) (A : Atoms 𝓤) (W : Given
       (tt, (tt, (tt, (tt, (tt, (seen-now-length κs a begun t, (pairs-now-length κs a begun t, tt)))))))) $ says ! (t .invariant .finished none) $
       nothing ! $ move ! (1 ∷ 2 ∷ 3 ∷ 4 ∷ 5 ∷ 6 ∷ 0 ∷ []) $ group ! 7 $ frame ! $
       -- [steps; last; earlier; table; seen; pairs]
-      nothing ! $ move ! (6 ∷ 0 ∷ []) $ fjoin ! $ move ! (5 ∷ 0 ∷ []) $ fjoin ! $ unsaid ! $ unsaid ! $ unsaid ! $ unsaid ! $ unsaid ! $ frame ! $
+      nothing ! $ move ! (6 ∷ 0 ∷ []) $ fjoin ! $ move ! (5 ∷ 0 ∷ []) $ fjoin ! $
+      joins-true ! $ joins-true ! $ joins-true ! $ joins-true ! $ joins-true ! $ frame ! $
       keep ! [] $ owned ! bool (Is bool) (bool-makes 𝓤 H A W) (t .at .dropped) _ refl $ done !

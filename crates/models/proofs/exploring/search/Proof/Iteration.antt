@@ -68,13 +68,13 @@ unique i τ = sliceTy (tyRef (named i) mut τ)
 abbrev relent : Ty → Ty
 relent τ = sliceTy (tyRef erased mut τ)
 
+-- ---- the locals where an iteration begins
+
 module _ {M : Type 1} (𝓤 : URA M) (H : Heap 𝓤) (A : Atoms 𝓤) (W : Given 𝓤 H A) (mem : Memory → SProp 𝓤) (run : Routine → Fun 𝓤)
     (κs : Lfts 6) (qs : Shares 6) (a : Args search.signature κs)
     (begun : AtStart (a .1 .1) (steps κs a .now) (state.from κs a))
     (seen-room : Room u8 (length (seen (a .1 .1) .now))) (pairs-room : Room u16 (length (pairs (a .1 .1) .now)))
     (l₀ l₁ l₂ l₃ l₄ l₅ l₆ l₇ l₈ l₉ l₁₀ l₁₁ l₁₂ l₁₃ l₁₄ l₁₅ : ℕ) where
-  -- ---- the locals where an iteration begins
-
   abbrev pub En : Env 𝓤 H
   En = (tyBool, l₀) ∷ (shared 0 step.behindTy, l₁) ∷ (cursorTy, l₂) ∷ (shared 1 (tyInt w16), l₃) ∷ (shared 2 (tyInt w16), l₄)
       ∷ (shared 3 (tyInt w8), l₅) ∷ (unique 4 (tyInt w8), l₆) ∷ (unique 5 (tyInt w16), l₇) ∷ (cursorTy, l₈) ∷ (tyBool, l₉)
@@ -102,9 +102,8 @@ module _ {M : Type 1} (𝓤 : URA M) (H : Heap 𝓤) (A : Atoms 𝓤) (W : Given
       ∷ ‵ (fat fullShare (shared 0 step.behindTy) l₁ 0 (val (steps κs a))) ∷ ‵ (fdies (shared 0 step.behindTy) l₁)
       ∷ ‵ (froom tyBool l₀ 0) ∷ ‵ (fdies tyBool l₀) ∷ []
 
-  -- ---- one iteration
+  -- ---- what goes to the two callees in an iteration from t
 
-  -- what goes to the two callees in an iteration from t
   abbrev index : State κs a → ℕ
   index t = calling.index 𝓤 H A W mem run κs qs a begun t
 
@@ -116,6 +115,8 @@ module _ {M : Type 1} (𝓤 : URA M) (H : Heap 𝓤) (A : Atoms 𝓤) (W : Given
 
   abbrev Post : Val → SProp 𝓤
   Post = state.Post 𝓤 H A W mem run κs qs a
+
+  -- ---- one iteration
 
   module _ (𝓣 : Tables 𝓤 H) (known-nth-step : Triple 𝓤 (𝓣 .C #nth-step) (NthStep 𝓤 H A mem run))
       (known-follow : Triple 𝓤 (𝓣 .C #follow) (Follow 𝓤 H A mem run)) where
@@ -173,6 +174,7 @@ module _ {M : Type 1} (𝓤 : URA M) (H : Heap 𝓤) (A : Atoms 𝓤) (W : Given
         frees-room ! 1 1 refl refl $
         free0 ! $ by ! (state.owned-post 𝓤 H A W mem run κs qs a begun t (no-step-left t none-left)))
 
-    -- the loop, and what comes after it
-    pub loop-and-rest : (t : State κs a) → Sq W (Inv t) (runs (𝓣 .C) (𝓣 .Λ) En mir-of.t-2 (atRet En Post))
-    loop-and-rest t = loops-down ! 𝓣 (left κs a) Inv {b = mir-of.turn-1} {rest = mir-of.t-3} {P = Post} iteration t
+    -- ---- the loop, and what comes after it
+
+    pub loop-returns : (t : State κs a) → Sq W (Inv t) (runs (𝓣 .C) (𝓣 .Λ) En mir-of.t-2 (atRet En Post))
+    loop-returns t = loops-down ! 𝓣 (left κs a) Inv {b = mir-of.turn-1} {rest = mir-of.t-3} {P = Post} iteration t

@@ -40,7 +40,7 @@ use denote.Triple.Statement.{Contract}
 use denote.Triple.Walked.{says, Stays, gave-slice, walkOf, ends-at}
 use Rattle.models.specs.Searching.{Searched}
 use Rattle.models.specs.declared.Step.{Step}
-use Rattle.models.proofs.Compiled.Exits.{unsaid}
+use Rattle.models.proofs.Compiled.Exits.{joins-true}
 use Rattle.models.proofs.Compiled.Slices.{slice-at}
 use Rattle.models.proofs.Compiled.StructRows as struct
 use Rattle.models.proofs.Compiled.StepRows as step
@@ -68,6 +68,8 @@ module _ (κs : Lfts 5) (a : Args search-array.signature κs) where
   abbrev slice-val : (b : ℕ) → Val
   slice-val b = sliceVal (b, 0) (length list)
 
+-- ---- the contracts
+
 -- the lifetime and the name at which it is lent
 abbrev pub Loan : Type 0
 Loan = ℕ × GName
@@ -82,7 +84,7 @@ module _ {M : Type 1} (𝓤 : URA M) (H : Heap 𝓤) (A : Atoms 𝓤) (W : Given
   abbrev pub Post : Val → SProp 𝓤
   Post = walkOf 𝓤 H A search-array.ended stayed (search-array.clauses 𝓤 H A mem run) .post ((κs, qs, tt, a, vals κs a), tt)
 
-  -- ---- lending the array
+  -- ---- the array in its cell, and as a slice
 
   -- what the parameters after the array own
   abbrev Others : Fml
@@ -101,6 +103,8 @@ module _ {M : Type 1} (𝓤 : URA M) (H : Heap 𝓤) (A : Atoms 𝓤) (W : Given
   abbrev pub to-search : (b : ℕ) → Loan → Search 𝓤 H A mem run .Ghost
   to-search b n = (((n .0 ∷ [], κs), (fullShare, qs), tt, (slice κs a b (n .1), a .1), (slice-val κs a b ∷ [], vals κs a .1)), tt)
 
+  -- ---- lending the array
+
   module _ (begun : AtStart (a .1 .1) (list κs a) (a .1 .0))
       (long : length (list κs a) ≡ 512) where
     pre-search : (b : ℕ) (n : Loan) → ent 𝓤 (⋆ 𝓤 H A (‵ (flft (n .0 ∷ []) fullShare) ∷ Tokens κs qs ∷ ‵ (Slice b n) ∷ ‵ Others ∷ []))
@@ -113,7 +117,7 @@ module _ {M : Type 1} (𝓤 : URA M) (H : Heap 𝓤) (A : Atoms 𝓤) (W : Given
     lends-to-search b =
         qed W ((Tokens κs qs ⊛ ‵ (owns (typesAt (search-array.signature .params) κs) a (vals κs a))) ∷ ‵ (Cell b) ∷ []) ∵ updating ! $ split ! $
         move ! (1 ∷ []) $ fsplit ! $
-        move ! (3 ∷ 0 ∷ []) $ use2 W (‵ (arr-parts (shares step.R) 512 .part fullShare (list κs a) b 0)) (step.lies 𝓤 H A W (list κs a) b) $
+        move ! (3 ∷ 0 ∷ []) $ use2 W (‵ (arr-parts (shares step.R) 512 .part fullShare (list κs a) b 0)) (step.cell-to-records 𝓤 H A W (list κs a) b) $
         rewrite ! 0 (λ (m : ℕ). ‵ (arr-parts (shares step.R) m .part fullShare (list κs a) b 0)) (sym (long)) refl $
         lft-new ! tt (λ α. move ! (1 ∷ []) $
         use1 W (later (some (λ (γ : GName). ‵ (Slice b (α, γ)) ⊛ ‵ (Claim b (α, γ)))))
@@ -124,7 +128,7 @@ module _ {M : Type 1} (𝓤 : URA M) (H : Heap 𝓤) (A : Atoms 𝓤) (W : Given
         -- [the slice; the claim; α; the others; the tokens]
         move ! (2 ∷ 4 ∷ 0 ∷ 3 ∷ []) $ group ! 4 $ use1 W (raw (Search 𝓤 H A mem run .pre (to-search b (α, γ)))) (pre-search b (α, γ)) $ frame ! $ done !))
 
-  -- ---- having it back
+  -- ---- the exit of `search_array`
 
   exits : (z : Bool) (w : Val) (ms ps : List ℕ) → Searched (list κs a) (links (a .1 .1)) (table (a .1 .1) .now) z
       → length ms ≡ length (seen (a .1 .1) .now)
@@ -136,8 +140,10 @@ module _ {M : Type 1} (𝓤 : URA M) (H : Heap 𝓤) (A : Atoms 𝓤) (W : Given
       qed W (Tokens κs qs ∷ ‵ (finally u8 (seen (a .1 .1) .name) ms) ∷ ‵ (finally u16 (pairs (a .1 .1) .name) ps) ∷ ‵ (bool .own z (w ∷ [])) ∷ []) ∵
       suffices ! _ (ends-at 𝓤 H A search-array.ended stayed (search-array.clauses 𝓤 H A mem run) W ((κs, qs, tt, a, vals κs a), tt) w z
       (tt, (tt, (tt, (tt, (tt, (ms, (ps, tt))))))) (tt, (tt, (tt, (tt, (tt, (ms-length, (ps-length, tt)))))))) $ says ! e $ frame ! $
-      nothing ! $ move ! (2 ∷ 0 ∷ []) $ fjoin ! $ move ! (1 ∷ 0 ∷ []) $ fjoin ! $ unsaid ! $ unsaid ! $ unsaid ! $ unsaid ! $ unsaid ! $ frame ! $
-      done !
+      nothing ! $ move ! (2 ∷ 0 ∷ []) $ fjoin ! $ move ! (1 ∷ 0 ∷ []) $ fjoin ! $
+      joins-true ! $ joins-true ! $ joins-true ! $ joins-true ! $ joins-true ! $ frame ! $ done !
+
+  -- ---- having the array back
 
   -- the last values of what `search` was given
   abbrev Ends : (b : ℕ) → Loan → Type 0
@@ -162,7 +168,7 @@ module _ {M : Type 1} (𝓤 : URA M) (H : Heap 𝓤) (A : Atoms 𝓤) (W : Given
       -- [pairs' last; true; seen's last; the tokens and the result; the claim]
       move ! (3 ∷ []) $ split ! $ split ! $ lft-end ! tt $ move ! (0 ∷ 6 ∷ []) $ lent-back ! tt $
       rewrite ! 0 (λ (m : ℕ). ‵ (arr-parts (shares step.R) m .part fullShare (list κs a) b 0)) (long) refl $
-      use1 W (‵ (Cell b)) (step.back 𝓤 H A W (list κs a) b) $ at-once ! $
+      use1 W (‵ (Cell b)) (step.records-to-cell 𝓤 H A W (list κs a) b) $ at-once ! $
       -- [the array; the tokens; the result; pairs' last; true; seen's last]
       move ! (2 ∷ []) $ peeks ! bool (Is bool) (shows 𝓤 H A bool) z (w ∷ []) (λ is. check ! (bool-lawful 𝓤 H A W .typed z _ is .0) $
       move ! (1 ∷ []) $ frame ! $ keep ! (1 ∷ 4 ∷ 2 ∷ 0 ∷ []) $

@@ -1,4 +1,5 @@
--- `read_steps` as `read_array` calls it: what it asks, and what it gives back.
+-- `read_steps` as `read_array` calls it: what it asks, and what it gives back. What it asks is put together of the tokens and the arguments, and the file's
+-- slice is copied for it; what it gives back is taken apart into the result, the tokens and the last records.
 use mathlib.Core.Path.{_≡_, refl}
 use Prim.Native.Nat.{ℕ, _<_, _^_}
 use mathlib.Core.List.{List, [], _∷_}
@@ -38,11 +39,13 @@ use Rattle.models.proofs.Compiled.NextRow.{the-next, N, IsNext}
 use Rattle.models.proofs.Compiled.ReaderSlices.{file-val, File, Records}
 use Rattle.models.proofs.loading.read_steps as read-steps
 
+-- ---- the contract of `read_steps`
+
 module _ {M : Type 1} (𝓤 : URA M) (H : Heap 𝓤) (A : Atoms 𝓤) (mem : Memory → SProp 𝓤) (run : Routine → Fun 𝓤) where
   abbrev pub ReadSteps : Contract 𝓤
   ReadSteps = tripleOf 𝓤 H A read-steps.signature (read-steps.spec 𝓤 H A mem run)
 
--- ---- the call of `read_steps`
+-- ---- what it asks
 
 module _ (κ ν : Lft) (b o : ℕ) (γ : GName) (f : List ℕ) (states : ℕ) (b′ : ℕ) (δ : GName) (xs : List Step) where
   -- the arguments
@@ -79,6 +82,8 @@ module _ (κ ν : Lft) (b o : ℕ) (γ : GName) (f : List ℕ) (states : ℕ) (b
             split ! $ nothing ! $ move ! (2 ∷ 0 ∷ []) $ join ! $ move ! (1 ∷ 0 ∷ []) $ join ! $ frame ! $
             nothing ! $ move ! (2 ∷ 0 ∷ []) $ fjoin ! $ owned ! usize (Is usize) (uint-makes 𝓤 H A W w64) states _ (refl, states-fits) $ fjoin ! $
             move ! (1 ∷ 0 ∷ []) $ fjoin ! $ done !
+
+    -- ---- what it gives back
 
     abbrev Given-back : Val → Next × List Step → SProp 𝓤
     Given-back w p = guard 𝓤 (Returned w p) (sep 𝓤 (A .lft κ q) (sep 𝓤 (A .lft ν fullShare) (sem 𝓤 H A (finally R δ (p .1)))))

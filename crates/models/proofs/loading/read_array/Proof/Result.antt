@@ -1,4 +1,5 @@
--- The result of `read_array`: the machine value of a `Loaded` that is made of what was read, and that its row relates the two.
+-- The result of `read_array`: the machine value of a `Loaded` that is made of what was read, and that its row relates the two. This is shown field by field,
+-- and for the array record by record.
 use mathlib.Core.Path.{refl, _∙_}
 use mathlib.Core.List.{List, [], _∷_, map}
 use lib.ListN.{length-map}

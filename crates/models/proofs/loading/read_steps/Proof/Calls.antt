@@ -1,4 +1,5 @@
--- The two functions that `read_steps` calls: what each asks of its caller, and what it gives back.
+-- The two functions that `read_steps` calls: what each asks of its caller, and what it gives back. What it asks is put together of the token and the arguments,
+-- and the file's slice is copied for it; what it gives back is taken apart into the result, the token and what is said of them.
 use mathlib.Core.Path.{_≡_, refl, ap}
 use Prim.Native.Nat.{ℕ, _<_, _^_}
 use mathlib.Core.List.{List, [], _∷_}
@@ -38,6 +39,8 @@ use Rattle.models.proofs.Compiled.ReaderSlices.{file-val, File}
 use Rattle.models.proofs.loading.next_step as next-step
 use Rattle.models.proofs.steps.put_step as put-step
 
+-- ---- the contracts
+
 module _ {M : Type 1} (𝓤 : URA M) (H : Heap 𝓤) (A : Atoms 𝓤) (mem : Memory → SProp 𝓤) (run : Routine → Fun 𝓤) where
   abbrev pub NextStep : Contract 𝓤
   NextStep = tripleOf 𝓤 H A next-step.signature (next-step.spec 𝓤 H A mem run)
@@ -45,7 +48,8 @@ module _ {M : Type 1} (𝓤 : URA M) (H : Heap 𝓤) (A : Atoms 𝓤) (mem : Mem
   abbrev pub PutStep : Contract 𝓤
   PutStep = tripleOf 𝓤 H A put-step.signature (put-step.spec 𝓤 H A mem run)
 
--- ---- next_step
+-- ---- the call of `next_step`
+
 module _ (κ : Lft) (b o : ℕ) (γ : GName) (f : List ℕ) (states n at : ℕ) where
   -- the arguments
   abbrev a : RefT (List ℕ) × (ℕ × (ℕ × (ℕ × Unit {0})))
@@ -91,7 +95,8 @@ module _ (κ : Lft) (b o : ℕ) (γ : GName) (f : List ℕ) (states n at : ℕ) 
         at-once ! $ show ! (λ (r : Next). guard 𝓤 (Answered r w) (A .lft κ q)) r $ check ! (next .0, next .1, says-so) $
         split ! $ keep ! (0 ∷ []) $ done !))))
 
--- ---- put_step
+-- ---- the call of `put_step`
+
 module _ (ν : Lft) (b o : ℕ) (δ : GName) (count : ℕ) (ys : List Step) (i : ℕ) (s : Step) where
   abbrev steps : RefT (List Step)
   steps = slice-at (b, o) δ ys

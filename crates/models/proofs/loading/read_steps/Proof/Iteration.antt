@@ -35,7 +35,7 @@ use Rattle.models.proofs.Compiled.StructRows.{low, typed}
 use Rattle.models.proofs.Compiled.StepRows.{R, behindTy}
 use Rattle.models.proofs.Compiled.NextRow.{the-next, nextTy, IsNext, step-is, n-fits, at-fits}
 use Rattle.models.proofs.Compiled.ReaderSlices.{file-val, File, Records}
-use Rattle.models.proofs.Compiled.LentAgain.{OnLoan, lends-again-at, comes-back-at}
+use Rattle.models.proofs.Compiled.LentAgain.{OnLoan, relends-slice-at, regains-slice-at}
 use Rattle.models.proofs.Compiled.Loop.{tests, Less, AfterLoop}
 use Rattle.models.proofs.Compiled.Landing.{init-as, store-as}
 use Rattle.reading.proofs.RecordLists.RecordsRead.{begun-length}
@@ -63,7 +63,7 @@ module _ (f : List ℕ) (states count : ℕ) where
   abbrev pub left : State → ℕ
   left t = 512 - t .next .n
 
--- ---- the locals, and one turn
+-- ---- the locals, and one iteration
 
 abbrev fileTy : Ty
 fileTy = sliceTy (tyRef (named 0) imm (tyInt w8))
@@ -129,7 +129,7 @@ module _ {M : Type 1} (𝓤 : URA M) (H : Heap 𝓤) (A : Atoms 𝓤) (W : Given
           lft-new ! tt (λ α. move ! (5 ∷ 4 ∷ []) $
           use2 W (later (some (λ (δ : GName). ‵ (MutSlice (named 0) (α ∷ []) R .own (slice-at (b′, o′) δ ys) (sliceVal (b′, o′) count ∷ []))
           ⊛ ‵ (OnLoan R κ′ (α ∷ []) q′ (slice-at (b′, o′) γ′ ys) δ ys))))
-          (lends-again-at R κ′ (α ∷ []) q′ (slice-at (b′, o′) γ′ ys) 𝓤 H A W (named 1) (named 0) ys count (t .long)) $
+          (relends-slice-at R κ′ (α ∷ []) q′ (slice-at (b′, o′) γ′ ys) 𝓤 H A W (named 1) (named 0) ys count (t .long)) $
           await ! tt $ pick ! (λ δ. split ! $ move ! (2 ∷ 0 ∷ []) $
           use2 W (raw (PutStep 𝓤 H A mem run .pre (put α δ t)))
           (asks-put (α ∷ []) b′ o′ δ count ys (x .n) (x .step) 𝓤 H A W mem run (n-fits x (t .is)) (step-is x (t .is)) inside) $
@@ -142,7 +142,7 @@ module _ {M : Type 1} (𝓤 : URA M) (H : Heap 𝓤) (A : Atoms 𝓤) (W : Given
           land ! (from ! (stop !)) (init-as ! 7 refl e (tt, tt)) $
           lft-end ! tt $ move ! (0 ∷ 2 ∷ 1 ∷ []) $
           use3 W (later (‵ (Records κ′ b′ o′ γ′ count zs) ⊛ ‵ (flft κ′ q′)))
-          (comes-back-at R κ′ (α ∷ []) q′ (slice-at (b′, o′) γ′ ys) 𝓤 H A W (named 1) (named 0) ys count (t .long) room δ zs (same ∙ t .long)) $
+          (regains-slice-at R κ′ (α ∷ []) q′ (slice-at (b′, o′) γ′ ys) 𝓤 H A W (named 1) (named 0) ys count (t .long) room δ zs (same ∙ t .long)) $
           await ! tt $ split ! $
           -- [the slice; its token; next; the token of the file; the file; _5; …]
           sets-local ! (bin ! (reads-field ! 2 3 {d = 32} refl refl refl) (lit ! tt) (record { fits = one-fits })) 9 refl
