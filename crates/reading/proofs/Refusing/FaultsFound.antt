@@ -25,7 +25,8 @@ use Rattle.reading.proofs.Refusing.Contexts.{guards, parts, done}
 use Rattle.reading.proofs.Refusing.LeftToRight.{dueAt, due-over, headAt}
 use Rattle.reading.proofs.Refusing.ReadTo.{ReadTo, Stands, read-front, read-rule, read-unfinished, next-node, next-pattern, pattern-well-formed}
 use Rattle.reading.proofs.Refusing.ReadTo.{node-allowed, node-bound, bound-begins}
-use Rattle.reading.proofs.Refusing.StandingRecords.{necessity-record-stands, variable-record-stands, pattern-record-stands, patternStands-record, nodeStands-record}
+use Rattle.reading.proofs.Refusing.StandingRecords.{necessity-record-stands, variable-record-stands, pattern-record-stands}
+use Rattle.reading.proofs.Refusing.StandingRecords.{patternStands-record, nodeStands-record}
 
 -- ---- a node
 

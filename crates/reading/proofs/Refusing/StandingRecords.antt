@@ -33,7 +33,8 @@ module _ (s : List ℕ) (at : ℕ) where
   pub patternStands-record : {p : Pattern} → Byte s at patternKind → PatternStands s at p → Stands s at (at + 4) (pattern p)
   patternStands-record {p} b h = pattern-record-stands p b (h .mask) (h .first) (h .last)
 
-  pub nodeStands-record : {n : ℕ} {g : Guards} {r : NodeRecord} → NodeStands s n at g r → Stands s at (r .next) (node (r .symbol)) × Allows guards n g (r .symbol)
+  pub nodeStands-record : {n : ℕ} {g : Guards} {r : NodeRecord} → NodeStands s n at g r
+      → Stands s at (r .next) (node (r .symbol)) × Allows guards n g (r .symbol)
   nodeStands-record (bare bare-truth b) = (record { bytes = from-byte (at + 1) b refl; ends = refl; inside = omega (arith, b .inside) }, tt)
   nodeStands-record (bare bare-falsity b) = (record { bytes = from-byte (at + 1) b refl; ends = refl; inside = omega (arith, b .inside) }, tt)
   nodeStands-record (bare bare-both b) = (record { bytes = from-byte (at + 1) b refl; ends = refl; inside = omega (arith, b .inside) }, tt)

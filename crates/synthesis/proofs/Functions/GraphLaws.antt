@@ -25,6 +25,8 @@ use Rattle.synthesis.proofs.Functions.NodeArrays.{node-below, kind-at, 
 pub some-node : {n : NumberedRule} {k : ℕ} → SomeNumbered n k → SomeNode (n .kinds) (n .args) k
 some-node s = record { rule = s .rule; is-rule = s .is-numbered .is-rule; below = s .below }
 
+-- ---- the first equation and the ff nodes
+
 module _ {r : Rule} {kinds args : List ℕ} (ir : RuleArrays r kinds args) where
   pub first-opened : {e : ℕ} (n : ℕ) → IsOpening kinds args (replicate n 0) 0 e → e ≡ firstOf r
   unfolding firstOf

@@ -116,8 +116,8 @@ module _ {kinds args opened : List ℕ} {k : ℕ} where
       on : OpensByKind kinds args opened k necessityKind (shiftedOne k)
       on r ir z ms (necessity p f) n x is (is-necessity n₁) = shl-one k h
 
-  pub opening-truth : (getD kinds k 0 ≡ falsityKind → ⊥) → (getD kinds k 0 ≡ bothKind → ⊥) → (getD kinds k 0 ≡ necessityKind → ⊥) → (getD kinds k 0 ≡ maxKind → ⊥)
-      → (getD kinds k 0 ≡ variableKind → ⊥) → IsOpening kinds args opened k 0
+  pub opening-truth : (getD kinds k 0 ≡ falsityKind → ⊥) → (getD kinds k 0 ≡ bothKind → ⊥) → (getD kinds k 0 ≡ necessityKind → ⊥)
+      → (getD kinds k 0 ≡ maxKind → ⊥) → (getD kinds k 0 ≡ variableKind → ⊥) → IsOpening kinds args opened k 0
   opening-truth a b c d e = record { is = λ r ir z ms f n. on (listedAround opened ms) f (kind-at ir n) }
     where
       on : (xs : List ℕ) (f : Formula) → getD kinds k 0 ≡ kind f → 0 ≡ opening k xs f
