@@ -42,7 +42,7 @@ refused-plan-leaves s table p is e h =
 
 -- ---- a plan with a count
 
--- what it has
+-- what such a plan has
 pub record CountedPlan (o : Outcome Synthesis) (p : Plan) (n : ℕ) : Type 0 where
   pub synthesis : Synthesis
   pub is : o ≡ accepted synthesis
