@@ -11,7 +11,7 @@ use native.Mathlib.Omega.{arith}
 use lib.Dec.{eqb, ltb}
 use lib.ListN.{length, getD}
 use borrow.Author.Tests.{eqb-false, ltb-false}
-use Rattle.reading.proofs.Basics.Outcomes.{neither}
+use Rattle.reading.proofs.Basics.Outcomes.{or-eq-false}
 use Rattle.synthesis.specs.Table.{InRange, WellFormedTable}
 use Rattle.synthesis.proofs.Tables.WellFormedTables.{well-formed-room, well-formed-entry, well-formed-by-bytes}
 use Rattle.running.specs.Running.{inRange}
@@ -46,7 +46,7 @@ module _ (table : List ℕ) (count : ℕ) (s : State) (bad : Fits table count s 
 
   entry-unfit : 256 * count ≤ length table → (i : ℕ) → i < 256 * count → entryTest i ≡ false → Unfit table count s
   entry-unfit room i h e =
-      let (other, over) = neither (eqb (getD table i 0) 255) (ltb (getD table i 0) count) e in
+      let (other, over) = or-eq-false (eqb (getD table i 0) 255) (ltb (getD table i 0) count) e in
       let is : 256 * (i / 256) + i % 256 ≡ i = div-add-mod i 256 in
       let code : i % 256 < 256 = mod-lt i (omega arith) in
       bad-entry (i / 256) (i % 256) (omega arith) code room (rw is (ltb-false _ _ over)) (rw is (eqb-false _ _ other))

@@ -4,8 +4,8 @@ pub mod Records
 pub mod Beginnings
 pub mod LeftToRight
 pub mod ReadTo
-pub mod RecordsHere
+pub mod StandingRecords
 pub mod FaultsFound
-pub mod GoingOn
+pub mod ReachedPlaces
 pub mod OneFault
 pub mod FaultsRefused

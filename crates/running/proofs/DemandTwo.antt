@@ -46,7 +46,7 @@ module _ {E : Type 0} (r : Rule) (answer : E → ℕ → Answer E) (first : E) (
 answer-in-monitors : (r : Rule) (mark : ℕ) (table : List ℕ) → Monitors r (lookup 256 mark table) 0 → Monitors r (answerIn mark table) start
 answer-in-monitors r mark table =
     renamed-monitors r (λ e. Unit) (lookup 256 mark table) (answerIn mark table) (moved start)
-    (record { stays = λ e e′ c ok b q. tt; drops = λ e c ok b q. rw q; follows = λ e e′ c ok b q. rw q }) 0 tt
+    (record { invariant = λ e e′ c ok b q. tt; drops = λ e c ok b q. rw q; follows = λ e e′ c ok b q. rw q }) 0 tt
 
 sifted : (r : Rule) (mark : ℕ) (table : List ℕ) (count : ℕ) (h : History)
     → Monitors r (answerIn mark table) start → OneRun mark table count h → Sifted r h

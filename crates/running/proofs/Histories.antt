@@ -84,7 +84,7 @@ module _ (limit mark count : ℕ) (table : List ℕ) (wf : WellFormedTable limit
   same-rows-rename : (t : List ℕ) → take (256 * count) t ≡ take (256 * count) table
       → Renames 256 (λ s. s .equation < count) (answerIn mark table) (answerIn mark t) (λ s. s)
   same-rows-rename t same = record {
-    stays = λ s s′ c inside b q. next-inside limit mark count table wf s s′ c inside q;
+    invariant = λ s s′ c inside b q. next-inside limit mark count table wf s s′ c inside q;
     drops = λ s c inside b q. same-answer-in wf t same s c inside ∙ q;
     follows = λ s s′ c inside b q. same-answer-in wf t same s c inside ∙ q;
   }

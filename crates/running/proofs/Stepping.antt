@@ -97,8 +97,8 @@ module _ (mark : ℕ) (table : List ℕ) (s : State) (output₀ buffer₀ : List
           let grown : take (i + 1) scans ≡ take i scans ++ (getD scans i 0 ∷ []) = rw (add-one, take-suc scans i 0) in
           record {
             inside = omega arith;
-            few = rw ek (few-more (eqb entry mark));
-            small = rw ef (small-more (eqb entry mark));
+            few = rw ek (keeps-bound (eqb entry mark));
+            small = rw ef (from-bound (eqb entry mark));
             output-length = simp length-set (h .output-length);
             buffer-length = simp length-set (h .buffer-length);
             has = rw (grown, ex, ev, ef, ek)
@@ -106,13 +106,13 @@ module _ (mark : ℕ) (table : List ℕ) (s : State) (output₀ buffer₀ : List
                 (eqb entry mark) refl);
           }
         where
-          few-more : (b : Bool) → keeps + cond b 0 1 ≤ i + 1
-          few-more true = omega arith
-          few-more false = omega arith
+          keeps-bound : (b : Bool) → keeps + cond b 0 1 ≤ i + 1
+          keeps-bound true = omega arith
+          keeps-bound false = omega arith
 
-          small-more : (b : Bool) → cond b from (256 * entry) < 65536
-          small-more true = omega arith
-          small-more false = omega arith
+          from-bound : (b : Bool) → cond b from (256 * entry) < 65536
+          from-bound true = omega arith
+          from-bound false = omega arith
 
 -- ---- where the loop begins and ends
 

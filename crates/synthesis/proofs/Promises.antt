@@ -5,7 +5,8 @@ use Rattle.synthesis.proofs.Unfolding.OpeningLaws.{opens-as-defined}
 use Rattle.synthesis.proofs.Unfolding.AnsweringLaws.{answers-as-defined}
 use Rattle.synthesis.proofs.Unfolding.EquationLaws.{tracks-violation}
 use Rattle.synthesis.proofs.Tables.Equations.{answers-count, checks-table, refuses-too-many, reaches-equations}
-use Rattle.synthesis.proofs.Tables.Built.{refused-unchanged, builds-accepted, table-monitors, table-drops, refuses-violated-by-empty, built-well-formed, entries-answer, table-rest}
+use Rattle.synthesis.proofs.Tables.Built.{refused-unchanged, builds-accepted, table-monitors, table-drops, refuses-violated-by-empty}
+use Rattle.synthesis.proofs.Tables.Built.{built-well-formed, entries-answer, table-rest}
 use Rattle.synthesis.proofs.Monitors.MonitorLaws.{monitors-drop}
 use Rattle.synthesis.proofs.Unfolding.NodeSetLaws.{same-members-same-set}
 use Rattle.synthesis.proofs.Numberings.FindingOrder.{numbered-as-found}

@@ -9,7 +9,7 @@ use reading::kinds::VARIABLE;
 ghost use mathlib.Core.Path.{_≡_};
 ghost use Prim.Native.Nat.{ℕ, _+_, _≤_, _<_};
 ghost use lib.ListN.{length, replicate};
-ghost use Rattle.reading.specs.Rule.{size, Rule};
+ghost use Rattle.reading.specs.Rule.{size, Rule, falsityKind};
 ghost use Rattle.synthesis.specs.Arrays.{RuleArrays, SomeNode, IsOpening, Linked, AfterAll, withNode, HasKind, AddedToCodes};
 ghost use Rattle.synthesis.specs.Arrays.{IsNumbered, SomeNumbered, EnabledBelow, Enabled, IsGraph};
 
@@ -104,7 +104,7 @@ fn with_node(set: u64, k: usize, holds: bool) -> u64
 // The ff nodes among the first n.
 fn falsities(kinds: &[u8], n: usize) -> u64
     requires { ⌜ (n ≤ 64) × (length (now kinds) ≡ 64) ⌝ }
-    ensures { λ r. ⌜ HasKind 3 (now (kinds .entry)) n r ⌝ }
+    ensures { λ r. ⌜ HasKind falsityKind (now (kinds .entry)) n r ⌝ }
 {
     let mut set = 0;
     let mut k = 0;

@@ -10,12 +10,12 @@ pub states-cases : Distinct StatesRead.Read StatesRead.Refused
 states-cases = record {
   value-same = λ n n′ e. cc;
   refusal-same = λ number place number′ place′ e. (cc, cc);
-  apart = λ n number place e. let z : _≡_ {A = ℕ} 0 1 = cc in omega arith;
+  disjoint = λ n number place e. let z : _≡_ {A = ℕ} 0 1 = cc in omega arith;
 }
 
 pub step-cases : Distinct StepRead.Read StepRead.Refused
 step-cases = record {
   value-same = λ x x′ e. cc;
   refusal-same = λ number place number′ place′ e. (cc, cc);
-  apart = λ x number place e. let z : _≡_ {A = ℕ} 0 1 = cc in omega arith;
+  disjoint = λ x number place e. let z : _≡_ {A = ℕ} 0 1 = cc in omega arith;
 }

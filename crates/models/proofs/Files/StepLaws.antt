@@ -7,7 +7,7 @@ use native.Mathlib.Omega.{arith}
 use lib.Dec.{eqb, leb}
 use borrow.Author.Tests.{leb-false, eqb-true, eqb-false}
 use Rattle.reading.specs.File.{accepted}
-use Rattle.reading.proofs.Basics.Outcomes.{accepted-is, refuse-accepted, neither}
+use Rattle.reading.proofs.Basics.Outcomes.{accepted-is, refuse-accepted, or-eq-false}
 use Rattle.models.specs.Phone.{codeStepKind, silentStepKind, isStep, among, recordLength}
 use Rattle.models.specs.Faults.{IsStep, NoStep}
 use Rattle.models.specs.declared.Step.{Step}
@@ -21,8 +21,8 @@ tested-step k = on (eqb k codeStepKind) refl
     on false is e = inr (eqb-true k silentStepKind e)
 
 pub tested-no-step : (k : ℕ) → isStep k ≡ false → NoStep k
-tested-no-step k e (inl code) = eqb-false k codeStepKind (neither (eqb k codeStepKind) (eqb k silentStepKind) e .0) code
-tested-no-step k e (inr silent) = eqb-false k silentStepKind (neither (eqb k codeStepKind) (eqb k silentStepKind) e .1) silent
+tested-no-step k e (inl code) = eqb-false k codeStepKind (or-eq-false (eqb k codeStepKind) (eqb k silentStepKind) e .0) code
+tested-no-step k e (inr silent) = eqb-false k silentStepKind (or-eq-false (eqb k codeStepKind) (eqb k silentStepKind) e .1) silent
 
 pub step-tested : (k : ℕ) → IsStep k → isStep k ≡ true
 step-tested k (inl code) = rw code

@@ -14,7 +14,7 @@ use Rattle.reading.specs.Rule.{patternKind, truthKind, falsityKind, both
 use Rattle.reading.specs.File.{Outcome, accepted, NodeRecord, necessityAt, variableAt, bareAt, nodeAt}
 use Rattle.reading.specs.Representations.{nodeRead}
 use Rattle.reading.specs.declared.formulas.NodeRead.the-variants as NodeRead
-use Rattle.reading.proofs.Basics.Outcomes.{accepted-is, refuse-accepted, neither}
+use Rattle.reading.proofs.Basics.Outcomes.{accepted-is, refuse-accepted, or-eq-false}
 use Rattle.reading.proofs.Basics.Places.{Byte}
 use Rattle.reading.proofs.Accepting.Checks.{necessity-accepted, variable-accepted}
 
@@ -131,7 +131,7 @@ module _ (s : List ℕ) (n at left : ℕ) (g : Guards) where
         let known = refuse-accepted (eqb (getD s at 0) 0 || ltb variableKind (getD s at 0)) 2 at _ (begun .1) in
         let node = refuse-accepted (eqb (getD s at 0) patternKind) 3 at _ (known .1) in
         let few = refuse-accepted (eqb left 0) 4 at _ (node .1) in
-        let range = neither (eqb (getD s at 0) 0) (ltb variableKind (getD s at 0)) (known .0) in
+        let range = or-eq-false (eqb (getD s at 0) 0) (ltb variableKind (getD s at 0)) (known .0) in
         let here : Byte s at (getD s at 0) = record { inside = leb-false _ _ (begun .0); is = refl } in (
           omega (arith, eqb-false left 0 (few .0)),
           kind-stands (node-kind (getD s at 0) (eqb-false _ _ (range .0)) (ltb-false _ _ (range .1)) (eqb-false _ _ (node .0))) here (few .1),

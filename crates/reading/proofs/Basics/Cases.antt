@@ -15,21 +15,21 @@ pub pattern-cases : Distinct PatternRead.Read PatternRead.Refused
 pattern-cases = record {
   value-same = λ p p′ e. cc;
   refusal-same = λ number place number′ place′ e. (cc, cc);
-  apart = λ p number place e. let z : _≡_ {A = ℕ} 0 1 = cc in omega arith;
+  disjoint = λ p number place e. let z : _≡_ {A = ℕ} 0 1 = cc in omega arith;
 }
 
 pub node-cases : Distinct NodeRead.Read NodeRead.Refused
 node-cases = record {
   value-same = λ r r′ e. cc;
   refusal-same = λ number place number′ place′ e. (cc, cc);
-  apart = λ r number place e. let z : _≡_ {A = ℕ} 0 1 = cc in omega arith;
+  disjoint = λ r number place e. let z : _≡_ {A = ℕ} 0 1 = cc in omega arith;
 }
 
 pub formula-cases : Distinct FormulaRead.Read FormulaRead.Refused
 formula-cases = record {
   value-same = λ f f′ e. cc;
   refusal-same = λ number place number′ place′ e. (cc, cc);
-  apart = λ f number place e. let z : _≡_ {A = ℕ} 0 1 = cc in omega arith;
+  disjoint = λ f number place e. let z : _≡_ {A = ℕ} 0 1 = cc in omega arith;
 }
 
 -- ---- the answer to a file
@@ -38,7 +38,7 @@ acceptance-cases : Distinct {B = Unit {0}} (λ a. FileRead′.Accepted) FileRead
 acceptance-cases = record {
   value-same = λ a a′ e. refl;
   refusal-same = λ number place number′ place′ e. (cc, cc);
-  apart = λ a number place e. let z : _≡_ {A = ℕ} 0 1 = cc in omega arith;
+  disjoint = λ a number place e. let z : _≡_ {A = ℕ} 0 1 = cc in omega arith;
 }
 
 abbrev pub acceptanceOf : {A : Type 0} → Outcome A → FileRead

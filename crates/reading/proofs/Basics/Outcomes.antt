@@ -35,9 +35,9 @@ refuse-refused P true k q o {number} {place} e here later =
     rw (← same, ← same′) (here refl)
 refuse-refused P false k q o e here later = later refl e
 
-pub neither : (a b : Bool) → (a || b) ≡ false → (a ≡ false) × (b ≡ false)
-neither true b e = let z : _≡_ {A = ℕ} 0 1 = cc in absurd (omega arith)
-neither false b e = (refl, e)
+pub or-eq-false : (a b : Bool) → (a || b) ≡ false → (a ≡ false) × (b ≡ false)
+or-eq-false true b e = let z : _≡_ {A = ℕ} 0 1 = cc in absurd (omega arith)
+or-eq-false false b e = (refl, e)
 
 -- ---- two steps
 
@@ -72,20 +72,20 @@ module _ {A B : Type 0} where
 pub record Distinct {B R : Type 0} (value : B → R) (refusal : (number place : ℕ) → R) : Type 0 where
   pub value-same : (b b′ : B) → value b ≡ value b′ → b ≡ b′
   pub refusal-same : (number place number′ place′ : ℕ) → refusal number place ≡ refusal number′ place′ → (number ≡ number′) × (place ≡ place′)
-  pub apart : (b : B) (number place : ℕ) → value b ≡ refusal number place → ⊥
+  pub disjoint : (b : B) (number place : ℕ) → value b ≡ refusal number place → ⊥
 
 module _ {B R : Type 0} {value : B → R} {refusal : (number place : ℕ) → R} (d : Distinct value refusal) where
   -- The value is a refusal's only where the outcome is that refusal, and another only where it is accepted so. `of` is what counts of what is accepted.
   module _ {A : Type 0} (of : A → B) where
     pub byCase-refused : (o : Outcome A) (number place : ℕ) → refusal number place ≡ byCase (λ a. value (of a)) refusal o → o ≡ refused number place
-    byCase-refused (accepted a) number place e = absurd (d .apart (of a) number place (sym e))
+    byCase-refused (accepted a) number place e = absurd (d .disjoint (of a) number place (sym e))
     byCase-refused (refused m at) number place e = let (is, there) = d .refusal-same number place m at e in rw (is, there)
 
     pub byCase-accepted : (o : Outcome A) (b : B) → value b ≡ byCase (λ a. value (of a)) refusal o → (a : A) × (o ≡ accepted a) × (b ≡ of a)
     byCase-accepted (accepted a) b e = (a, refl, d .value-same b (of a) e)
-    byCase-accepted (refused number place) b e = absurd (d .apart b number place e)
+    byCase-accepted (refused number place) b e = absurd (d .disjoint b number place e)
 
   -- where the value has all of what is accepted
   pub byCase-value : (o : Outcome B) (b : B) → value b ≡ byCase value refusal o → o ≡ accepted b
   byCase-value (accepted a) b e = rw (d .value-same b a e)
-  byCase-value (refused number place) b e = absurd (d .apart b number place e)
+  byCase-value (refused number place) b e = absurd (d .disjoint b number place e)

@@ -1,4 +1,5 @@
--- The loop over pattern records: what is read so far, with the extents, and what it leaves at each way out.
+-- The loop over pattern records: what is read so far, with the extents, and what it leaves at each way out. For the patterns it is a law of lists of
+-- records; the extents are those of the patterns, so one more pattern is one more extent.
 use mathlib.Core.Path.{_≡_, refl, _∙_}
 use mathlib.Core.Bool.{true, false}
 use mathlib.Core.List.{List, [], _∷_, map, map-append}

@@ -113,10 +113,10 @@ pub record Found (s : List ℕ) (n at left : ℕ) (g : Guards) (node : Record) :
 
 module _ (s : List ℕ) (n at left : ℕ) (g : Guards) (found : NodeRead) (told : found ≡ nodeRead (nodeAt s n at left g)) where
   pub found-is : (node : Record) → found ≡ NodeRead′.Read node → Found s n at left g node
-  found-is node is = go (byCase-accepted node-cases nodeOf (nodeAt s n at left g) node (sym is ∙ told))
+  found-is node is = record-found (byCase-accepted node-cases nodeOf (nodeAt s n at left g) node (sym is ∙ told))
     where
-      go : (r : NodeRecord) × (nodeAt s n at left g ≡ accepted r) × (node ≡ nodeOf r) → Found s n at left g node
-      go (r, e, node-is) =
+      record-found : (r : NodeRecord) × (nodeAt s n at left g ≡ accepted r) × (node ≡ nodeOf r) → Found s n at left g node
+      record-found (r, e, node-is) =
           let next : node .next ≡ r .next = ap (λ (x : Record). x .next) node-is in
           let read = node-accepts s n at left g r .0 e in record {
             symbol = r .symbol;

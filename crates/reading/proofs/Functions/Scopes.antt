@@ -1,4 +1,5 @@
--- The reader's scope: an array and two counts for the numbers of the max nodes around a record, and for which of them are guarded.
+-- The reader's scope, an array and two counts, lists the numbers of the max nodes around a record, and which of them are guarded. A store past the
+-- entries in use changes none of them and adds the innermost. The guards are a run of false and then a run of true, so a depth is in one of the two.
 use mathlib.Core.Path.{_≡_, refl, ap, _∙_}
 use mathlib.Core.Bool.{true, false}
 use mathlib.Core.List.{List, [], _∷_, _++_}

@@ -1,4 +1,5 @@
--- Stores of a list from an index on: two lists one after the other, and a store before them.
+-- Stores of a list from an index on: two lists one after the other, and a store before them. Each goes through the list, as stores at different
+-- indices may change places.
 use mathlib.Core.Path.{_≡_, refl, sym, ap, _∙_}
 use mathlib.Core.List.{List, [], _∷_, _++_}
 use Prim.Native.Nat.{ℕ, suc, _+_, _<_}

@@ -112,10 +112,10 @@ module _ (s : List ℕ) (h : Head) (is : HeadOf (patternsAt 32 s 0) h) (ok : h .
     (reads : Reads (formulaOf s (h .count) (h .next) 64 (guardsOf (sc .count) (sc .unguarded))) 64 (enclosing sc)
     (replicate 64 0) (replicate 64 0) ks gs found) where
   after-patterns : AfterPatterns s h ks gs found
-  after-patterns = go (head-accepted-is (patternsAt 32 s 0) h is ok)
+  after-patterns = with-patterns (head-accepted-is (patternsAt 32 s 0) h is ok)
     where
-      go : (ps : Records Pattern) × (patternsAt 32 s 0 ≡ accepted ps) × (h ≡ headOf ps) → AfterPatterns s h ks gs found
-      go (ps, read, e) =
+      with-patterns : (ps : Records Pattern) × (patternsAt 32 s 0 ≡ accepted ps) × (h ≡ headOf ps) → AfterPatterns s h ks gs found
+      with-patterns (ps, read, e) =
           let next : h .next ≡ ps .next = ap (λ (x : Head). x .next) e in
           let count : h .count ≡ length (ps .list) = ap (λ (x : Head). x .count) e in
           record { ps = ps; read = read; is = e; reads = rw (outer .numbers, outer .guards, next, count) at reads }
@@ -130,7 +130,7 @@ module _ (s : List ℕ) (h : Head) (is : HeadOf (patternsAt 32 s 0) h) (ok : h .
 
   module _ (rest : Rest) (e : found ≡ FormulaRead′.the-variants.Read rest) where
     pub after-formula : AfterFormula s h ks gs rest
-    after-formula = go after-patterns
+    after-formula = with-answer after-patterns
       where
         with-formula : (p : AfterPatterns s h ks gs found) (f : Parsed) → formulaOf s (length (p .ps .list)) (p .ps .next) 64 [] ≡ accepted f
             → rest ≡ restOf f → AfterFormula s h ks gs rest
@@ -147,7 +147,7 @@ module _ (s : List ℕ) (h : Head) (is : HeadOf (patternsAt 32 s 0) h) (ok : h .
               args-are = w .1 ∙ sets-blank 64 0 (args 0 [] (f .formula)) (omega (arith, args-size 0 [] (f .formula)));
             }
 
-        go : AfterPatterns s h ks gs found → AfterFormula s h ks gs rest
-        go p =
+        with-answer : AfterPatterns s h ks gs found → AfterFormula s h ks gs rest
+        with-answer p =
             let a = byCase-accepted formula-cases restOf (formulaOf s (length (p .ps .list)) (p .ps .next) 64 []) rest (sym e ∙ p .reads .answer) in
             with-formula p (a .0) (a .1) (a .2)

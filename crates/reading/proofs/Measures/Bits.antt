@@ -1,4 +1,5 @@
--- The trailing zeros of a number give the least of its set bits, and its ones how many bits are set.
+-- The trailing zeros of a number give the least of its set bits, and its ones how many bits are set. Both go by halving: the lowest bit is the number
+-- modulo 2, and the bits above it are the bits of its half.
 use mathlib.Core.Path.{_≡_, refl, sym, _∙_}
 use mathlib.Core.Bool.{Bool, cond}
 use Prim.Native.Nat.{ℕ, zero, suc, _/_, _%_, _^_, _<_}

@@ -1,4 +1,5 @@
--- What a pattern covers: the trailing zeros of its mask give the lowest code, and the ones how many codes.
+-- What a pattern covers: the trailing zeros of its mask give the lowest code, and the ones how many codes. A pattern tests the kind of a code and its
+-- slot, each by itself; so the lowest code has the lowest kind and the first slot, and the count is a product.
 use mathlib.Core.Path.{_≡_, refl, sym, _∙_}
 use mathlib.Core.Bool.{true, true≢false, and-eq-true-iff}
 use Prim.Native.Nat.{ℕ, _+_, _-_, _*_, _≤_, _<_}

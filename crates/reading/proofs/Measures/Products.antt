@@ -1,4 +1,5 @@
--- A test of the kind and a test of the slot, together a test of the code: the least code, and how many codes.
+-- A test of the kind and a test of the slot, together a test of the code: the least code, and how many codes. All codes of a kind come before those of
+-- the next, so the least code has the least kind and the least slot; and each kind that passes adds the same count of slots.
 use mathlib.Core.Path.{_≡_, sym, _∙_}
 use mathlib.Core.Bool.{Bool, false, cond, _&&_, and-false}
 use Prim.Native.Nat.{ℕ, zero, suc, _+_, _*_, _≤_, _<_}

@@ -1,4 +1,5 @@
--- The arrays of a numbered rule: by a node's number its kind and its argument, and by a pattern's number the pattern and its extent.
+-- The arrays of a numbered rule: by a node's number its kind and its argument, and by a pattern's number the pattern and its extent. Each array is a
+-- list with an element for each node or pattern, filled up; so an index in the list finds the list's element.
 use mathlib.Core.Path.{_≡_, refl, _∙_}
 use mathlib.Core.List.{List, [], _∷_, _++_, map}
 use Prim.Native.Nat.{ℕ, zero, suc, _-_, _≤_, _<_}

@@ -106,8 +106,8 @@ module _ {K : Contexts} {n : ℕ} where
 -- ---- completing
 
 pub data FitAll (K : Contexts) (n : ℕ) : List (K .Context) → List Formula → Type 0 where
-  fits-none : FitAll K n [] []
-  fits-more : {c : K .Context} {due : List (K .Context)} {f : Formula} {fs : List Formula} → Fits K n c f → FitAll K n due fs
+  fits-nil : FitAll K n [] []
+  fits-cons : {c : K .Context} {due : List (K .Context)} {f : Formula} {fs : List Formula} → Fits K n c f → FitAll K n due fs
       → FitAll K n (c ∷ due) (f ∷ fs)
 
 abbrev pub allSymbols : List Formula → List Symbol
@@ -127,31 +127,31 @@ pub record Completed (K : Contexts) (n : ℕ) (due : List (K .Context)) (xs : Li
 
 module _ {K : Contexts} {n : ℕ} where
   truths-completed : (due : List (K .Context)) → Completed K n due [] due
-  truths-completed [] = record { formulas = []; fit = fits-none; are = refl }
+  truths-completed [] = record { formulas = []; fit = fits-nil; are = refl }
   truths-completed (c ∷ due) =
       let h = truths-completed due in
-      record { formulas = truth ∷ h .formulas; fit = fits-more tt (h .fit); are = ap (λ (l : List Symbol). Truth ∷ l) (h .are) }
+      record { formulas = truth ∷ h .formulas; fit = fits-cons tt (h .fit); are = ap (λ (l : List Symbol). Truth ∷ l) (h .are) }
 
   module _ (c : K .Context) (due due′ : List (K .Context)) (xs : List Symbol) where
     -- formulas for the parts of a symbol, and one for the symbol
     with-parts : (x : Symbol) → Allows K n c x → (fs : List Formula) → FitAll K n (parts K n c x ++ due) fs → allSymbols fs ≡ xs ++ truths due′
         → Completed K n (c ∷ due) (x ∷ xs) due′
     with-parts Truth allows fs fit e =
-        record { formulas = truth ∷ fs; fit = fits-more tt fit; are = ap (λ (l : List Symbol). Truth ∷ l) e }
+        record { formulas = truth ∷ fs; fit = fits-cons tt fit; are = ap (λ (l : List Symbol). Truth ∷ l) e }
     with-parts Falsity allows fs fit e =
-        record { formulas = falsity ∷ fs; fit = fits-more tt fit; are = ap (λ (l : List Symbol). Falsity ∷ l) e }
-    with-parts Both allows (f ∷ (g ∷ fs)) (fits-more a (fits-more b fit)) e = record {
+        record { formulas = falsity ∷ fs; fit = fits-cons tt fit; are = ap (λ (l : List Symbol). Falsity ∷ l) e }
+    with-parts Both allows (f ∷ (g ∷ fs)) (fits-cons a (fits-cons b fit)) e = record {
       formulas = both f g ∷ fs;
-      fit = fits-more {f = both f g} (a, b) fit;
+      fit = fits-cons {f = both f g} (a, b) fit;
       are = ap (λ (l : List Symbol). Both ∷ l) (append-assoc (symbols f) (symbols g) (allSymbols fs) ∙ e);
     }
-    with-parts Both allows (f ∷ []) (fits-more a b) e = elim b [ ]
-    with-parts (Necessity p) allows (f ∷ fs) (fits-more a fit) e =
-        record { formulas = necessity p f ∷ fs; fit = fits-more {f = necessity p f} (allows, a) fit; are = ap (λ (l : List Symbol). Necessity p ∷ l) e }
-    with-parts Max allows (f ∷ fs) (fits-more a fit) e =
-        record { formulas = max f ∷ fs; fit = fits-more a fit; are = ap (λ (l : List Symbol). Max ∷ l) e }
+    with-parts Both allows (f ∷ []) (fits-cons a b) e = elim b [ ]
+    with-parts (Necessity p) allows (f ∷ fs) (fits-cons a fit) e =
+        record { formulas = necessity p f ∷ fs; fit = fits-cons {f = necessity p f} (allows, a) fit; are = ap (λ (l : List Symbol). Necessity p ∷ l) e }
+    with-parts Max allows (f ∷ fs) (fits-cons a fit) e =
+        record { formulas = max f ∷ fs; fit = fits-cons a fit; are = ap (λ (l : List Symbol). Max ∷ l) e }
     with-parts (Variable d) allows fs fit e =
-        record { formulas = variable d ∷ fs; fit = fits-more allows fit; are = ap (λ (l : List Symbol). Variable d ∷ l) e }
+        record { formulas = variable d ∷ fs; fit = fits-cons allows fit; are = ap (λ (l : List Symbol). Variable d ∷ l) e }
 
   consumes-completed : {due due′ : List (K .Context)} {xs : List Symbol} → Consumes K n due xs due′ → Completed K n due xs due′
   consumes-completed {due} done = truths-completed due
@@ -165,8 +165,8 @@ module _ {K : Contexts} {n : ℕ} where
     where
       on : (fs : List Formula) → FitAll K n (c ∷ []) fs → allSymbols fs ≡ xs ++ truths due
           → (f : Formula) × Fits K n c f × (symbols f ≡ xs ++ truths due)
-      on (f ∷ []) (fits-more fits fits-none) e = (f, fits, rw (append-nil (symbols f)) at e)
-      on (f ∷ (f′ ∷ fs)) (fits-more fits others) e = elim others [ ]
+      on (f ∷ []) (fits-cons fits fits-nil) e = (f, fits, rw (append-nil (symbols f)) at e)
+      on (f ∷ (f′ ∷ fs)) (fits-cons fits others) e = elim others [ ]
 
 -- ---- the two kinds of contexts
 

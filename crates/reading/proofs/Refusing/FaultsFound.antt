@@ -15,9 +15,9 @@ use Rattle.reading.specs.File.{refused, andThen, patternAt, isPattern, n
 use Rattle.reading.specs.Faults.{pattern, Unfinished, KindAt, IsPattern, HasBody, NoKind, Fault, file-ended, pattern-cut, node-cut, no-kind, after-rule}
 use Rattle.reading.specs.Faults.{late-pattern, pattern-33, node-65, bad-pattern, names-nothing, unguarded}
 use Rattle.reading.proofs.Basics.ByteLaws.{byte-at}
-use Rattle.reading.proofs.Basics.Outcomes.{neither, refuse-refused, never-refused, andThen-refused}
+use Rattle.reading.proofs.Basics.Outcomes.{or-eq-false, refuse-refused, never-refused, andThen-refused}
 use Rattle.reading.proofs.Basics.Places.{Byte}
-use Rattle.reading.proofs.Accepting.Checks.{pattern-there}
+use Rattle.reading.proofs.Accepting.Checks.{patternOfBytes}
 use Rattle.reading.proofs.Accepting.NodeBytes.{bare-truth, bare-falsity, bare-both, bare-max, NodeKind, bare-kind, necessity-kind, variable-kind}
 use Rattle.reading.proofs.Accepting.NodeBytes.{node-kind, ofKind, node-accepts}
 use Rattle.reading.proofs.Accepting.PatternBytes.{pattern-stands, pattern-kind}
@@ -25,7 +25,8 @@ use Rattle.reading.proofs.Refusing.Contexts.{guards, parts, done}
 use Rattle.reading.proofs.Refusing.LeftToRight.{dueAt, due-over, headAt}
 use Rattle.reading.proofs.Refusing.ReadTo.{ReadTo, Stands, read-front, read-rule, read-unfinished, next-node, next-pattern, pattern-well-formed}
 use Rattle.reading.proofs.Refusing.ReadTo.{node-allowed, node-bound, bound-begins}
-use Rattle.reading.proofs.Refusing.RecordsHere.{necessity-here, variable-here, pattern-here, pattern-stood, node-here}
+use Rattle.reading.proofs.Refusing.StandingRecords.{necessity-record-stands, variable-record-stands, pattern-record-stands}
+use Rattle.reading.proofs.Refusing.StandingRecords.{patternStands-record, nodeStands-record}
 
 -- ---- a node
 
@@ -52,7 +53,7 @@ module _ {s : List ℕ} {at n m : ℕ} {g : Guards} {due : List Guards} (h : Rea
       let whole : at + 1 < length s = leb-false _ _ f in
       refuse-refused (Fault s) (leb n (getD s (at + 1) 0)) 6 at _ e′
       (λ t. names-nothing (read-unfinished h) kind few (omega arith)
-      (λ begins. omega (arith, leb-true n (getD s (at + 1) 0) t, node-bound h (necessity-here s at b whole) begins)))
+      (λ begins. omega (arith, leb-true n (getD s (at + 1) 0) t, node-bound h (necessity-record-stands s at b whole) begins)))
       (λ f′ e″. absurd (never-refused e″)))
 
   variable-fault : Byte s at variableKind → m < 64 → variableAt s g at ≡ refused number place → Fault s number place
@@ -62,7 +63,7 @@ module _ {s : List ℕ} {at n m : ℕ} {g : Guards} {due : List Guards} (h : Rea
       (λ t. node-cut (read-unfinished h) (b .inside, inr (b .is)) few (omega (arith, leb-true (length s) (at + 1) t)))
       (λ f e′.
       let whole : at + 1 < length s = leb-false _ _ f in
-      let here = variable-here s at b whole in
+      let here = variable-record-stands s at b whole in
       refuse-refused (Fault s) (leb (length g) depth) 6 at _ e′
       (λ t. names-nothing (read-unfinished h) (b .inside, inr (b .is)) few (omega arith)
       (λ begins. omega (arith, leb-true (length g) depth t, node-bound h here begins)))
@@ -95,7 +96,7 @@ module _ {s : List ℕ} {at n m : ℕ} {g : Guards} {due : List Guards} (h : Rea
       refuse-refused (Fault s) (eqb kind 0 || ltb variableKind kind) 2 at _ e′
       (λ t. no-kind (read-unfinished h) (inside, tested-no-kind kind t))
       (λ f′ e″.
-      let (some, known) = neither (eqb kind 0) (ltb variableKind kind) f′ in
+      let (some, known) = or-eq-false (eqb kind 0) (ltb variableKind kind) f′ in
       refuse-refused (Fault s) (eqb kind patternKind) 3 at _ e″
       (λ t. late-pattern (read-unfinished h) (inside, eqb-true kind patternKind t) (pattern-late s at m none inside t))
       (λ f″ e‴.
@@ -129,7 +130,7 @@ due-fault (suc left) (g ∷ due) {s} {at} {n} h count none e =
     andThen-refused (nodeAt s n at (suc left) g) _ e
     (node-fault h (suc left) count none)
     (λ r e′ e″.
-    let (stands, allows) = node-here s at (node-accepts s n at (suc left) g r .0 e′ .1) in
+    let (stands, allows) = nodeStands-record s at (node-accepts s n at (suc left) g r .0 e′ .1) in
     due-fault left (parts guards n g (r .symbol) ++ due) (next-node h refl (omega arith) stands allows) (omega arith) (λ z. absurd (omega arith)) e″)
 
 -- ---- the patterns
@@ -139,14 +140,14 @@ module _ {s : List ℕ} {at n : ℕ} (h : ReadTo s at n 0 ([] ∷ [])) (b : Byte
   kind = (b .inside, b .is)
 
   -- the pattern there, and that it isn't well formed
-  stands-there : at + 3 < length s → Stands s at (at + 4) (pattern (pattern-there s at))
-  stands-there whole =
-      pattern-here s at (pattern-there s at) b (record { inside = omega arith; is = refl }) (record { inside = omega arith; is = refl })
+  patternOfBytes-stands : at + 3 < length s → Stands s at (at + 4) (pattern (patternOfBytes s at))
+  patternOfBytes-stands whole =
+      pattern-record-stands s at (patternOfBytes s at) b (record { inside = omega arith; is = refl }) (record { inside = omega arith; is = refl })
       (record { inside = whole; is = refl })
 
-  unfit-fault : (few : n < 32) → at + 3 < length s → (WellFormedPattern (pattern-there s at) → ⊥) → Fault s 5 at
+  unfit-fault : (few : n < 32) → at + 3 < length s → (WellFormedPattern (patternOfBytes s at) → ⊥) → Fault s 5 at
   unfit-fault few whole unfit =
-      bad-pattern (read-unfinished h) kind few (omega arith) (λ begins. unfit (pattern-well-formed h (stands-there whole) begins))
+      bad-pattern (read-unfinished h) kind few (omega arith) (λ begins. unfit (pattern-well-formed h (patternOfBytes-stands whole) begins))
 
   pattern-fault : {number place : ℕ} → n < 32 → patternAt s at ≡ refused number place → Fault s number place
   pattern-fault few e =
@@ -196,7 +197,7 @@ head-fault (suc left) {s} bytes {at} {n} {number} {place} h count e =
         (pattern-fault h b (omega arith))
         (λ p e₁ e₂.
         let stands = pattern-stands s at p (byte-at s bytes (at + 1)) e₁ in
-        later (next-pattern h (omega arith) (pattern-stood s at b stands) (stands .well-formed)) (omega arith) e₂)
+        later (next-pattern h (omega arith) (patternStands-record s at b stands) (stands .well-formed)) (omega arith) e₂)
     on false is e′ later = due-fault 64 ([] ∷ []) h (omega arith) (λ z. is) e′
 
 pub fault-found : (s : List ℕ) → Bytes s → {number place : ℕ} → headAt s 32 0 0 ≡ refused number place → Fault s number place

@@ -31,10 +31,10 @@ use Rattle.reading.proofs.RecordLists.RecordWays.{record-left, record-a
 use Rattle.reading.proofs.Accepting.PatternBytes.{pattern-stands, other-kind}
 use Rattle.reading.proofs.Refusing.LeftToRight.{dueAt, due-over, headAt, refused-left-to-right}
 use Rattle.reading.proofs.Refusing.ReadTo.{ReadTo, read-front, read-over, next-node, next-pattern, node-bound, bound-begins}
-use Rattle.reading.proofs.Refusing.RecordsHere.{necessity-here, variable-here, pattern-stood}
+use Rattle.reading.proofs.Refusing.StandingRecords.{necessity-record-stands, variable-record-stands, patternStands-record}
 use Rattle.reading.proofs.Refusing.FaultsFound.{fault-found}
 use Rattle.reading.proofs.Refusing.OneFault.{one-fault}
-use Rattle.reading.proofs.Refusing.GoingOn.{headAt-to-node, headAt-to-pattern, read-to-front, read-to-unfinished}
+use Rattle.reading.proofs.Refusing.ReachedPlaces.{headAt-to-node, headAt-to-pattern, read-to-front, read-to-unfinished}
 
 -- ---- where the next record is refused
 
@@ -102,19 +102,19 @@ module _ {s : List ℕ} {at n m : ℕ} {g : Guards} {due : List Guards} (h : Rea
       on : (c : Bool) → leb n (getD s (at + 1) 0) ≡ c → headAt s 32 0 0 ≡ refused 6 at
       on true t = necessity-refused few (inside, is) (checks.no-such-pattern s n at (omega arith) (leb-true _ _ t))
       on false f =
-          absurd (none (bound-begins h (necessity-here s at (record { inside = inside; is = is }) (omega arith)) (leb-false _ _ f)))
+          absurd (none (bound-begins h (necessity-record-stands s at (record { inside = inside; is = is }) (omega arith)) (leb-false _ _ f)))
   nothing-refused (inside, inr is) few whole none = on (leb (length g) (getD s (at + 1) 0)) refl
     where
       on : (c : Bool) → leb (length g) (getD s (at + 1) 0) ≡ c → headAt s 32 0 0 ≡ refused 6 at
       on true t = variable-refused few (inside, is) (checks.no-such-max s g at (omega arith) (leb-true _ _ t))
       on false f =
-          absurd (none (bound-begins h (variable-here s at (record { inside = inside; is = is }) (omega arith)) (leb-false _ _ f)))
+          absurd (none (bound-begins h (variable-record-stands s at (record { inside = inside; is = is }) (omega arith)) (leb-false _ _ f)))
 
   -- what it names isn't guarded
   unguarded-refused : KindAt s at IsVariable → m < 64 → at + 2 ≤ length s → (BeginsRule (take (at + 2) s) → ⊥) → BeginsBound (take (at + 2) s)
       → headAt s 32 0 0 ≡ refused 7 at
   unguarded-refused (inside, is) few whole none begins =
-      let here = variable-here s at (record { inside = inside; is = is }) (omega arith) in
+      let here = variable-record-stands s at (record { inside = inside; is = is }) (omega arith) in
       let bound = node-bound h here begins in
       on (getD g (getD s (at + 1) 0) false) refl
       (variable-refused few (inside, is)) (λ guard. none (read-front (next-node h refl few here (bound, guard)) .begins)) bound
@@ -185,7 +185,7 @@ module _ {s : List ℕ} {at n : ℕ} {due : List Guards} (h : ReadTo s at n 0 du
       on (accepted p) e say =
           let stands = pattern-stands s at p (byte-at s bytes (at + 1)) (record-accepted (patternFormat s) at (32 - n) e .1) in
           let b : Byte s at patternKind = record { inside = kind .0; is = kind .1 } in
-          absurd (none (read-front (next-pattern h few (pattern-stood s at b stands) (stands .well-formed)) .begins))
+          absurd (none (read-front (next-pattern h few (patternStands-record s at b stands) (stands .well-formed)) .begins))
       on (refused number place) e say = let (is, here) = unfit-refused-with-5 few whole e in say 5 at (e ∙ rw (is, here))
 
 -- ---- every clause

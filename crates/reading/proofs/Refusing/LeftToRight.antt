@@ -17,7 +17,7 @@ use Rattle.reading.proofs.Accepting.NodeBytes.{node-accepts}
 use Rattle.reading.proofs.Accepting.Steps.{formula-step, formula-sound}
 use Rattle.reading.proofs.Refusing.Contexts.{guards, parts}
 
--- ---- outcomes without their values
+-- ---- refusals of an outcome, without its value
 
 abbrev pub refusal : {A : Type 0} → Outcome A → Outcome Unit
 refusal = byCase (λ a. accepted tt) refused
@@ -26,11 +26,13 @@ outcome-cases : Distinct {B = Unit {0}} accepted refused
 outcome-cases = record {
   value-same = λ a b e. accepted-is e;
   refusal-same = λ number place number′ place′ e. (cc, cc);
-  apart = λ a number place e. never-refused e;
+  disjoint = λ a number place e. never-refused e;
 }
 
 refusal-refused : {A : Type 0} (o : Outcome A) (number place : ℕ) → (o ≡ refused number place) ↔ (refusal o ≡ refused number place)
 refusal-refused o number place = (λ e. ap refusal e, λ e. byCase-refused outcome-cases (λ a. tt) o number place (sym e))
+
+-- ---- two steps
 
 module _ {A B : Type 0} where
   refusal-andThen : (o : Outcome A) (f : A → Outcome B) → refusal (andThen o f) ≡ andThen o (λ a. refusal (f a))
@@ -60,11 +62,13 @@ module _ (s : List ℕ) where
   due-over zero n at = refl
   due-over (suc left) n at = refl
 
+  -- ---- a formula, and then what is due
+
   module _ (n : ℕ) where
     abbrev then-due : List Guards → Parsed → Outcome Unit
     then-due due f = dueAt (f .left) n (f .next) due
 
-    -- a formula, and then what is due, by recursion over what is left
+    -- by recursion over what is left
     module _ (bound : ℕ) (one-due : (at left : ℕ) (g : Guards) (due : List Guards) → left < bound
         → andThen (formulaOf s n at left g) (then-due due) ≡ dueAt left n at (g ∷ due)) where
       parts-due : (x : Symbol) (next left : ℕ) (g : Guards) (due : List Guards) → left < bound

@@ -17,6 +17,8 @@ use Rattle.reading.proofs.Refusing.Records.{records, records-bytes-appe
 use Rattle.reading.proofs.Refusing.Records.{records-same}
 use Rattle.reading.proofs.Refusing.Beginnings.{Shape, rule-shape, shape-begins, bound-shape, shape-bound, shape-rule, rule-nothing-due}
 
+-- ---- the records before a place
+
 pub record ReadTo (s : List ℕ) (at n m : ℕ) (due : List Guards) : Type 0 where
   pub inside : at ≤ length s
   pub patterns : List Pattern
@@ -28,6 +30,8 @@ pub record ReadTo (s : List ℕ) (at n m : ℕ) (due : List Guards) : Type 0 whe
   pub few-nodes : m ≤ 64
   pub well-formed : All WellFormedPattern patterns
   pub consumes : Consumes guards n ([] ∷ []) nodes due
+
+-- ---- what was read begins a rule, and is one where nothing is due
 
 module _ {s : List ℕ} {at n m : ℕ} {due : List Guards} (h : ReadTo s at n m due) where
   shape : Shape guards [] (records (h .patterns) (h .nodes))
@@ -66,7 +70,7 @@ read-unfinished h = record {
   unfinished = λ whole. let e = read-over h whole in let z : _≡_ {A = ℕ} 0 1 = cc in omega arith;
 }
 
--- ---- one more record
+-- ---- a record at a place
 
 -- the record x begins at `at` and ends before `next`
 pub record Stands (s : List ℕ) (at next : ℕ) (x : Record) : Type 0 where
@@ -82,6 +86,8 @@ module _ {s : List ℕ} {at next : ℕ} {x : Record} (b : Stands s at next x) wh
       ap (λ (k : ℕ). take k s) (b .ends)
       ∙ (take-add at (length (recordBytes x)) s
       ∙ (rw (here, are, ← append-nil (recordBytes x)) (sym (records-bytes-append xs (x ∷ [])))))
+
+-- ---- one more node
 
 module _ {s : List ℕ} {at n m : ℕ} {due : List Guards} (h : ReadTo s at n m due) {next : ℕ} where
   pub take-with-node : {x : Symbol} → Stands s at next (node x) → take next s ≡ recordsBytes (records (h .patterns) (h .nodes ++ x ∷ []))
@@ -103,7 +109,8 @@ module _ {s : List ℕ} {at n m : ℕ} {due : List Guards} (h : ReadTo s at n m 
     consumes = consumes-join (rw is at (h .consumes)) (more allows done);
   }
 
--- no node yet
+-- ---- one more pattern, before any node
+
 module _ {s : List ℕ} {at n : ℕ} {due : List Guards} (h : ReadTo s at n 0 due) where
   no-nodes : h .nodes ≡ []
   no-nodes = on (h .nodes) (h .nnodes)
@@ -130,13 +137,15 @@ module _ {s : List ℕ} {at n : ℕ} {due : List Guards} (h : ReadTo s at n 0 du
     consumes = done;
   }
 
-  -- ---- what the next record must be like
+  -- ---- what the next pattern must be like
 
   pub pattern-well-formed : {next : ℕ} {p : Pattern} → Stands s at next (pattern p) → BeginsRule (take next s) → WellFormedPattern p
   pattern-well-formed {p = p} b begins =
       let after = rule-shape (records (h .patterns ++ p ∷ []) []) (subst BeginsRule (take-with-pattern b) begins) in
       let (same, none) = records-same (h .patterns ++ p ∷ []) (after .patterns) [] (after .nodes) (after .are) in
       all-last WellFormedPattern (h .patterns) p (rw (← same) at (after .well-formed))
+
+-- ---- what the next node must be like
 
 last-allowed : {K : Contexts} {n : ℕ} {start due due′ : List (K .Context)} {c : K .Context} (xs : List Symbol) (x : Symbol)
     → Consumes K n start xs (c ∷ due) → Consumes K n start (xs ++ x ∷ []) due′ → Allows K n c x

@@ -17,6 +17,8 @@ use Rattle.synthesis.proofs.Tables.FilledTables.{filled-cong}
 use Rattle.synthesis.proofs.Tables.SynthesisOutcomes.{building-enough, building-short}
 use Rattle.synthesis.proofs.Functions.GraphLaws.{graph-answers}
 
+-- ---- a table that is too short
+
 -- the answer and the table after a call
 abbrev BuildLeaves : (s table : List ℕ) → (answer : Counted) → (after : List ℕ) → Type 0
 BuildLeaves s table answer after =
@@ -25,7 +27,7 @@ BuildLeaves s table answer after =
 pub short-leaves : (s table : List ℕ) → length table < 32768 → BuildLeaves s table (Refused 10 0) table
 short-leaves s table h = rw (building-short 128 s (length table) h) (refl, refl)
 
--- ---- a table that is long enough
+-- ---- a plan that is refused
 
 refused-leaves : (o : Outcome Synthesis) (table : List ℕ) (number place : ℕ) → countedOf o ≡ Refused number place
     → table ≡ tableAfter 255 o table
@@ -38,7 +40,9 @@ refused-plan-leaves s table p is e h =
     rw (building-enough 128 s (length table) h)
     (is .answer-is, refused-leaves (synthesisOf 128 s) table _ _ (sym (is .answer-is) ∙ e))
 
--- what a plan with a count has
+-- ---- a plan with a count
+
+-- what such a plan has
 pub record CountedPlan (o : Outcome Synthesis) (p : Plan) (n : ℕ) : Type 0 where
   pub synthesis : Synthesis
   pub is : o ≡ accepted synthesis

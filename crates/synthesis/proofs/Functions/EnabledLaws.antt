@@ -8,7 +8,7 @@ use native.Mathlib.Omega.{arith}
 use lib.ListN.{length, getD, replicate}
 use borrow.Author.Count.{below-more}
 use Rattle.reading.specs.Pattern.{covers}
-use Rattle.reading.specs.Rule.{Formula, size, Rule}
+use Rattle.reading.specs.Rule.{Formula, size, Rule, necessityKind}
 use Rattle.reading.specs.Nodes.{EnclosingMax, Node, Resolves, is-necessity}
 use Rattle.reading.specs.Numbered.{noPattern}
 use Rattle.reading.specs.declared.Pattern.{Pattern}
@@ -26,13 +26,13 @@ some-numbered-below s h = record { rule = s .rule; is-numbered = s .is-numbered;
 
 module _ {n : NumberedRule} {k : ℕ} (some : SomeNumbered n k) where
   -- the pattern of a necessity is one of the 32
-  pub pattern-below-32 : getD (n .kinds) k 0 ≡ 5 → getD (n .args) k 0 < 32
+  pub pattern-below-32 : getD (n .kinds) k 0 ≡ necessityKind → getD (n .args) k 0 < 32
   pattern-below-32 q =
       let node = node-exists (some .rule .formula) k (some .below) in
       on (node .2) (node-resolves (some .is-numbered .is-rule) (node .2) q)
     where
       on : {ms : List EnclosingMax} {f : Formula} → Node (some .rule .formula) k ms f
-          → Resolves (some .rule .formula) k ms 5 (getD (n .args) k 0) f → getD (n .args) k 0 < 32
+          → Resolves (some .rule .formula) k ms necessityKind (getD (n .args) k 0) f → getD (n .args) k 0 < 32
       on node (is-necessity rest) =
           let w = some .is-numbered .is-rule .within-limits in
           omega (arith, well-formed-at (length (some .rule .patterns)) (w .well-formed .formula) node .0, w .few-patterns)
@@ -46,14 +46,14 @@ module _ {n : NumberedRule} {k : ℕ} {enabled : List ℕ} (r : Rule) (num : IsN
   own-pattern-is =
       ap (λ (ps : List Pattern). getD ps (getD (n .args) k 0) noPattern) (num .patterns-are) ∙ pattern-at r (getD (n .args) k 0)
 
-  own-pattern-covers : k < size (r .formula) → getD (n .kinds) k 0 ≡ 5 → (c : ℕ) → (covers ownPattern c ≡ true) ↔ IsEnabled r c k
+  own-pattern-covers : k < size (r .formula) → getD (n .kinds) k 0 ≡ necessityKind → (c : ℕ) → (covers ownPattern c ≡ true) ↔ IsEnabled r c k
   own-pattern-covers h q c = (
     λ t. let node = node-exists (r .formula) k h in covers-enabled t (node .2) (node-resolves (num .is-rule) (node .2) q),
     enabled-covers,
   )
     where
       covers-enabled : covers ownPattern c ≡ true → {ms : List EnclosingMax} {f : Formula} → Node (r .formula) k ms f
-          → Resolves (r .formula) k ms 5 (getD (n .args) k 0) f → IsEnabled r c k
+          → Resolves (r .formula) k ms necessityKind (getD (n .args) k 0) f → IsEnabled r c k
       covers-enabled t {ms} node (is-necessity {f = f} rest) = (getD (n .args) k 0, ms, f, node, ap (λ (p : Pattern). covers p c) (sym own-pattern-is) ∙ t)
 
       enabled-covers : IsEnabled r c k → covers ownPattern c ≡ true
@@ -62,14 +62,14 @@ module _ {n : NumberedRule} {k : ℕ} {enabled : List ℕ} (r : Rule) (num : IsN
           ∙ ap (λ (i : ℕ). covers (getD (r .patterns) i noPattern) c) (argument-at (num .is-rule) node) ∙ t
 
   -- a necessity is enabled by the codes that its pattern covers
-  pub enabled-necessity : (enabled′ : List ℕ) → k < size (r .formula) → getD (n .kinds) k 0 ≡ 5 → AddedToCodes ownPattern k enabled enabled′
+  pub enabled-necessity : (enabled′ : List ℕ) → k < size (r .formula) → getD (n .kinds) k 0 ≡ necessityKind → AddedToCodes ownPattern k enabled enabled′
       → EnabledBelow r (k + 1) enabled′
   enabled-necessity enabled′ h q m = record {
     is = λ c j l. rw (m .is c l) (with-node-next (IsEnabled r c) (getD enabled c 0) k (covers ownPattern c) (own-pattern-covers h q c) (λ i. w .is c i l) j);
   }
 
   -- another node is enabled by none
-  pub enabled-other : (getD (n .kinds) k 0 ≡ 5 → ⊥) → EnabledBelow r (k + 1) enabled
+  pub enabled-other : (getD (n .kinds) k 0 ≡ necessityKind → ⊥) → EnabledBelow r (k + 1) enabled
   enabled-other d = record {
     is = λ c j l. (
       λ x. let y = w .is c j l .0 x in (omega (arith, y .0), y .1),

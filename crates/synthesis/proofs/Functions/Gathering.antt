@@ -15,7 +15,8 @@ use Rattle.reading.proofs.Measures.Counting.{least-holds}
 use Rattle.reading.proofs.Measures.Bits.{isSet, trailing-is-least, trailing-lt}
 use Rattle.synthesis.specs.NodeSet.{Has, has, emptySet, union}
 use Rattle.synthesis.specs.Arrays.{gathered}
-use Rattle.synthesis.proofs.Unfolding.NodeSetLaws.{has-none, half-has, has-true, true-has, same-members-same-set, no-member-empty, toggled, toggled-other}
+use Rattle.synthesis.proofs.Unfolding.NodeSetLaws.{has-none, half-has, has-true, true-has, same-members-same-set, no-member-empty}
+use Rattle.synthesis.proofs.Unfolding.NodeSetLaws.{toggled, toggled-other}
 use Rattle.synthesis.proofs.Unfolding.MemberLaws.{cond-has, has-union-first, has-union-second, union-cases}
 
 -- ---- which nodes are gathered

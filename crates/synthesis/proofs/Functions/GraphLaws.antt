@@ -6,7 +6,7 @@ use mathlib.Core.Logic.{_↔_}
 use mathlib.Core.List.{List, []}
 use native.Mathlib.Omega.{arith}
 use lib.ListN.{getD, replicate}
-use Rattle.reading.specs.Rule.{Formula, size, Rule}
+use Rattle.reading.specs.Rule.{Formula, size, Rule, falsityKind}
 use Rattle.reading.specs.Nodes.{EnclosingMax, Node, whole, Resolves, is-falsity}
 use Rattle.reading.specs.declared.NumberedRule.{NumberedRule}
 use Rattle.reading.proofs.Numbering.NodeLaws.{node-exists}
@@ -25,23 +25,25 @@ use Rattle.synthesis.proofs.Functions.NodeArrays.{node-below, kind-at, 
 pub some-node : {n : NumberedRule} {k : ℕ} → SomeNumbered n k → SomeNode (n .kinds) (n .args) k
 some-node s = record { rule = s .rule; is-rule = s .is-numbered .is-rule; below = s .below }
 
+-- ---- the first equation and the ff nodes
+
 module _ {r : Rule} {kinds args : List ℕ} (ir : RuleArrays r kinds args) where
   pub first-opened : {e : ℕ} (n : ℕ) → IsOpening kinds args (replicate n 0) 0 e → e ≡ firstOf r
   unfolding firstOf
   first-opened n o = o .is r ir (λ j h. repeated-at 0 n j) [] (r .formula) whole
 
-  pub falsities-by-kind : {e n : ℕ} → n ≡ size (r .formula) → HasKind 3 kinds n e → e ≡ falsities 0 (r .formula)
+  pub falsities-by-kind : {e n : ℕ} → n ≡ size (r .formula) → HasKind falsityKind kinds n e → e ≡ falsities 0 (r .formula)
   falsities-by-kind {e} {n} q h = same-members-same-set e (falsities 0 (r .formula)) (λ j. (kind-in-falsities j, falsities-of-kind j))
     where
-      kind-3-falsity : {k x : ℕ} {ms : List EnclosingMax} {f : Formula} → Node (r .formula) k ms f → Resolves (r .formula) k ms 3 x f
+      falsityKind-is-falsity : {k x : ℕ} {ms : List EnclosingMax} {f : Formula} → Node (r .formula) k ms f → Resolves (r .formula) k ms falsityKind x f
           → IsFalsity (r .formula) k
-      kind-3-falsity {ms = ms} node is-falsity = (ms, node)
+      falsityKind-is-falsity {ms = ms} node is-falsity = (ms, node)
 
       kind-in-falsities : (j : ℕ) → Has e j → Has (falsities 0 (r .formula)) j
       kind-in-falsities j x =
           let y = h .is j .0 x in
           let node = node-exists (r .formula) j (omega (arith, y .0, q)) in
-          falsities-has (r .formula) j .1 (kind-3-falsity (node .2) (node-resolves ir (node .2) (y .1)))
+          falsities-has (r .formula) j .1 (falsityKind-is-falsity (node .2) (node-resolves ir (node .2) (y .1)))
 
       falsities-of-kind : (j : ℕ) → Has (falsities 0 (r .formula)) j → Has e j
       falsities-of-kind j x =

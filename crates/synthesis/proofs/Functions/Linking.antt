@@ -8,7 +8,7 @@ use native.Mathlib.Omega.{arith}
 use lib.ListN.{length, getD, set, replicate}
 use lib.Seq.{getD-set-same, getD-set-other}
 use borrow.Author.Count.{below-more}
-use Rattle.reading.specs.Rule.{Formula, necessity, max, size, Rule}
+use Rattle.reading.specs.Rule.{Formula, necessity, max, size, Rule, necessityKind, maxKind}
 use Rattle.reading.specs.Nodes.{EnclosingMax, Node, whole, first, second, after, body}
 use Rattle.reading.proofs.Numbering.NumberedLaws.{repeated-at}
 use Rattle.synthesis.specs.Answering.{opening, opensAround}
@@ -49,21 +49,21 @@ linked-next {r} {k} {opened′ = opened′} {afters′} l same-opened same-after
 }
 
 module _ {kinds args opened afters : List ℕ} {k e : ℕ} (r : Rule) (ir : RuleArrays r kinds args) (l : Linked r k opened afters) where
-  pub linked-max : k < length opened → getD kinds k 0 ≡ 6 → IsOpening kinds args opened (k + 1) e → Linked r (k + 1) (set opened k e) afters
+  pub linked-max : k < length opened → getD kinds k 0 ≡ maxKind → IsOpening kinds args opened (k + 1) e → Linked r (k + 1) (set opened k e) afters
   linked-max h q o =
       linked-next l (λ j d. getD-set-other opened k j e 0 d) (λ j d. refl) max-opened
-      (λ p ms f n. absurd (let z : _≡_ {A = ℕ} 6 5 = sym q ∙ kind-at ir n in omega (arith, z)))
+      (λ p ms f n. absurd (let z : _≡_ {A = ℕ} maxKind necessityKind = sym q ∙ kind-at ir n in omega (arith, z)))
     where
       max-opened : OpenedAt r (set opened k e) k
       max-opened ms f n =
           let x = o .is r ir (λ j h. l .unopened j (omega arith)) (record { number = k; body = f } ∷ ms) f (rw (add-one k) (body n)) in
           getD-set-same opened k e 0 h ∙ rw (add-one k, l .unopened k (omega arith), listed-around-is l n (omega arith)) at x
 
-  pub linked-necessity : k < length afters → getD kinds k 0 ≡ 5 → IsOpening kinds args opened (k + 1) e
+  pub linked-necessity : k < length afters → getD kinds k 0 ≡ necessityKind → IsOpening kinds args opened (k + 1) e
       → Linked r (k + 1) opened (set afters k e)
   linked-necessity h q o =
       linked-next l (λ j d. refl) (λ j d. getD-set-other afters k j e 0 d)
-      (λ ms f n. absurd (let z : _≡_ {A = ℕ} 5 6 = sym q ∙ kind-at ir n in omega (arith, z))) necessity-after
+      (λ ms f n. absurd (let z : _≡_ {A = ℕ} necessityKind maxKind = sym q ∙ kind-at ir n in omega (arith, z))) necessity-after
     where
       necessity-after : AfterAt r (set afters k e) k
       necessity-after p ms f n =
@@ -71,7 +71,7 @@ module _ {kinds args opened afters : List ℕ} {k e : ℕ} (r : Rule) (ir : Rule
           getD-set-same afters k e 0 h ∙ rw (add-one k, listed-around-is l n (omega arith)) at x
 
 pub linked-other : {kinds args opened afters : List ℕ} {k : ℕ} (r : Rule) → RuleArrays r kinds args → Linked r k opened afters
-    → (getD kinds k 0 ≡ 6 → ⊥) → (getD kinds k 0 ≡ 5 → ⊥) → Linked r (k + 1) opened afters
+    → (getD kinds k 0 ≡ maxKind → ⊥) → (getD kinds k 0 ≡ necessityKind → ⊥) → Linked r (k + 1) opened afters
 linked-other r ir l p q =
     linked-next l (λ j d. refl) (λ j d. refl) (λ ms f n. absurd (p (kind-at ir n))) (λ i ms f n. absurd (q (kind-at ir n)))
 

@@ -13,7 +13,7 @@ use Rattle.synthesis.proofs.Monitors.MonitorLaws.{suppresses-nothing, s
 -- Of one monitor, the equations e with `Ok e` are renamed by f to those of another, and answer each code alike. Several may get one name.
 pub record Renames {E F : Type 0} (codes : ℕ) (Ok : E → Type 0) (answer : E → ℕ → Answer E) (answer′ : F → ℕ → Answer F) (f : E → F)
     : Type 0 where
-  pub stays : (e e′ : E) (c : ℕ) → Ok e → c < codes → answer e c ≡ next e′ → Ok e′
+  pub invariant : (e e′ : E) (c : ℕ) → Ok e → c < codes → answer e c ≡ next e′ → Ok e′
   pub drops : (e : E) (c : ℕ) → Ok e → c < codes → answer e c ≡ dropped → answer′ (f e) c ≡ dropped
   pub follows : (e e′ : E) (c : ℕ) → Ok e → c < codes → answer e c ≡ next e′ → answer′ (f e) c ≡ next (f e′)
 
@@ -27,7 +27,7 @@ module _ {E F : Type 0} (codes : ℕ) (Ok : E → Type 0) (answer : E → ℕ �
   renamed-induction P none dropping keeping =
       run-induction answer (λ e w. Ok e → All (λ c. c < codes) w → P e w) (λ e ok all. none e)
       (λ e c w q h ok all. dropping e c w q (renames .drops e c ok (all .0) q) (h ok (all .1)))
-      (λ e e′ c w q h ok all. keeping e e′ c w q (renames .follows e e′ c ok (all .0) q) (h (renames .stays e e′ c ok (all .0) q) (all .1)))
+      (λ e e′ c w q h ok all. keeping e e′ c w q (renames .follows e e′ c ok (all .0) q) (h (renames .invariant e e′ c ok (all .0) q) (all .1)))
 
   pub renamed-suppresses : (e : E) (w : List ℕ) → Ok e → All (λ c. c < codes) w → Suppresses answer e w ↔ Suppresses answer′ (f e) w
   renamed-suppresses =

@@ -18,9 +18,9 @@ use Rattle.synthesis.proofs.Unfolding.AnsweringLaws.{answers-as-defined
 use Rattle.synthesis.proofs.Unfolding.EquationLaws.{tracks-violation}
 use Rattle.synthesis.proofs.Monitors.Runs.{run-induction}
 
-module _ (r : Rule) (wf : WellFormed (length (r .patterns)) [] (r .formula)) where
-  -- ---- unsatisfiable rules
+-- ---- unsatisfiable rules
 
+module _ (r : Rule) (wf : WellFormed (length (r .patterns)) [] (r .formula)) where
   unsatisfiable-opens : (unsatisfiable r ≡ true) ↔ OpensToFalsity (r .formula) 0
   unfolding unsatisfiable
   unsatisfiable-opens = on (eqb (intersection (firstOf r) (falsities 0 (r .formula))) emptySet) refl
@@ -41,7 +41,7 @@ module _ (r : Rule) (wf : WellFormed (length (r .patterns)) [] (r .formula)) whe
     λ v. ⊎-elim (unsatisfiable-opens .1) (λ e. absurd (tracks-violation r wf .end (firstOf r) e)) (rule-violated-iff [] .0 v),
   )
 
-  -- ---- satisfiable rules
+  -- ---- a list violates an equation where the run from it suppresses something
 
   violates-suppresses : (e : ℕ) (w : List ℕ) → ViolatesEquation r e w → Suppresses (answerOf r) e w
   violates-suppresses =
@@ -53,6 +53,8 @@ module _ (r : Rule) (wf : WellFormed (length (r .patterns)) [] (r .formula)) whe
   suppresses-violates : {e : ℕ} {w : List ℕ} → Suppresses (answerOf r) e w → ViolatesEquation r e w
   suppresses-violates (now {e} {c} {w} q) = tracks-violation r wf .step e c w .1 (rw q tt)
   suppresses-violates (later {e} {c = c} {w} q l) = tracks-violation r wf .step e c w .1 (rw q (suppresses-violates l))
+
+  -- ---- satisfiable rules
 
   pub rule-monitors : unsatisfiable r ≡ false → Monitors r (answerOf r) (firstOf r)
   rule-monitors h w bytes = (

@@ -7,6 +7,8 @@ use lib.ListN.{length}
 use Rattle.reading.specs.Rule.{All}
 use Rattle.synthesis.specs.Monitor.{Answer, dropped, next, kept, verdicts, ended}
 
+-- ---- induction over runs
+
 module _ {E : Type 0} (answer : E → ℕ → Answer E) where
   -- What holds of every run: of one over no codes, and from the run over the rest, where the first code is dropped and where it is kept.
   pub run-induction : (P : E → List ℕ → Type 0) → ((e : E) → P e [])
@@ -50,6 +52,8 @@ module _ {E : Type 0} (answer : E → ℕ → Answer E) where
   pub ended-append : (e : E) (w v : List ℕ) → ended answer e (w ++ v) ≡ ended answer (ended answer e w) v
   ended-append e w v = joined e w v .ends
 
+  -- ---- one more code
+
   -- a code that is kept goes last
   pub kept-last : (e : E) (w : List ℕ) (c : ℕ) {e′ : E} → answer (ended answer e w) c ≡ next e′
       → kept answer e (w ++ (c ∷ [])) ≡ kept answer e w ++ (c ∷ [])
@@ -72,6 +76,8 @@ module _ {E : Type 0} (answer : E → ℕ → Answer E) where
   pub verdicts-drop : (e : E) (w : List ℕ) (c : ℕ) → answer (ended answer e w) c ≡ dropped
       → verdicts answer e (w ++ (c ∷ [])) ≡ verdicts answer e w ++ (1 ∷ [])
   verdicts-drop e w c q = verdicts-append e w (c ∷ []) ∙ rw q
+
+  -- ---- a verdict for each code
 
   pub verdicts-length : (e : E) (w : List ℕ) → length (verdicts answer e w) ≡ length w
   verdicts-length =

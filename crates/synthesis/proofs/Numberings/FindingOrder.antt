@@ -17,14 +17,16 @@ use Rattle.synthesis.proofs.Numberings.Indices.{Member, index-is, inser
 use Rattle.synthesis.proofs.Numberings.Finding.{Grows, grows-member, grows-at, grows-length, explored-grows, explored-member, expanded-cases}
 use Rattle.synthesis.proofs.Numberings.Finding.{ClosedBelow, found-closed-below}
 
+-- ---- the order in which codes are asked
+
 before-le : {j c j′ c′ : ℕ} → Before j c j′ c′ → j ≤ j′
 before-le (inl h) = omega arith
 before-le (inr h) = omega (arith, h .0)
 
-module _ (codes : ℕ) (answer : ℕ → ℕ → Answer ℕ) where
-  -- ---- lists that grow
+-- ---- how the equations of a list were found
 
-  -- how an equation was found stays as the list grows
+module _ (codes : ℕ) (answer : ℕ → ℕ → Answer ℕ) where
+  -- it stays so as the list grows
   found-by-grows : (l m : List ℕ) (i : ℕ) → Grows l m → i < length l → FoundBy codes answer l i → FoundBy codes answer m i
   found-by-grows l m i g h f = record {
     equation = f .equation;
@@ -39,6 +41,8 @@ module _ (codes : ℕ) (answer : ℕ → ℕ → Answer ℕ) where
     where
       same : (j : ℕ) → j < length l → getD m j 0 ≡ getD l j 0
       same j k = grows-at l m j g k
+
+  -- ---- one more equation
 
   -- what the codes before code n of equation k lead to is in the list
   abbrev FollowedBefore : ℕ → ℕ → List ℕ → Type 0
@@ -81,7 +85,7 @@ module _ (codes : ℕ) (answer : ℕ → ℕ → Answer ℕ) where
           let z : i ≡ length l = omega (arith, length-append l (e ∷ [])) in
           rw z (found-by-last k c e l h b q followed)
 
-  -- ---- turns
+  -- ---- all codes of one equation
 
   module _ (k : ℕ) (l : List ℕ) (h : k < length l) (closed : ClosedBelow codes answer k l) where
     -- after the first n codes of equation k
@@ -120,6 +124,8 @@ module _ (codes : ℕ) (answer : ℕ → ℕ → Answer ℕ) where
             rw q
             (insert-as-found first k n e m (omega (arith, grows-length l m grows)) b (rw (grows-at l m k grows h) q) (explored-followed n) ih)
 
+  -- ---- the whole search
+
   pub found-as-found : (expansions first : ℕ) → AsFound codes answer first (found codes answer expansions first)
   unfolding found
   found-as-found zero first = record { some = omega arith; starts = refl; found = λ i p h. absurd (omega arith) }
@@ -128,6 +134,8 @@ module _ (codes : ℕ) (answer : ℕ → ℕ → Answer ℕ) where
       let f = found-as-found k first in
       expanded-cases codes answer (AsFound codes answer first) k l
       (λ h. explored-as-found k l h (found-closed-below codes answer k first) first f codes (omega arith)) (λ out. f)
+
+-- ---- the equations of a rule
 
 pub numbered-as-found : NumberedAsFound
 unfolding equationsOf

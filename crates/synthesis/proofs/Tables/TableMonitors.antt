@@ -15,10 +15,10 @@ use Rattle.synthesis.proofs.Numberings.Indices.{Member, index-is}
 use Rattle.synthesis.proofs.Numberings.Finding.{ClosedUnder}
 use Rattle.synthesis.proofs.Tables.FilledTables.{filled-entry}
 
+-- ---- the table renames the equations to their indices
+
 module _ (codes mark : ℕ) (answer : ℕ → ℕ → Answer ℕ) (l : List ℕ) (closed : ClosedUnder codes answer l) (table : List ℕ)
     (room : codes * length l ≤ length table) where
-  -- ---- a table that renames its equations
-
   -- what the table answers in the row of an equation
   entry-of : (e c : ℕ) → Member e l → c < codes
       → lookup codes mark (filled mark answer l codes table) (indexOf e l) c ≡ meaning mark (entryOf mark l (answer e c))
@@ -26,10 +26,10 @@ module _ (codes mark : ℕ) (answer : ℕ → ℕ → Answer ℕ) (l : List ℕ)
 
   pub table-renames : length l ≤ mark
       → Renames codes (λ e. Member e l) answer (lookup codes mark (filled mark answer l codes table)) (λ e. indexOf e l)
-  table-renames few = record { stays = stays; drops = drops; follows = follows }
+  table-renames few = record { invariant = next-member; drops = drops; follows = follows }
     where
-      stays : (e e′ c : ℕ) → Member e l → c < codes → answer e c ≡ next e′ → Member e′ l
-      stays e e′ c m h q = closed (indexOf e l) c e′ m h (rw (index-is e l m) q)
+      next-member : (e e′ c : ℕ) → Member e l → c < codes → answer e c ≡ next e′ → Member e′ l
+      next-member e e′ c m h q = closed (indexOf e l) c e′ m h (rw (index-is e l m) q)
 
       drops : (e c : ℕ) → Member e l → c < codes → answer e c ≡ dropped
           → lookup codes mark (filled mark answer l codes table) (indexOf e l) c ≡ dropped
@@ -38,10 +38,10 @@ module _ (codes mark : ℕ) (answer : ℕ → ℕ → Answer ℕ) (l : List ℕ)
       follows : (e e′ c : ℕ) → Member e l → c < codes → answer e c ≡ next e′
           → lookup codes mark (filled mark answer l codes table) (indexOf e l) c ≡ next (indexOf e′ l)
       follows e e′ c m h q =
-          let m′ = stays e e′ c m h q in
+          let m′ = next-member e e′ c m h q in
           entry-of e c m h ∙ rw (q, ne-eqb (indexOf e′ l) mark (λ z. omega arith))
 
-  -- ---- its entries
+  -- ---- the range of its entries
 
   -- an entry is the mark, or the index of an equation
   pub table-range : (k c : ℕ) → k < length l → c < codes
@@ -52,6 +52,8 @@ module _ (codes mark : ℕ) (answer : ℕ → ℕ → Answer ℕ) (l : List ℕ)
       on : (a : Answer ℕ) → answer (getD l k 0) c ≡ a → (entryOf mark l a ≡ mark) ⊎ (entryOf mark l a < length l)
       on dropped q = inl refl
       on (next e) q = inr (closed k c e h b q)
+
+  -- ---- what its entries answer
 
   -- Each entry, with the equation of its number for the number, is the answer of its row's equation.
   pub table-answers : length l ≤ mark → (k c : ℕ) → k < length l → c < codes

@@ -14,6 +14,8 @@ use Rattle.synthesis.specs.Opening.{Opens, falsity-itself, necessity-its
 use Rattle.synthesis.specs.Opening.{IsFalsity, bodyOf}
 use Rattle.synthesis.proofs.Unfolding.OpeningLaws.{same-node}
 
+-- ---- the maxes around a node
+
 -- the bodies of the maxes around, from max d on
 bodies-from : (ms : List EnclosingMax) (d : ℕ) → d < length ms
     → drop d (map bodyOf ms) ≡ bodyOf (getD ms d noMax) ∷ map bodyOf (drop (suc d) ms)
@@ -21,9 +23,9 @@ bodies-from [] d b = absurd (omega arith)
 bodies-from (m ∷ ms) zero b = refl
 bodies-from (m ∷ ms) (suc d) b = bodies-from ms d (omega arith)
 
-module _ (covered : ℕ → ℕ → Bool) (root : Formula) where
-  -- ---- from what opening gives to the node
+-- ---- violated nodes
 
+module _ (covered : ℕ → ℕ → Bool) (root : Formula) where
   -- the list w violates the formula of node k
   abbrev pub ViolatesNode : ℕ → List ℕ → Type 0
   ViolatesNode k w = (ms : List EnclosingMax) (f : Formula) → Node root k ms f → Violates covered (map bodyOf ms) f w
@@ -31,6 +33,8 @@ module _ (covered : ℕ → ℕ → Bool) (root : Formula) where
   pub violates-node : {k : ℕ} {ms : List EnclosingMax} {f : Formula} {w : List ℕ} → Node root k ms f → Violates covered (map bodyOf ms) f w
       → ViolatesNode k w
   violates-node {w = w} n v ms′ f′ n′ = same-node (λ ms f. Violates covered (map bodyOf ms) f w) n n′ v
+
+  -- ---- from what opening gives to the node
 
   pub opens-violates : {k m : ℕ} {w : List ℕ} → Opens root k m → ViolatesNode m w → ViolatesNode k w
   opens-violates (falsity-itself n) v = v
