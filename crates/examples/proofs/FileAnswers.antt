@@ -16,11 +16,11 @@ use Rattle.synthesis.specs.declared.Counted.{Counted}
 use Rattle.synthesis.specs.declared.Counted.the-variants.{Equations, Refused}
 use Rattle.synthesis.proofs.Tables.FilledTables.{filled-row}
 use Rattle.synthesis.proofs.Tables.SynthesisOutcomes.{accepts-with-equations, refuses-eight, building-enough}
-use Rattle.examples.specs.Examples.{Answers, Refuses, Reads}
+use Rattle.examples.specs.Examples.{CountedAs, Refuses, ReadAs}
 
 module _ (s : List ℕ) where
   -- with room for the rows, building answers as counting does
-  answers : (answer : Counted) → countedOf (synthesisOf 128 s) ≡ answer → Answers s answer
+  answers : (answer : Counted) → countedOf (synthesisOf 128 s) ≡ answer → CountedAs s answer
   answers answer e = record { counting = e; building = λ table room. rw (building-enough 128 s (length table) room) e }
 
   pub refuses : (number place : ℕ) → ruleOf s ≡ refused number place → Refuses s number place
@@ -28,14 +28,14 @@ module _ (s : List ℕ) where
   refuses number place read = record { reading = read; answers = answers (Refused number place) (rw read) }
 
   module _ (r : Rule) (read : ruleOf s ≡ accepted r) where
-    pub reads-unsatisfiable : unsatisfiable r ≡ true → Reads s r (Refused 8 0)
+    pub reads-unsatisfiable : unsatisfiable r ≡ true → ReadAs s r (Refused 8 0)
     reads-unsatisfiable h = record { reading = read; answers = answers (Refused 8 0) (rw (refuses-eight 128 s r read h)) }
 
     module _ (satisfiable : unsatisfiable r ≡ false) (l : List ℕ) (equations : equationsOf 128 r ≡ l) (few : length l ≤ 128) where
       synthesis : synthesisOf 128 s ≡ accepted (withEquations 128 r)
       synthesis = accepts-with-equations 128 s r read satisfiable (rw equations few)
 
-      pub reads : Reads s r (Equations (length l))
+      pub reads : ReadAs s r (Equations (length l))
       reads = record { reading = read; answers = answers (Equations (length l)) (rw (synthesis, equations)) }
 
       pub row-left : (table : List ℕ) → 32768 ≤ length table → (k : ℕ) → k < length l
@@ -45,7 +45,7 @@ module _ (s : List ℕ) where
           (filled-row 255 (answerOf r) l 256 table (omega arith) k h)
 
 -- a file that is read and counted builds
-pub reads-builds : (s : List ℕ) (r : Rule) (n : ℕ) → Reads s r (Equations n) → Bytes s → (table : List ℕ) → 32768 ≤ length table
+pub reads-builds : (s : List ℕ) (r : Rule) (n : ℕ) → ReadAs s r (Equations n) → Bytes s → (table : List ℕ) → 32768 ≤ length table
     → Builds 128 255 s table r n (tableLeft 128 255 s table)
 reads-builds s r n file bytes table room =
     record { below = omega arith; bytes = bytes; read = file .reading; counted = file .answers .building table room; left-is = refl }

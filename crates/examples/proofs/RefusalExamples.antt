@@ -13,7 +13,7 @@ use Rattle.synthesis.specs.declared.Counted.the-variants.{Equations}
 use Rattle.synthesis.proofs.Tables.Built.{builds-outcome}
 use Rattle.models.specs.Phone.{statesOf, phoneOf}
 use Rattle.models.specs.Judging.{judgingOf}
-use Rattle.examples.specs.Examples.{pattern, rule, Reads}
+use Rattle.examples.specs.Examples.{pattern, rule, ReadAs}
 use Rattle.examples.specs.RefusalExamples.{times, RuleRefusals, RefusesModel, ModelRefusals, RefusalExamples}
 use Rattle.examples.proofs.FileAnswers.{refuses, reads}
 use Rattle.examples.proofs.NumberPool.{pool-builds}
@@ -25,7 +25,7 @@ below-both : Rule
 below-both = rule (pattern 255 0 31 ∷ []) (max (max (necessity 0 (variable 1))))
 
 -- node 2 alone, which every code leads back to
-guards-both : Reads (1 ∷ 255 ∷ 0 ∷ 31 ∷ 6 ∷ 6 ∷ 5 ∷ 0 ∷ 7 ∷ 1 ∷ []) below-both (Equations 1)
+guards-both : ReadAs (1 ∷ 255 ∷ 0 ∷ 31 ∷ 6 ∷ 6 ∷ 5 ∷ 0 ∷ 7 ∷ 1 ∷ []) below-both (Equations 1)
 unfolding below-both ruleOf recordsAt formulaOf formulaAt unsatisfiable equationsOf found explored firstOf answerOf bit covers
 guards-both = reads _ _ refl refl (4 ∷ []) refl (omega arith)
 
@@ -33,7 +33,7 @@ between : Rule
 between = rule (pattern 255 0 31 ∷ []) (max (necessity 0 (max (variable 1))))
 
 -- node 1 alone, likewise
-guards-outer : Reads (1 ∷ 255 ∷ 0 ∷ 31 ∷ 6 ∷ 5 ∷ 0 ∷ 6 ∷ 7 ∷ 1 ∷ []) between (Equations 1)
+guards-outer : ReadAs (1 ∷ 255 ∷ 0 ∷ 31 ∷ 6 ∷ 5 ∷ 0 ∷ 6 ∷ 7 ∷ 1 ∷ []) between (Equations 1)
 unfolding between ruleOf recordsAt formulaOf formulaAt unsatisfiable equationsOf found explored firstOf answerOf bit covers
 guards-outer = reads _ _ refl refl (2 ∷ []) refl (omega arith)
 

@@ -62,19 +62,19 @@ pub record KindBytes : Type 0 where
 -- ---- what is said of a file
 
 -- Counting answers so, and building too with every table of at least 32,768 bytes.
-pub record Answers (s : List ℕ) (answer : Counted) : Type 0 where
+pub record CountedAs (s : List ℕ) (answer : Counted) : Type 0 where
   pub counting : countedOf (synthesisOf 128 s) ≡ answer
   pub building : (table : List ℕ) → 32768 ≤ length table → countedOf (buildingOf 128 s (length table)) ≡ answer
 
 -- reading refuses the file, and so do counting and building
 pub record Refuses (s : List ℕ) (number place : ℕ) : Type 0 where
   pub reading : ruleOf s ≡ refused number place
-  pub answers : Answers s (Refused number place)
+  pub answers : CountedAs s (Refused number place)
 
 -- reading accepts the file as this rule, and counting and building answer so
-pub record Reads (s : List ℕ) (r : Rule) (answer : Counted) : Type 0 where
+pub record ReadAs (s : List ℕ) (r : Rule) (answer : Counted) : Type 0 where
   pub reading : ruleOf s ≡ accepted r
-  pub answers : Answers s answer
+  pub answers : CountedAs s answer
 
 -- a table under 32,768 bytes, whatever the file: 10 at 0
 abbrev pub ShortTable : Type 0
@@ -92,7 +92,7 @@ poolRule =
 
 -- its bytes say this rule, which has 3 equations; and the lowest code and the count of each of its patterns
 pub record NumberPool : Type 0 where
-  pub file : Reads poolFile poolRule (Equations 3)
+  pub file : ReadAs poolFile poolRule (Equations 3)
   pub extents : map extentOf (poolRule .patterns) ≡ extent 37 1 ∷ extent 5 1 ∷ extent 128 32 ∷ []
 
 -- what `equations` prints
@@ -144,10 +144,10 @@ pub record SmallFiles : Type 0 where
   -- * empty: 1 at 0
   pub empty : Refuses [] 1 0
   -- * 2: one equation, every entry 0
-  pub truth-alone : Reads (2 ∷ []) (rule [] truth) (Equations 1)
+  pub truth-alone : ReadAs (2 ∷ []) (rule [] truth) (Equations 1)
   pub truth-entries : (table : List ℕ) → 32768 ≤ length table → rowOf 256 (tableLeft 128 255 (2 ∷ []) table) 0 ≡ replicate 256 0
   -- * 3: 8 at 0
-  pub falsity-alone : Reads (3 ∷ []) (rule [] falsity) (Refused 8 0)
+  pub falsity-alone : ReadAs (3 ∷ []) (rule [] falsity) (Refused 8 0)
   -- * 2 2: 3 at 1
   pub byte-after : Refuses (2 ∷ 2 ∷ []) 3 1
   -- * 0: 2 at 0
@@ -163,7 +163,7 @@ pub record SmallFiles : Type 0 where
   -- * 1 1 6 5 2: 5 at 0
   pub first-over-last : Refuses (1 ∷ 1 ∷ 6 ∷ 5 ∷ 2 ∷ []) 5 0
   -- * 1 1 31 31 2: accepted, lowest 31
-  pub last-slot : Reads (1 ∷ 1 ∷ 31 ∷ 31 ∷ 2 ∷ []) (rule (pattern 1 31 31 ∷ []) truth) (Equations 1)
+  pub last-slot : ReadAs (1 ∷ 1 ∷ 31 ∷ 31 ∷ 2 ∷ []) (rule (pattern 1 31 31 ∷ []) truth) (Equations 1)
   pub last-slot-lowest : extentOf (pattern 1 31 31) .lowest ≡ 31
 
 -- ---- a run

@@ -17,7 +17,7 @@ use Rattle.models.specs.Judging.{judgingOf, JudgedAs}
 use Rattle.models.specs.declared.Step.{Step}
 use Rattle.models.specs.declared.Judged.{Judged}
 use Rattle.models.specs.declared.Judged.the-variants.{Meets, Breaks}
-use Rattle.examples.specs.Examples.{pattern, rule, Reads, poolFile, poolRule}
+use Rattle.examples.specs.Examples.{pattern, rule, ReadAs, poolFile, poolRule}
 
 -- label 256 is silent
 abbrev pub step : (from label to : ℕ) → Step
@@ -90,7 +90,7 @@ shorteningPhone = record { states = 3; steps = step 0 5 1 ∷ step 1 6 2 ∷ [] 
 
 -- the bare phone's whole trace, which violates the rule, and what is left of it
 pub record Shortening : Type 0 where
-  pub rule-file : Reads neverFile neverRule (Equations 2)
+  pub rule-file : ReadAs neverFile neverRule (Equations 2)
   pub model-file : phoneOf shorteningFile ≡ accepted shorteningPhone
   pub bare : Walk (modelOf shorteningPhone) 0 (5 ∷ 6 ∷ []) 2
   pub violating : ViolatesRule neverRule (5 ∷ 6 ∷ [])

@@ -9,7 +9,7 @@ use Rattle.synthesis.specs.Monitor.{rowOf}
 use Rattle.synthesis.specs.Building.{tableLeft}
 use Rattle.synthesis.specs.declared.Counted.the-variants.{Equations}
 use Rattle.listing.specs.Text.{text}
-use Rattle.examples.specs.Examples.{pattern, rule, Reads, poolListing}
+use Rattle.examples.specs.Examples.{pattern, rule, ReadAs, poolListing}
 use Rattle.examples.specs.NumberingExamples.{Numbers}
 
 -- ---- the variable of either max
@@ -63,7 +63,7 @@ pub record NodeExamples : Type 0 where
   -- depth 1: what is listed is what the number-pool rule has
   pub outer-max : Numbers (nestedFile 1) (nestedRule 1) nestedSets poolListing
   -- depth 0: in equation 2, a sync leads back to equation 2
-  pub inner-max : Reads (nestedFile 0) (nestedRule 0) (Equations 3)
+  pub inner-max : ReadAs (nestedFile 0) (nestedRule 0) (Equations 3)
   pub inner-row : (table : List ℕ) → 32768 ≤ length table
       → rowOf 256 (tableLeft 128 255 (nestedFile 0) table) 2 ≡ replicate 5 1 ++ 255 ∷ replicate 122 1 ++ replicate 32 2 ++ replicate 96 1
   pub twice : Numbers twiceFile twiceRule twiceSets twiceListing

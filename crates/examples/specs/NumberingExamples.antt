@@ -9,11 +9,11 @@ use Rattle.synthesis.specs.Building.{equationsOf, tableLeft}
 use Rattle.synthesis.specs.declared.Counted.the-variants.{Equations}
 use Rattle.listing.specs.Text.{text}
 use Rattle.listing.specs.Lines.{listing}
-use Rattle.examples.specs.Examples.{pattern, rule, Reads}
+use Rattle.examples.specs.Examples.{pattern, rule, ReadAs}
 
 -- a file's rule, its equations as sets of nodes in their order, and what is listed of every table that building leaves
 pub record Numbers (s : List ℕ) (r : Rule) (sets lines : List ℕ) : Type 0 where
-  pub file : Reads s r (Equations (length sets))
+  pub file : ReadAs s r (Equations (length sets))
   pub equations : equationsOf 128 r ≡ sets
   pub listed : (table : List ℕ) → 32768 ≤ length table → listing (map extentOf (r .patterns)) (length sets) (tableLeft 128 255 s table) ≡ lines
 

@@ -8,7 +8,7 @@ use Rattle.reading.specs.File.{refused}
 use Rattle.synthesis.specs.declared.Counted.the-variants.{Equations}
 use Rattle.models.specs.Phone.{phoneOf}
 use Rattle.models.specs.declared.Judged.the-variants.{Refused}
-use Rattle.examples.specs.Examples.{pattern, rule, Refuses, Reads}
+use Rattle.examples.specs.Examples.{pattern, rule, Refuses, ReadAs}
 use Rattle.examples.specs.ModelExamples.{JudgesPool}
 
 -- n times some bytes, before the rest
@@ -59,8 +59,8 @@ pub record RuleRefusals : Type 0 where
   pub guard-outer : Refuses (1 ∷ 1 ∷ 5 ∷ 5 ∷ 6 ∷ 5 ∷ 0 ∷ 6 ∷ 7 ∷ 0 ∷ []) 7 8
   pub guard-beside : Refuses (1 ∷ 1 ∷ 5 ∷ 5 ∷ 6 ∷ 4 ∷ 5 ∷ 0 ∷ 7 ∷ 0 ∷ 7 ∷ 0 ∷ []) 7 10
   -- no 7: a necessity below two maxes guards the outer one too, and one between them guards the outer one alone
-  pub guards-both : Reads (1 ∷ 255 ∷ 0 ∷ 31 ∷ 6 ∷ 6 ∷ 5 ∷ 0 ∷ 7 ∷ 1 ∷ []) (rule (pattern 255 0 31 ∷ []) (max (max (necessity 0 (variable 1))))) (Equations 1)
-  pub guards-outer : Reads (1 ∷ 255 ∷ 0 ∷ 31 ∷ 6 ∷ 5 ∷ 0 ∷ 6 ∷ 7 ∷ 1 ∷ []) (rule (pattern 255 0 31 ∷ []) (max (necessity 0 (max (variable 1))))) (Equations 1)
+  pub guards-both : ReadAs (1 ∷ 255 ∷ 0 ∷ 31 ∷ 6 ∷ 6 ∷ 5 ∷ 0 ∷ 7 ∷ 1 ∷ []) (rule (pattern 255 0 31 ∷ []) (max (max (necessity 0 (variable 1))))) (Equations 1)
+  pub guards-outer : ReadAs (1 ∷ 255 ∷ 0 ∷ 31 ∷ 6 ∷ 5 ∷ 0 ∷ 6 ∷ 7 ∷ 1 ∷ []) (rule (pattern 255 0 31 ∷ []) (max (necessity 0 (max (variable 1))))) (Equations 1)
 
 -- ---- model files
 

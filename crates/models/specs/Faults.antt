@@ -31,14 +31,14 @@ pub record BeginsModel (f : List ℕ) : Type 0 where
 abbrev pub IsCount : ℕ → Type 0
 IsCount k = k ≡ statesKind
 
-abbrev pub NoCount : ℕ → Type 0
-NoCount k = IsCount k → ⊥
+abbrev pub NotCount : ℕ → Type 0
+NotCount k = IsCount k → ⊥
 
 abbrev pub IsStep : ℕ → Type 0
 IsStep k = (k ≡ codeStepKind) ⊎ (k ≡ silentStepKind)
 
-abbrev pub NoStep : ℕ → Type 0
-NoStep k = IsStep k → ⊥
+abbrev pub NotStep : ℕ → Type 0
+NotStep k = IsStep k → ⊥
 
 -- the place after the step that begins at `at`, by its kind
 abbrev pub afterStep : List ℕ → (at : ℕ) → ℕ
@@ -51,9 +51,9 @@ pub data Fault (f : List ℕ) : (number place : ℕ) → Type 0 where
   count-cut : KindAt f 0 IsCount → length f < 2 → Fault f 11 (length f)
   step-cut : {at n : ℕ} → ModelBefore f at n → KindAt f at IsStep → n < 512 → length f < afterStep f at → Fault f 11 (length f)
   -- 12: another kind than the one that is due, or a count that isn't 1 to 64
-  not-count : KindAt f 0 NoCount → Fault f 12 0
+  not-count : KindAt f 0 NotCount → Fault f 12 0
   bad-count : KindAt f 0 IsCount → 2 ≤ length f → (getD f 1 0 ≡ 0) ⊎ (64 < getD f 1 0) → Fault f 12 0
-  not-step : {at n : ℕ} → ModelBefore f at n → KindAt f at NoStep → Fault f 12 at
+  not-step : {at n : ℕ} → ModelBefore f at n → KindAt f at NotStep → Fault f 12 at
   -- 13: a step with which no model begins
   bad-step : {at n : ℕ} → ModelBefore f at n → KindAt f at IsStep → n < 512 → afterStep f at ≤ length f
       → (BeginsModel (take (afterStep f at) f) → ⊥) → Fault f 13 at

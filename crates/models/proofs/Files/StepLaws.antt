@@ -9,7 +9,7 @@ use borrow.Author.Tests.{leb-false, eqb-true, eqb-false}
 use Rattle.reading.specs.File.{accepted}
 use Rattle.reading.proofs.Basics.Outcomes.{accepted-is, refuse-accepted, or-eq-false}
 use Rattle.models.specs.Phone.{codeStepKind, silentStepKind, isStep, among, recordLength}
-use Rattle.models.specs.Faults.{IsStep, NoStep}
+use Rattle.models.specs.Faults.{IsStep, NotStep}
 use Rattle.models.specs.declared.Step.{Step}
 
 -- the kinds of steps, as they are tested
@@ -20,7 +20,7 @@ tested-step k = on (eqb k codeStepKind) refl
     on true is e = inl (eqb-true k codeStepKind is)
     on false is e = inr (eqb-true k silentStepKind e)
 
-pub tested-no-step : (k : ℕ) → isStep k ≡ false → NoStep k
+pub tested-no-step : (k : ℕ) → isStep k ≡ false → NotStep k
 tested-no-step k e (inl code) = eqb-false k codeStepKind (or-eq-false (eqb k codeStepKind) (eqb k silentStepKind) e .0) code
 tested-no-step k e (inr silent) = eqb-false k silentStepKind (or-eq-false (eqb k codeStepKind) (eqb k silentStepKind) e .1) silent
 
