@@ -7,6 +7,8 @@ pub mod Answering
 pub mod Search
 pub mod Table
 pub mod Building
+pub mod Reason
+pub mod ReasonPromises
 pub mod Promises
 pub mod Arrays
 pub mod Plans

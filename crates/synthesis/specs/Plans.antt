@@ -1,8 +1,8 @@
--- What the crate's own functions say of the plan for a table.
-use Prim.Native.Nat.{_≤_}
+-- What the crate's own functions say of the plan for a table, and of what is read off it.
+use Prim.Native.Nat.{ℕ, _≤_}
 use mathlib.Core.Path.{_≡_}
 use lib.ListN.{length, take}
-use Rattle.reading.specs.File.{Outcome, accepted, refused}
+use Rattle.reading.specs.File.{Outcome, accepted, refused, byCase}
 use Rattle.reading.specs.declared.FileRead.{FileRead}
 use Rattle.reading.specs.declared.FileRead.the-variants.{Accepted, Refused}
 use Rattle.synthesis.specs.Building.{Synthesis, countedOf}
@@ -10,6 +10,10 @@ use Rattle.synthesis.specs.Arrays.{IsGraph}
 use Rattle.synthesis.specs.declared.Counted.{Counted}
 use Rattle.synthesis.specs.declared.Counted.the-variants as counted
 use Rattle.synthesis.specs.declared.Plan.{Plan}
+use Rattle.synthesis.specs.declared.Reason.{Reason}
+use Rattle.synthesis.specs.declared.Reason.the-variants as Reason′
+use Rattle.synthesis.specs.declared.explaining.Followed.{Followed}
+use Rattle.synthesis.specs.declared.explaining.Followed.the-variants as Followed′
 
 -- The refusal of a file that couldn't be read; one that could isn't asked for.
 abbrev pub refusalOf : FileRead → Counted
@@ -31,3 +35,14 @@ CanFill (refused number place) p = Unit
 pub record IsPlan (o : Outcome Synthesis) (p : Plan) : Type 0 where
   pub answer-is : p .answer ≡ countedOf o
   pub fills : CanFill o p
+
+-- ---- reasons
+
+-- where scans lead
+abbrev pub followedOf : Outcome ℕ → Followed
+followedOf = byCase Followed′.Equation Followed′.Refused
+
+-- The refusal of a file that has no count; of one that has, it isn't asked for.
+abbrev pub unexplained : Counted → Reason
+unexplained (counted.Equations n) = Reason′.Refused 0 0
+unexplained (counted.Refused number place) = Reason′.Refused number place

@@ -1,14 +1,17 @@
 // Builds the monitor of a rule as a table. The definitions that the contracts cite stand in specs/.
+mod explaining;
 mod filling;
 mod graph;
 mod search;
 
+use explaining::Followed;
 use graph::Graph;
 use reading::FileRead;
 ghost use mathlib.Core.Path.{_≡_};
 ghost use lib.ListN.{length};
 ghost use Rattle.synthesis.specs.Monitor.{rowOf};
 ghost use Rattle.synthesis.specs.Building.{synthesisOf, buildingOf, countedOf, tableAfter};
+ghost use Rattle.synthesis.specs.Reason.{explanationOf, reasonOf};
 ghost use Rattle.synthesis.specs.Plans.{refusalOf, IsPlan};
 
 // The entry of a code that is dropped.
@@ -17,6 +20,13 @@ pub const DROPPED: u8 = 255;
 // What is said of a rule file: how many equations its rule has, or a refusal with a number and a place.
 pub enum Counted {
     Equations(usize),
+    Refused(u8, usize),
+}
+
+// Why a scan is dropped: a kept one has no reason, and that of a dropped one is the number of an ff node; or a refusal with a number and a place.
+pub enum Reason {
+    Kept,
+    Node(u8),
     Refused(u8, usize),
 }
 
@@ -115,4 +125,28 @@ pub fn row(table: &[u8], k: usize) -> &[u8]
         return &table[from..to];
     }
     &table[0..0]
+}
+
+// Answers why a scan is dropped after the scans kept so far: the lowest ff node that it opens. A refusal of 1 to 9, or 17 where the kept scans
+// violate the rule themselves.
+pub fn explain(rule: &[u8], kept: &[u8], scan: u8) -> Reason
+    ensures { λ r. ⌜ r ≡ reasonOf (explanationOf 128 (now (rule .entry)) (now (kept .entry)) scan) ⌝ }
+{
+    let plan = plan_of(rule);
+    let answer = plan.answer;
+    let Counted::Equations(_) = answer else {
+        return explaining::unexplained(answer);
+    };
+    let graph = plan.graph;
+    let after = graph.after;
+    let enabled = graph.enabled;
+    let falsities = graph.falsities;
+    let followed = explaining::follow(&after, &enabled, falsities, graph.first, kept);
+    match followed {
+        Followed::Equation(e) => {
+            let reached = search::reached(&after, &enabled, e, scan as usize);
+            explaining::lowest(reached & falsities)
+        }
+        Followed::Refused(number, place) => Reason::Refused(number, place),
+    }
 }

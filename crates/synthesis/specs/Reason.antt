@@ -1,0 +1,87 @@
+-- Why a scan is dropped: the ff nodes at which a list of codes violates a rule, and what the desk is told. Nodes are known by their numbers, and
+-- patterns have none. The limit on equations is any; the paper's is 128.
+use Prim.Native.Nat.{ℕ, suc, _+_, _≤_, _<_}
+use mathlib.Core.Path.{_≡_}
+use mathlib.Core.Bool.{true, cond}
+use mathlib.Core.List.{List, [], _∷_}
+use lib.Dec.{eqb}
+use lib.ListN.{length, getD}
+use Rattle.reading.specs.Pattern.{least}
+use Rattle.reading.specs.Rule.{Formula, falsity, both, necessity, max, variable, size, Rule}
+use Rattle.reading.specs.File.{Outcome, accepted, refused, andThen}
+use Rattle.reading.specs.Nodes.{EnclosingMax, noMax, Node}
+use Rattle.synthesis.specs.Violation.{coveredBy}
+use Rattle.synthesis.specs.Monitor.{Answer, cases}
+use Rattle.synthesis.specs.NodeSet.{has, emptySet, intersection}
+use Rattle.synthesis.specs.Opening.{IsFalsity, Leads}
+use Rattle.synthesis.specs.Answering.{falsities, reached, firstOf, answerOf}
+use Rattle.synthesis.specs.Building.{synthesisOf}
+use Rattle.synthesis.specs.declared.Reason.{Reason}
+use Rattle.synthesis.specs.declared.Reason.the-variants.{Kept, Node as AtNode, Refused}
+
+-- ---- by violation
+
+-- The list w violates node k of a rule, and m is the ff node where it does. Each clause is one of violation, with nodes by number.
+pub data ViolatesAt (r : Rule) : (k : ℕ) → (w : List ℕ) → (m : ℕ) → Type 0 where
+  at-falsity : {k : ℕ} {ms : List EnclosingMax} {w : List ℕ} → Node (r .formula) k ms falsity → ViolatesAt r k w k
+  in-first : {k m : ℕ} {ms : List EnclosingMax} {f g : Formula} {w : List ℕ} → Node (r .formula) k ms (both f g)
+      → ViolatesAt r (suc k) w m → ViolatesAt r k w m
+  in-second : {k m : ℕ} {ms : List EnclosingMax} {f g : Formula} {w : List ℕ} → Node (r .formula) k ms (both f g)
+      → ViolatesAt r (k + suc (size f)) w m → ViolatesAt r k w m
+  after-code : {k m p c : ℕ} {ms : List EnclosingMax} {f : Formula} {w : List ℕ} → Node (r .formula) k ms (necessity p f)
+      → coveredBy (r .patterns) p c ≡ true → ViolatesAt r (suc k) w m → ViolatesAt r k (c ∷ w) m
+  in-body : {k m : ℕ} {ms : List EnclosingMax} {f : Formula} {w : List ℕ} → Node (r .formula) k ms (max f)
+      → ViolatesAt r (suc k) w m → ViolatesAt r k w m
+  in-variable : {k m d : ℕ} {ms : List EnclosingMax} {w : List ℕ} → Node (r .formula) k ms (variable d) → d < length ms
+      → ViolatesAt r (suc (getD ms d noMax .number)) w m → ViolatesAt r k w m
+
+-- the lowest number of which this holds
+pub record Lowest (P : ℕ → Type 0) (m : ℕ) : Type 0 where
+  pub holds : P m
+  pub lowest : (n : ℕ) → P n → m ≤ n
+
+-- the lowest ff node at which a list violates a rule
+abbrev pub LowestPlace : Rule → (w : List ℕ) → (m : ℕ) → Type 0
+LowestPlace r w = Lowest (ViolatesAt r 0 w)
+
+-- ---- by opening
+
+-- m is an ff node to which some member of the equation e leads under c
+abbrev pub OpensFalsity : Rule → (e c m : ℕ) → Type 0
+OpensFalsity r e c m = Leads r e c m × IsFalsity (r .formula) m
+
+abbrev pub LowestOpened : Rule → (e c m : ℕ) → Type 0
+LowestOpened r e c = Lowest (OpensFalsity r e c)
+
+-- ---- what the desk is told
+
+-- a kept scan has no reason, and that of a dropped one is an ff node
+pub data Explanation : Type 0 where
+  no-reason : Explanation
+  falsity-node : ℕ → Explanation
+
+-- by the ff nodes that the scan opens, the lowest of them; a rule has at most 64 nodes
+abbrev pub lowestOf : (set : ℕ) → Explanation
+lowestOf set = cond (eqb set emptySet) no-reason (falsity-node (least 64 (has set)))
+
+-- the ff nodes that the members of e open under c
+unfoldable pub openedFalsities : Rule → (e c : ℕ) → ℕ
+openedFalsities r e c = intersection (reached (coveredBy (r .patterns)) e c 0 [] (r .formula)) (falsities 0 (r .formula))
+
+-- The equation to which scans lead from e, `i` others having come before; 17 at the first of them that is dropped.
+abbrev pub followed : (answer : ℕ → ℕ → Answer ℕ) → (e i : ℕ) → (scans : List ℕ) → Outcome ℕ
+followed answer e i [] = accepted e
+followed answer e i (c ∷ w) = cases (answer e c) (refused 17 i) (λ e′. followed answer e′ (suc i) w)
+
+-- The explanation of a scan after the scans w: 1 to 9 as counting has them, then 17.
+unfoldable pub explanationOf : (limit : ℕ) → (rule w : List ℕ) → (scan : ℕ) → Outcome Explanation
+explanationOf limit s w c =
+    andThen (synthesisOf limit s) (λ y.
+    andThen (followed (answerOf (y .rule)) (firstOf (y .rule)) 0 w) (λ e.
+    accepted (lowestOf (openedFalsities (y .rule) e c))))
+
+-- The answer of each outcome: kept, the number of an ff node, or the refusal with the paper's number and place.
+abbrev pub reasonOf : Outcome Explanation → Reason
+reasonOf (accepted no-reason) = Kept
+reasonOf (accepted (falsity-node m)) = AtNode m
+reasonOf (refused number place) = Refused number place

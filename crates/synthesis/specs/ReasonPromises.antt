@@ -1,0 +1,52 @@
+-- What this crate promises of reasons, as statements over the definitions. The limit on equations is any; with 128 these are the terms of the contract
+-- of `explain`.
+use Prim.Native.Nat.{ℕ, suc, _<_}
+use mathlib.Core.Path.{_≡_}
+use mathlib.Core.Logic.{_↔_, _⊎_}
+use mathlib.Core.List.{List, [], _∷_, _++_}
+use lib.ListN.{length, take}
+use Rattle.reading.specs.Rule.{WellFormed, Rule, Bytes}
+use Rattle.reading.specs.File.{accepted, ruleOf}
+use Rattle.synthesis.specs.Violation.{ViolatesRule}
+use Rattle.synthesis.specs.Monitor.{ended}
+use Rattle.synthesis.specs.Opening.{IsFalsity}
+use Rattle.synthesis.specs.Answering.{firstOf, answerOf}
+use Rattle.synthesis.specs.Building.{synthesisOf, countedOf}
+use Rattle.synthesis.specs.Reason.{ViolatesAt, LowestPlace, LowestOpened, explanationOf, reasonOf}
+use Rattle.synthesis.specs.declared.Counted.the-variants as Counted
+use Rattle.synthesis.specs.declared.Reason.{Reason}
+use Rattle.synthesis.specs.declared.Reason.the-variants.{Kept, Node, Refused}
+
+-- ---- places add nothing to violation
+
+-- A list violates a well-formed rule exactly when it does so at some node, and each such node is ff.
+pub record Placed (r : Rule) : Type 0 where
+  pub somewhere : (w : List ℕ) → ViolatesRule r w ↔ ((m : ℕ) × ViolatesAt r 0 w m)
+  pub at-falsities : (k : ℕ) (w : List ℕ) (m : ℕ) → ViolatesAt r k w m → IsFalsity (r .formula) m
+
+abbrev pub ViolatesSomewhere : Type 0
+ViolatesSomewhere = (r : Rule) → WellFormed (length (r .patterns)) [] (r .formula) → Placed r
+
+-- ---- what is said of the scan c after the scans w
+
+pub record Explained (r : Rule) (w : List ℕ) (c : ℕ) (reason : Reason) : Type 0 where
+  -- 17 stands at the last scan of the shortest front that violates the rule
+  pub unfit : (i : ℕ) → (reason ≡ Refused 17 i) ↔ ((i < length w) × (ViolatesRule r (take i w) → ⊥) × ViolatesRule r (take (suc i) w))
+  -- a scan is kept that doesn't violate the rule after them
+  pub kept : (reason ≡ Kept) ↔ (ViolatesRule r (w ++ (c ∷ [])) → ⊥)
+  -- a node is the lowest at which they violate the rule together, where those before don't
+  pub node : (m : ℕ) → (reason ≡ Node m) ↔ ((ViolatesRule r w → ⊥) × LowestPlace r (w ++ (c ∷ [])) m)
+  -- it is the lowest that the scan opens in the equation to which they lead
+  pub opened : (m : ℕ) → reason ≡ Node m → LowestOpened r (ended (answerOf r) (firstOf r) w) c m
+  -- nothing else is said
+  pub only : (reason ≡ Kept) ⊎ (((m : ℕ) × (reason ≡ Node m)) ⊎ ((i : ℕ) × (reason ≡ Refused 17 i)))
+
+-- Where counting refuses the rule file, `explain` does so with the same number and place; and else it explains.
+pub record Reasons (limit : ℕ) (s w : List ℕ) (c : ℕ) : Type 0 where
+  pub refused : (number place : ℕ) → countedOf (synthesisOf limit s) ≡ Counted.Refused number place
+      → reasonOf (explanationOf limit s w c) ≡ Refused number place
+  pub explained : (r : Rule) (n : ℕ) → ruleOf s ≡ accepted r → countedOf (synthesisOf limit s) ≡ Counted.Equations n
+      → Explained r w c (reasonOf (explanationOf limit s w c))
+
+abbrev pub ReasonsExactly : Type 0
+ReasonsExactly = (limit : ℕ) (s : List ℕ) → Bytes s → (w : List ℕ) (c : ℕ) → Reasons limit s w c
