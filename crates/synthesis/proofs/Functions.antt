@@ -11,3 +11,4 @@ pub mod EnabledLaws
 pub mod GraphLaws
 pub mod PlanLaws
 pub mod BuildingWays
+pub mod FollowingScans

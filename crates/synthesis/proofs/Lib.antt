@@ -3,5 +3,6 @@ pub mod Unfolding
 pub mod Monitors
 pub mod Numberings
 pub mod Tables
+pub mod Reasons
 pub mod Functions
 pub mod Promises

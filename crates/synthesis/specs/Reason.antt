@@ -73,12 +73,13 @@ abbrev pub followed : (answer : ℕ → ℕ → Answer ℕ) → (e i : ℕ) → 
 followed answer e i [] = accepted e
 followed answer e i (c ∷ w) = cases (answer e c) (refused 17 i) (λ e′. followed answer e′ (suc i) w)
 
--- The explanation of a scan after the scans w: 1 to 9 as counting has them, then 17.
-unfoldable pub explanationOf : (limit : ℕ) → (rule w : List ℕ) → (scan : ℕ) → Outcome Explanation
-explanationOf limit s w c =
-    andThen (synthesisOf limit s) (λ y.
-    andThen (followed (answerOf (y .rule)) (firstOf (y .rule)) 0 w) (λ e.
-    accepted (lowestOf (openedFalsities (y .rule) e c))))
+-- The explanation of the scan c after the scans w, from the first equation on.
+abbrev pub explanationOfRule : Rule → (w : List ℕ) → (c : ℕ) → Outcome Explanation
+explanationOfRule r w c = andThen (followed (answerOf r) (firstOf r) 0 w) (λ e. accepted (lowestOf (openedFalsities r e c)))
+
+-- The same for a rule file: 1 to 9 as counting has them, and then 17.
+unfoldable pub explanationOf : (limit : ℕ) → (s w : List ℕ) → (c : ℕ) → Outcome Explanation
+explanationOf limit s w c = andThen (synthesisOf limit s) (λ y. explanationOfRule (y .rule) w c)
 
 -- The answer of each outcome: kept, the number of an ff node, or the refusal with the paper's number and place.
 abbrev pub reasonOf : Outcome Explanation → Reason

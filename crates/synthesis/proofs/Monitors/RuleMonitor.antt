@@ -21,7 +21,7 @@ use Rattle.synthesis.proofs.Monitors.Runs.{run-induction}
 -- ---- unsatisfiable rules
 
 module _ (r : Rule) (wf : WellFormed (length (r .patterns)) [] (r .formula)) where
-  unsatisfiable-opens : (unsatisfiable r ≡ true) ↔ OpensToFalsity (r .formula) 0
+  pub unsatisfiable-opens : (unsatisfiable r ≡ true) ↔ OpensToFalsity (r .formula) 0
   unfolding unsatisfiable
   unsatisfiable-opens = on (eqb (intersection (firstOf r) (falsities 0 (r .formula))) emptySet) refl
     where
@@ -56,8 +56,11 @@ module _ (r : Rule) (wf : WellFormed (length (r .patterns)) [] (r .formula)) whe
 
   -- ---- satisfiable rules
 
-  pub rule-monitors : unsatisfiable r ≡ false → Monitors r (answerOf r) (firstOf r)
-  rule-monitors h w bytes = (
+  pub violated-iff-suppressed : unsatisfiable r ≡ false → (w : List ℕ) → ViolatesRule r w ↔ Suppresses (answerOf r) (firstOf r) w
+  violated-iff-suppressed h w = (
     λ v. ⊎-elim (λ o. absurd (true≢false (sym (unsatisfiable-opens .1 o) ∙ h))) (violates-suppresses (firstOf r) w) (rule-violated-iff w .0 v),
     λ l. rule-violated-iff w .1 (inr (suppresses-violates l)),
   )
+
+  pub rule-monitors : unsatisfiable r ≡ false → Monitors r (answerOf r) (firstOf r)
+  rule-monitors h w bytes = violated-iff-suppressed h w

@@ -39,7 +39,7 @@ module _ (r : Rule) (wf : WellFormed (length (r .patterns)) [] (r .formula)) whe
       → Has (opening (suc n) (opensAround ms) f) m ↔ Opens (r .formula) (suc n) m
   after-opened {n} {ms = ms} {f} node m = opens-as-defined (length (r .patterns)) (r .formula) wf (suc n) ms f (after node) m
 
-  reached-leads : (e c m : ℕ) → Has (reached (coveredBy (r .patterns)) e c 0 [] (r .formula)) m ↔ Leads r e c m
+  pub reached-leads : (e c m : ℕ) → Has (reached (coveredBy (r .patterns)) e c 0 [] (r .formula)) m ↔ Leads r e c m
   reached-leads e c m = (λ h. reaches-leads (reaches .0 h), λ l. reaches .1 (leads-reaches l))
     where
       reaches : Has (reached (coveredBy (r .patterns)) e c 0 [] (r .formula)) m ↔ Reaches (coveredBy (r .patterns)) (r .formula) e c m

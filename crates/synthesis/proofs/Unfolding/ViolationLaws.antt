@@ -17,11 +17,21 @@ use Rattle.synthesis.proofs.Unfolding.OpeningLaws.{same-node}
 -- ---- the maxes around a node
 
 -- the bodies of the maxes around, from max d on
-bodies-from : (ms : List EnclosingMax) (d : ℕ) → d < length ms
+pub bodies-from : (ms : List EnclosingMax) (d : ℕ) → d < length ms
     → drop d (map bodyOf ms) ≡ bodyOf (getD ms d noMax) ∷ map bodyOf (drop (suc d) ms)
 bodies-from [] d b = absurd (omega arith)
 bodies-from (m ∷ ms) zero b = refl
 bodies-from (m ∷ ms) (suc d) b = bodies-from ms d (omega arith)
+
+-- Where the bodies around a node begin with f from max d on, f is the body of that max, with the maxes around it.
+pub body-around : {root g f : Formula} {bodies outer : List Formula} {k d : ℕ} {ms : List EnclosingMax} → Node root k ms g → d < length ms
+    → bodies ≡ map bodyOf ms → drop d bodies ≡ f ∷ outer
+    → let x = getD ms d noMax in Node root (suc (x .number)) (x ∷ drop (suc d) ms) f × (f ∷ outer ≡ map bodyOf (x ∷ drop (suc d) ms))
+body-around {f = f} {outer = outer} {d = d} {ms} n b e q =
+    let x : EnclosingMax = getD ms d noMax in
+    let same : f ∷ outer ≡ bodyOf x ∷ map bodyOf (drop (suc d) ms) = sym q ∙ rw e (bodies-from ms d b) in
+    let is-body : f ≡ bodyOf x = cc in
+    (rw is-body (body (max-around n d b .node)), same)
 
 -- ---- violated nodes
 
@@ -68,12 +78,9 @@ module _ (covered : ℕ → ℕ → Bool) (root : Formula) where
     violates-opens-from (by-second v) n e = opens-end-map (λ m o. second-part n o) (violates-opens-from v (second n) e)
     violates-opens-from {k = k} (by-code h v) n e = (k, necessity-itself n, at-necessity n (by-code h (rw e at v)))
     violates-opens-from (by-body v) n e = opens-end-map (λ m o. body-of-max n o) (violates-opens-from v (body n) (rw e))
-    violates-opens-from {ms = ms} (by-variable {outer = outer} {d} {f} q v) n e =
+    violates-opens-from (by-variable q v) n e =
         let b = variable-bound patterns wf n in
-        let x : EnclosingMax = getD ms d noMax in
-        let same : f ∷ outer ≡ bodyOf x ∷ map bodyOf (drop (suc d) ms) = sym q ∙ rw e (bodies-from ms d b) in
-        let is-body : f ≡ bodyOf x = cc in
-        let inside : Node root (suc (x .number)) (x ∷ drop (suc d) ms) f = rw is-body (body (max-around n d b .node)) in
+        let (inside, same) = body-around n b e q in
         opens-end-map (λ m o. body-of-variable n b o) (violates-opens-from v inside same)
 
     pub violates-opens : {k : ℕ} {ms : List EnclosingMax} {f : Formula} {w : List ℕ} → Node root k ms f

@@ -1,0 +1,6 @@
+-- Why a scan is dropped.
+pub mod Places
+pub mod OpenedPlaces
+pub mod LowestNodes
+pub mod Following
+pub mod Explained

@@ -1,0 +1,173 @@
+-- What is said of a scan is as promised. The scans before it are followed: at the first that is dropped the rule is violated first; where none is, the
+-- places of these scans with the one that is asked for are the ff nodes that it opens, and the lowest of them is said. Each answer excludes the others.
+use Prim.Native.Nat.{ℕ, suc, _+_, _-_, _≤_, _<_}
+use mathlib.Core.Path.{_≡_, refl, sym, _∙_, ap, subst}
+use mathlib.Core.Logic.{_↔_, inl, inr}
+use mathlib.Core.Bool.{false, true≢false}
+use mathlib.Core.List.{List, [], _∷_, _++_}
+use native.Mathlib.Decide.{decLe}
+use native.Mathlib.Omega.{arith}
+use lib.ListN.{length, take, drop, take-append-drop}
+use lib.Seq.{take-add}
+use Rattle.reading.specs.Rule.{WellFormed, Rule, RuleWithinLimits}
+use Rattle.reading.specs.File.{accepted}
+use Rattle.reading.proofs.Accepting.Accepted.{accepts-encodings}
+use Rattle.synthesis.specs.Violation.{coveredBy, ViolatesRule}
+use Rattle.synthesis.specs.Monitor.{ended, Suppresses}
+use Rattle.synthesis.specs.Opening.{OpensToFalsity}
+use Rattle.synthesis.specs.Answering.{firstOf, answerOf, unsatisfiable}
+use Rattle.synthesis.specs.Building.{Synthesis, synthesisOf}
+use Rattle.synthesis.specs.Reason.{ViolatesAt, LowestPlace, OpensFalsity, LowestOpened}
+use Rattle.synthesis.specs.Reason.{lowestOf, openedFalsities, explanationOfRule, explanationOf, reasonOf}
+use Rattle.synthesis.specs.ReasonPromises.{Explained, ReasonsExactly}
+use Rattle.synthesis.specs.declared.Reason.{Reason}
+use Rattle.synthesis.specs.declared.Reason.the-variants.{Kept, Node, Refused}
+use Rattle.synthesis.proofs.Unfolding.Extension.{closed-under-extension}
+use Rattle.synthesis.proofs.Monitors.RuleMonitor.{unsatisfiable-opens, violated-iff-suppressed}
+use Rattle.synthesis.proofs.Reasons.Places.{violates-somewhere}
+use Rattle.synthesis.proofs.Reasons.OpenedPlaces.{places-opened}
+use Rattle.synthesis.proofs.Reasons.LowestNodes.{lowest-map, lowest-unique, said-of-opened}
+use Rattle.synthesis.proofs.Reasons.Following.{Follows, all-kept, first-dropped, follows}
+use Rattle.synthesis.proofs.Tables.SynthesisOutcomes.{synthesis-accepts, counted-accepts, counted-refuses, accepts-as}
+
+-- ---- violated fronts
+
+module _ (r : Rule) (w : List ℕ) where
+  extended : (v u : List ℕ) → ViolatesRule r v → ViolatesRule r (v ++ u)
+  extended v u = closed-under-extension (coveredBy (r .patterns)) [] (r .formula) v u
+
+  -- a list with a front that violates the rule violates it, and so does a longer front
+  front-violates : (j : ℕ) → ViolatesRule r (take j w) → ViolatesRule r w
+  front-violates j v = subst (ViolatesRule r) (take-append-drop j w) (extended (take j w) (drop j w) v)
+
+  longer-front : (j k : ℕ) → j ≤ k → ViolatesRule r (take j w) → ViolatesRule r (take k w)
+  longer-front j k h v =
+      let e : j + (k - j) ≡ k = omega arith in
+      subst (ViolatesRule r) (sym (take-add j (k - j) w) ∙ ap (λ (n : ℕ). take n w) e) (extended (take j w) (take (k - j) (drop j w)) v)
+
+  -- the i-th scan is the last of the shortest front that violates the rule
+  abbrev FirstViolated : ℕ → Type 0
+  FirstViolated i = (i < length w) × (ViolatesRule r (take i w) → ⊥) × ViolatesRule r (take (suc i) w)
+
+  first-violated-unique : (i j : ℕ) → FirstViolated i → FirstViolated j → i ≡ j
+  first-violated-unique i j (h, none, v) (h′, none′, v′) = on (decLe (suc i) j) (decLe (suc j) i)
+    where
+      on : Dec (suc i ≤ j) → Dec (suc j ≤ i) → i ≡ j
+      on (yes less) k = absurd (none′ (longer-front (suc i) j less v))
+      on (no k) (yes less) = absurd (none (longer-front (suc j) i less v′))
+      on (no a) (no b) = omega arith
+
+-- ---- the three answers
+
+module _ (r : Rule) (w : List ℕ) (c : ℕ) where
+  abbrev withScan : List ℕ
+  withScan = w ++ (c ∷ [])
+
+  -- what is known of each
+  data Said (reason : Reason) : Type 0 where
+    unfit : (i : ℕ) → FirstViolated r w i → reason ≡ Refused 17 i → Said reason
+    keeps : (ViolatesRule r withScan → ⊥) → reason ≡ Kept → Said reason
+    drops : (m : ℕ) → (ViolatesRule r w → ⊥) → ViolatesRule r withScan → LowestPlace r withScan m
+        → LowestOpened r (ended (answerOf r) (firstOf r) w) c m → reason ≡ Node m → Said reason
+
+  -- the scans before are fit where those with the scan are
+  scans-violate : ViolatesRule r w → ViolatesRule r withScan
+  scans-violate = extended r w w (c ∷ [])
+
+  refused-same : {i j : ℕ} {reason : Reason} → reason ≡ Refused 17 i → reason ≡ Refused 17 j → i ≡ j
+  refused-same e e′ = cc
+
+  node-same : {m n : ℕ} {reason : Reason} → reason ≡ Node m → reason ≡ Node n → m ≡ n
+  node-same e e′ = cc
+
+  kept-not-refused : {i : ℕ} {reason : Reason} → reason ≡ Kept → reason ≡ Refused 17 i → ⊥
+  kept-not-refused e e′ = let z : _≡_ {A = ℕ} 0 1 = cc in omega arith
+
+  kept-not-node : {m : ℕ} {reason : Reason} → reason ≡ Kept → reason ≡ Node m → ⊥
+  kept-not-node e e′ = let z : _≡_ {A = ℕ} 0 1 = cc in omega arith
+
+  node-not-refused : {m i : ℕ} {reason : Reason} → reason ≡ Node m → reason ≡ Refused 17 i → ⊥
+  node-not-refused e e′ = let z : _≡_ {A = ℕ} 0 1 = cc in omega arith
+
+  -- so each is said exactly where that holds
+  said-explained : WellFormed (length (r .patterns)) [] (r .formula) → (reason : Reason) → Said reason → Explained r w c reason
+  said-explained wf reason (unfit i first is) =
+      let violated = front-violates r w (suc i) (first .2) in
+      record {
+        unfit = λ j. (
+          λ q. rw (← (refused-same is q)) first,
+          λ first′. is ∙ ap (Refused 17) (first-violated-unique r w i j first first′),
+        );
+        kept = (λ q. absurd (kept-not-refused q is), λ none. absurd (none (scans-violate violated)));
+        node = λ m. (λ q. absurd (node-not-refused q is), λ (none, low). absurd (none violated));
+        opened = λ m q. absurd (node-not-refused q is);
+        only = inr (inr (i, is));
+      }
+  said-explained wf reason (keeps none is) = record {
+    unfit = λ i. (λ q. absurd (kept-not-refused is q), λ (h, before, v). absurd (none (scans-violate (front-violates r w (suc i) v))));
+    kept = (λ q. none, λ none′. is);
+    node = λ m. (λ q. absurd (kept-not-node is q), λ (safe, low). absurd (none (violates-somewhere r wf .somewhere withScan .1 (m, low .holds))));
+    opened = λ m q. absurd (kept-not-node is q);
+    only = inl is;
+  }
+  said-explained wf reason (drops m safe violated low opened is) = record {
+    unfit = λ i. (λ q. absurd (node-not-refused is q), λ (h, before, v). absurd (safe (front-violates r w (suc i) v)));
+    kept = (λ q. absurd (kept-not-node q is), λ none. absurd (none violated));
+    node = λ n. (λ q. rw (← (node-same is q)) (safe, low), λ (safe′, low′). is ∙ ap Node (lowest-unique low low′));
+    opened = λ n q. rw (← (node-same is q)) opened;
+    only = inr (inl (m, is));
+  }
+
+  -- ---- what is computed
+
+  module _ (within : RuleWithinLimits r) (satisfiable : unsatisfiable r ≡ false) where
+    wf : WellFormed (length (r .patterns)) [] (r .formula)
+    wf = within .well-formed .formula
+
+    unopened : OpensToFalsity (r .formula) 0 → ⊥
+    unopened o = true≢false (sym (unsatisfiable-opens r wf .1 o) ∙ satisfiable)
+
+    suppressed : (v : List ℕ) → ViolatesRule r v ↔ Suppresses (answerOf r) (firstOf r) v
+    suppressed = violated-iff-suppressed r wf satisfiable
+
+    -- where all scans are kept, by what the scan opens
+    said-kept : (Suppresses (answerOf r) (firstOf r) w → ⊥)
+        → Said (reasonOf (accepted (lowestOf (openedFalsities r (ended (answerOf r) (firstOf r) w) c))))
+    said-kept none =
+        said-of-opened r within (ended (answerOf r) (firstOf r) w) c (λ x. Said (reasonOf (accepted x)))
+        (λ nothing. keeps (λ v. let (m, a) = somewhere .0 v in nothing m (places m .0 a)) refl)
+        (λ m low.
+        let place = lowest-map (λ n. (places n .1, places n .0)) low in
+        drops m (λ v. none (suppressed w .0 v)) (somewhere .1 (m, place .holds)) place low refl)
+      where
+        somewhere : ViolatesRule r withScan ↔ ((m : ℕ) × ViolatesAt r 0 withScan m)
+        somewhere = violates-somewhere r wf .somewhere withScan
+
+        places : (m : ℕ) → ViolatesAt r 0 withScan m ↔ OpensFalsity r (ended (answerOf r) (firstOf r) w) c m
+        places = places-opened r wf unopened w none c
+
+    said : Said (reasonOf (explanationOfRule r w c))
+    said = on (follows (answerOf r) w (firstOf r) 0)
+      where
+        on : Follows (answerOf r) (firstOf r) 0 w → Said (reasonOf (explanationOfRule r w c))
+        on (all-kept none o) = rw o (said-kept none)
+        on (first-dropped j h none s o) =
+            let start : 0 + j ≡ j = omega arith in
+            unfit j (h, λ v. none (suppressed (take j w) .0 v), suppressed (take (suc j) w) .1 s) (rw (o, start))
+
+    pub rule-explained : Explained r w c (reasonOf (explanationOfRule r w c))
+    rule-explained = said-explained wf (reasonOf (explanationOfRule r w c)) said
+
+-- ---- the promise
+
+pub reasons-exactly : ReasonsExactly
+unfolding explanationOf
+reasons-exactly limit s bytes w c = record {
+  refused = λ number place e. rw (counted-refuses (synthesisOf limit s) number place e);
+  explained = λ r n read e.
+      let y = counted-accepts (synthesisOf limit s) n e in
+      rw (y .1)
+      (synthesis-accepts limit s (λ y. y .rule ≡ r → Explained r w c (reasonOf (explanationOfRule (y .rule) w c)))
+      (λ r′ read′ satisfiable few is. rw is (rule-explained r w c (accepts-encodings s bytes r .0 read .0) (rw is at satisfiable)))
+      (y .0) (y .1) (ap (λ (z : Synthesis). z .rule) (accepts-as limit s r read (y .0) (y .1))));
+}
