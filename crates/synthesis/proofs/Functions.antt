@@ -12,3 +12,4 @@ pub mod GraphLaws
 pub mod PlanLaws
 pub mod BuildingWays
 pub mod FollowingScans
+pub mod ExplainingWays

@@ -12,6 +12,8 @@ use Rattle.synthesis.proofs.Unfolding.NodeSetLaws.{same-members-same-se
 use Rattle.synthesis.proofs.Numberings.FindingOrder.{numbered-as-found}
 use Rattle.synthesis.proofs.Numberings.Numbering.{one-numbering}
 use Rattle.synthesis.proofs.Tables.Rows.{hands-back-rows}
+use Rattle.synthesis.proofs.Reasons.Places.{violates-somewhere}
+use Rattle.synthesis.proofs.Reasons.Explained.{reasons-exactly}
 
 pub promises : Promises
 promises = record {
@@ -36,4 +38,6 @@ promises = record {
   entries-answer = entries-answer;
   table-rest = table-rest;
   hands-back-rows = hands-back-rows;
+  violates-somewhere = violates-somewhere;
+  reasons-exactly = reasons-exactly;
 }

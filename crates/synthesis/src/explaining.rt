@@ -16,7 +16,13 @@ pub(crate) enum Followed {
 }
 
 // Follows scans from an equation.
-pub(crate) fn follow(after: &[u64], enabled: &[u64], falsities: u64, first: u64, scans: &[u8]) -> Followed
+pub(crate) fn follow(
+    after: &[u64],
+    enabled: &[u64],
+    falsities: u64,
+    first: u64,
+    scans: &[u8],
+) -> Followed
     requires { ⌜ (length (now after) ≡ 64) × (length (now enabled) ≡ 256) ⌝ }
     ensures { λ r. ⌜ r ≡ followedOf
         (followed (answerBy (now (after .entry)) (now (enabled .entry)) falsities) first 0 (now (scans .entry))) ⌝ }

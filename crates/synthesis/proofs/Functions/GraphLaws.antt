@@ -15,6 +15,7 @@ use Rattle.synthesis.specs.Violation.{coveredBy}
 use Rattle.synthesis.specs.NodeSet.{Has, intersection}
 use Rattle.synthesis.specs.Opening.{IsFalsity}
 use Rattle.synthesis.specs.Answering.{falsities, reached, firstOf, answerFrom, answerOf}
+use Rattle.synthesis.specs.Reason.{openedFalsities}
 use Rattle.synthesis.specs.Arrays.{RuleArrays, SomeNode, SomeNumbered, IsOpening, HasKind, IsGraph, gathered, answerBy}
 use Rattle.synthesis.specs.declared.graph.Graph.{Graph}
 use Rattle.synthesis.proofs.Unfolding.NodeSetLaws.{same-members-same-set, has-common}
@@ -81,7 +82,15 @@ module _ {r : Rule} (g : Graph) (is : IsGraph r g) (e c : ℕ) (code : c < 256) 
             subst (λ s. Has s m) (sym (is .after-is .is n p ms f node)) opened,
           )
 
+  graph-reaches : gathered (g .after) live ≡ led
+  graph-reaches = same-members-same-set _ _ gathered-reached
+
   -- What the arrays of a graph answer is what the rule's equations answer.
   pub graph-answers : answerBy (g .after) (g .enabled) (g .falsities) e c ≡ answerOf r e c
   unfolding answerBy answerOf
-  graph-answers = rw (is .falsities-are) (ap (answerFrom (falsities 0 (r .formula))) (same-members-same-set _ _ gathered-reached))
+  graph-answers = rw (is .falsities-are) (ap (answerFrom (falsities 0 (r .formula))) graph-reaches)
+
+  -- The ff nodes among what they reach are those that the members open.
+  pub graph-opens : intersection (gathered (g .after) live) (g .falsities) ≡ openedFalsities r e c
+  unfolding openedFalsities
+  graph-opens = rw (is .falsities-are, graph-reaches)

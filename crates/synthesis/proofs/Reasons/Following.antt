@@ -5,8 +5,9 @@ use mathlib.Core.Path.{_≡_, refl, _∙_, ap}
 use mathlib.Core.List.{List, [], _∷_}
 use native.Mathlib.Omega.{arith}
 use lib.ListN.{length, take}
+use Rattle.reading.specs.Rule.{All}
 use Rattle.reading.specs.File.{accepted, refused}
-use Rattle.synthesis.specs.Monitor.{Answer, dropped, next, ended, Suppresses, now, later}
+use Rattle.synthesis.specs.Monitor.{Answer, dropped, next, cases, ended, Suppresses, now, later}
 use Rattle.synthesis.specs.Reason.{followed}
 use Rattle.synthesis.proofs.Monitors.MonitorLaws.{suppresses-nothing, suppresses-rest}
 
@@ -32,3 +33,14 @@ module _ (answer : ℕ → ℕ → Answer ℕ) where
           more (first-dropped j h none s o) =
               let place : i + suc j ≡ suc i + j = omega arith in
               first-dropped (suc j) (omega arith) (λ x. none (suppresses-rest answer q x)) (later q s) (rw (q, place) o)
+
+-- answers that agree on codes lead to the same
+pub followed-cong : (codes : ℕ) (answer answer′ : ℕ → ℕ → Answer ℕ) → ((e c : ℕ) → c < codes → answer e c ≡ answer′ e c) → (w : List ℕ)
+    → All (λ c. c < codes) w → (e i : ℕ) → followed answer e i w ≡ followed answer′ e i w
+followed-cong codes answer answer′ agree [] all e i = refl
+followed-cong codes answer answer′ agree (c ∷ w) (code, all) e i = rw (agree e c code) (on (answer′ e c) (λ e′. followed-cong codes answer answer′ agree w all e′ (suc i)))
+  where
+    on : (a : Answer ℕ) → ((e′ : ℕ) → followed answer e′ (suc i) w ≡ followed answer′ e′ (suc i) w)
+        → cases a (refused 17 i) (λ e′. followed answer e′ (suc i) w) ≡ cases a (refused 17 i) (λ e′. followed answer′ e′ (suc i) w)
+    on dropped same = refl
+    on (next e′) same = same e′
