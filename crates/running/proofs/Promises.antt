@@ -6,6 +6,7 @@ use Rattle.running.proofs.Conservation.{conserves, calls-conserve}
 use Rattle.running.proofs.Refusals.{runs-on-tables}
 use Rattle.running.proofs.BuiltTables.{never-unfit}
 use Rattle.running.proofs.Leaving.{refused-unchanged, rest-unchanged}
+use Rattle.running.proofs.Reasons.{reasons-of-runs}
 
 pub promises : Promises
 promises = record {
@@ -17,4 +18,5 @@ promises = record {
   never-unfit = never-unfit;
   refused-unchanged = refused-unchanged;
   rest-unchanged = rest-unchanged;
+  reasons-of-runs = reasons-of-runs;
 }

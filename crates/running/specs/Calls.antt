@@ -81,3 +81,7 @@ unfoldable pub withVerdict : (verdict : ℕ) → (verdicts scans : List ℕ) →
 withVerdict x [] scans = []
 withVerdict x (v ∷ vs) [] = []
 withVerdict x (v ∷ vs) (c ∷ cs) = cond (eqb v x) (c ∷ withVerdict x vs cs) (withVerdict x vs cs)
+
+-- the scans that were kept of the first i
+abbrev pub keptBefore : History → (i : ℕ) → List ℕ
+keptBefore h i = withVerdict 0 (take i (h .verdicts)) (take i (h .scans))

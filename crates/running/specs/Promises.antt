@@ -12,9 +12,13 @@ use Rattle.synthesis.specs.Violation.{ViolatesRule}
 use Rattle.synthesis.specs.Monitor.{dropped, cases, next, meaning}
 use Rattle.synthesis.specs.Table.{WellFormedTable}
 use Rattle.synthesis.specs.Building.{Builds}
+use Rattle.synthesis.specs.Reason.{explanationOf, reasonOf}
+use Rattle.synthesis.specs.declared.Reason.{Reason}
+use Rattle.synthesis.specs.declared.Reason.the-variants.{Kept, Node}
+use Rattle.synthesis.specs.declared.Reason.the-variants as Reason′
 use Rattle.running.specs.Running.{moved, answerIn, hasRoom, Run, runFrom, runOf, checkedOf, occurrences, resultOf}
 use Rattle.running.specs.Running.{keptOf, verdictsOf, outputAfter, verdictsAfter}
-use Rattle.running.specs.Calls.{Call, History, taken, outcomeOf, Calls, OnTable, OnTableOrRefused, withVerdict}
+use Rattle.running.specs.Calls.{Call, History, taken, outcomeOf, Calls, OnTable, OnTableOrRefused, withVerdict, keptBefore}
 use Rattle.running.specs.declared.State.{State}
 use Rattle.running.specs.declared.Checked.the-variants.{Fit, Refused}
 
@@ -28,7 +32,7 @@ pub record Sifted (r : Rule) (h : History) : Type 0 where
   pub kept : h .kept ≡ withVerdict 0 (h .verdicts) (h .scans)
   pub drops : (i : ℕ) → i < length (h .scans)
       → (getD (h .verdicts) i 0 ≡ 1)
-      ↔ ViolatesRule r (withVerdict 0 (take i (h .verdicts)) (take i (h .scans)) ++ (getD (h .scans) i 0 ∷ []))
+      ↔ ViolatesRule r (keptBefore h i ++ (getD (h .scans) i 0 ∷ []))
   pub safe : ViolatesRule r (h .kept) → ⊥
 
 abbrev pub DropsExactly : Type 0
@@ -142,6 +146,26 @@ abbrev pub RestUnchanged : Type 0
 RestUnchanged =
     (limit mark : ℕ) (s : State) (c : Call) → resultOf s (outcomeOf limit mark s c) .checked ≡ Fit → OnlyFronts s c (outcomeOf limit mark s c)
 
+-- ---- why scans are dropped
+
+-- 6. What `explain` says of the scan c after those that were kept of the first i, by the rule file alone.
+abbrev pub reasonAfter : (limit : ℕ) → (s : List ℕ) → History → (i c : ℕ) → Reason
+reasonAfter limit s h i c = reasonOf (explanationOf limit s (keptBefore h i) c)
+
+-- Of each scan, after those kept before it: a node exactly where it was dropped, and no reason where it was kept. What was kept is never refused,
+-- whatever scan is asked for after it.
+pub record Reasoned (limit : ℕ) (s : List ℕ) (h : History) : Type 0 where
+  pub dropped : (i : ℕ) → i < length (h .scans)
+      → (getD (h .verdicts) i 0 ≡ 1) ↔ ((m : ℕ) × (reasonAfter limit s h i (getD (h .scans) i 0) ≡ Node m))
+  pub kept : (i : ℕ) → i < length (h .scans) → (getD (h .verdicts) i 0 ≡ 0) ↔ (reasonAfter limit s h i (getD (h .scans) i 0) ≡ Kept)
+  pub fit : (i c number place : ℕ) → reasonAfter limit s h i c ≡ Reason′.Refused number place → ⊥
+
+-- After any calls as in 1 this holds of the rule file that was built.
+abbrev pub ReasonsOfRuns : Type 0
+ReasonsOfRuns =
+    (limit mark : ℕ) (s table : List ℕ) (r : Rule) (n : ℕ) (left : List ℕ) → Builds limit mark s table r n left
+    → (h : History) → Calls limit mark (OnTableOrRefused limit mark left n) h → Reasoned limit s h
+
 -- ---- all of these
 
 -- The theorem `promises` has this type, so that each promise has its proof.
@@ -154,3 +178,4 @@ pub record Promises : Type 0 where
   pub never-unfit : NeverUnfit
   pub refused-unchanged : RefusedUnchanged
   pub rest-unchanged : RestUnchanged
+  pub reasons-of-runs : ReasonsOfRuns

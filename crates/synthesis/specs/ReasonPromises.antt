@@ -5,7 +5,7 @@ use mathlib.Core.Path.{_≡_}
 use mathlib.Core.Logic.{_↔_, _⊎_}
 use mathlib.Core.List.{List, [], _∷_, _++_}
 use lib.ListN.{length, take}
-use Rattle.reading.specs.Rule.{WellFormed, Rule, Bytes}
+use Rattle.reading.specs.Rule.{size, WellFormed, Rule, Bytes}
 use Rattle.reading.specs.File.{accepted, ruleOf}
 use Rattle.synthesis.specs.Violation.{ViolatesRule}
 use Rattle.synthesis.specs.Monitor.{ended}
@@ -38,6 +38,8 @@ pub record Explained (r : Rule) (w : List ℕ) (c : ℕ) (reason : Reason) : Typ
   pub node : (m : ℕ) → (reason ≡ Node m) ↔ ((ViolatesRule r w → ⊥) × LowestPlace r (w ++ (c ∷ [])) m)
   -- it is the lowest that the scan opens in the equation to which they lead
   pub opened : (m : ℕ) → reason ≡ Node m → LowestOpened r (ended (answerOf r) (firstOf r) w) c m
+  -- it is a node of the rule
+  pub inside : (m : ℕ) → reason ≡ Node m → m < size (r .formula)
   -- nothing else is said
   pub only : (reason ≡ Kept) ⊎ (((m : ℕ) × (reason ≡ Node m)) ⊎ ((i : ℕ) × (reason ≡ Refused 17 i)))
 

@@ -12,6 +12,7 @@ use lib.Seq.{take-add}
 use Rattle.reading.specs.Rule.{WellFormed, Rule, RuleWithinLimits}
 use Rattle.reading.specs.File.{accepted}
 use Rattle.reading.proofs.Accepting.Accepted.{accepts-encodings}
+use Rattle.reading.proofs.Numbering.NodeLaws.{node-fits}
 use Rattle.synthesis.specs.Violation.{coveredBy, ViolatesRule}
 use Rattle.synthesis.specs.Monitor.{ended, Suppresses}
 use Rattle.synthesis.specs.Opening.{OpensToFalsity}
@@ -37,7 +38,7 @@ module _ (r : Rule) (w : List ℕ) where
   extended v u = closed-under-extension (coveredBy (r .patterns)) [] (r .formula) v u
 
   -- a list with a front that violates the rule violates it, and so does a longer front
-  front-violates : (j : ℕ) → ViolatesRule r (take j w) → ViolatesRule r w
+  pub front-violates : (j : ℕ) → ViolatesRule r (take j w) → ViolatesRule r w
   front-violates j v = subst (ViolatesRule r) (take-append-drop j w) (extended (take j w) (drop j w) v)
 
   longer-front : (j k : ℕ) → j ≤ k → ViolatesRule r (take j w) → ViolatesRule r (take k w)
@@ -101,6 +102,7 @@ module _ (r : Rule) (w : List ℕ) (c : ℕ) where
         kept = (λ q. absurd (kept-not-refused q is), λ none. absurd (none (scans-violate violated)));
         node = λ m. (λ q. absurd (node-not-refused q is), λ (none, low). absurd (none violated));
         opened = λ m q. absurd (node-not-refused q is);
+        inside = λ m q. absurd (node-not-refused q is);
         only = inr (inr (i, is));
       }
   said-explained wf reason (keeps none is) = record {
@@ -108,6 +110,7 @@ module _ (r : Rule) (w : List ℕ) (c : ℕ) where
     kept = (λ q. none, λ none′. is);
     node = λ m. (λ q. absurd (kept-not-node is q), λ (safe, low). absurd (none (violates-somewhere r wf .somewhere withScan .1 (m, low .holds))));
     opened = λ m q. absurd (kept-not-node is q);
+    inside = λ m q. absurd (kept-not-node is q);
     only = inl is;
   }
   said-explained wf reason (drops m safe violated low opened is) = record {
@@ -115,6 +118,7 @@ module _ (r : Rule) (w : List ℕ) (c : ℕ) where
     kept = (λ q. absurd (kept-not-node q is), λ none. absurd (none violated));
     node = λ n. (λ q. rw (← (node-same is q)) (safe, low), λ (safe′, low′). is ∙ ap Node (lowest-unique low low′));
     opened = λ n q. rw (← (node-same is q)) opened;
+    inside = λ n q. omega (arith, node-same is q, node-fits (opened .holds .1 .1));
     only = inr (inl (m, is));
   }
 

@@ -171,6 +171,12 @@ module _ {limit mark : ℕ} {s table : List ℕ} {r : Rule} {n : ℕ} {after : L
       let y = counted-accepts (buildingOf limit s (length table)) n (b .counted) in
       y .1 ∙ ap accepted (accepts-as limit s r (b .read) (y .0) (building-accepts limit s (length table) (y .0) (y .1) .1))
 
+  -- counting answers as building did
+  pub builds-counted : countedOf (synthesisOf limit s) ≡ Equations n
+  builds-counted =
+      let y = counted-accepts (buildingOf limit s (length table)) n (b .counted) in
+      rw (building-accepts limit s (length table) (y .0) (y .1) .1) (ap Equations (sym (y .2)))
+
   pub builds-count : n ≡ length (equationsOf limit r)
   builds-count =
       let e : Equations (length (equationsOf limit r)) ≡ Equations n = sym (ap countedOf builds-outcome) ∙ b .counted in

@@ -1,0 +1,90 @@
+-- What `explain` says of the scans of a run goes with their verdicts: what was kept doesn't violate the rule, so 17 is never said, and a node is said
+-- exactly of what would violate it.
+use Prim.Native.Nat.{ℕ, suc}
+use mathlib.Core.Path.{_≡_, sym, _∙_, subst}
+use mathlib.Core.Logic.{_↔_, _⊎_, inl, inr}
+use mathlib.Core.List.{List, [], _∷_, _++_}
+use native.Mathlib.Omega.{arith}
+use lib.ListN.{length, getD, take, drop, take-append-drop, length-take}
+use Rattle.reading.specs.Rule.{Rule}
+use Rattle.synthesis.specs.Violation.{coveredBy, ViolatesRule}
+use Rattle.synthesis.specs.ReasonPromises.{Placed, Explained}
+use Rattle.synthesis.specs.declared.Reason.{Reason}
+use Rattle.synthesis.specs.declared.Reason.the-variants.{Kept, Node, Refused}
+use Rattle.synthesis.proofs.Unfolding.Extension.{closed-under-extension}
+use Rattle.synthesis.proofs.Tables.Equations.{file-well-formed}
+use Rattle.synthesis.proofs.Tables.Built.{builds-counted}
+use Rattle.synthesis.proofs.Reasons.Places.{violates-somewhere}
+use Rattle.synthesis.proofs.Reasons.Explained.{front-violates, reasons-exactly}
+use Rattle.running.specs.Calls.{History, withVerdict, keptBefore}
+use Rattle.running.specs.Promises.{Sifted, reasonAfter, Reasoned, ReasonsOfRuns}
+use Rattle.running.proofs.WithVerdicts.{with-append}
+use Rattle.running.proofs.DemandTwo.{drops-exactly}
+
+-- ---- what was kept
+
+module _ {r : Rule} {h : History} (sifted : Sifted r h) where
+  -- what was kept of the first i is a front of all that was kept
+  kept-front : (i : ℕ) → keptBefore h i ++ withVerdict 0 (drop i (h .verdicts)) (drop i (h .scans)) ≡ h .kept
+  kept-front i =
+      sym (with-append 0 (take i (h .verdicts)) (take i (h .scans)) (drop i (h .verdicts)) (drop i (h .scans)) same-length)
+      ∙ rw (take-append-drop i (h .verdicts), take-append-drop i (h .scans)) (sym (sifted .kept))
+    where
+      same-length : length (take i (h .verdicts)) ≡ length (take i (h .scans))
+      same-length = length-take i (h .verdicts) ∙ rw (sifted .one-each) (sym (length-take i (h .scans)))
+
+  kept-before-safe : (i : ℕ) → ViolatesRule r (keptBefore h i) → ⊥
+  kept-before-safe i v =
+      sifted .safe (subst (ViolatesRule r) (kept-front i) (closed-under-extension (coveredBy (r .patterns)) [] (r .formula) (keptBefore h i) _ v))
+
+-- ---- what is said of a scan after a list that doesn't violate the rule
+
+module _ {r : Rule} {w : List ℕ} {c : ℕ} {reason : Reason} (explained : Explained r w c reason) (safe : ViolatesRule r w → ⊥) where
+  -- no reason, or a node
+  kept-or-node : (reason ≡ Kept) ⊎ ((m : ℕ) × (reason ≡ Node m))
+  kept-or-node = on (explained .only)
+    where
+      on : (reason ≡ Kept) ⊎ (((m : ℕ) × (reason ≡ Node m)) ⊎ ((i : ℕ) × (reason ≡ Refused 17 i))) → (reason ≡ Kept) ⊎ ((m : ℕ) × (reason ≡ Node m))
+      on (inl q) = inl q
+      on (inr (inl q)) = inr q
+      on (inr (inr (i, q))) = absurd (safe (front-violates r w (suc i) (explained .unfit i .0 q .2)))
+
+  said-fit : (number place : ℕ) → reason ≡ Refused number place → ⊥
+  said-fit number place e = on kept-or-node
+    where
+      on : (reason ≡ Kept) ⊎ ((m : ℕ) × (reason ≡ Node m)) → ⊥
+      on (inl q) = let z : _≡_ {A = ℕ} 0 1 = cc in omega arith
+      on (inr (m, q)) = let z : _≡_ {A = ℕ} 0 1 = cc in omega arith
+
+  node-iff-violated : Placed r → ((m : ℕ) × (reason ≡ Node m)) ↔ ViolatesRule r (w ++ (c ∷ []))
+  node-iff-violated placed = (λ (m, q). placed .somewhere (w ++ (c ∷ [])) .1 (m, explained .node m .0 q .1 .holds), λ v. on v kept-or-node)
+    where
+      on : ViolatesRule r (w ++ (c ∷ [])) → (reason ≡ Kept) ⊎ ((m : ℕ) × (reason ≡ Node m)) → (m : ℕ) × (reason ≡ Node m)
+      on v (inl q) = absurd (explained .kept .0 q v)
+      on v (inr q) = q
+
+-- ---- the promise
+
+-- a verdict that isn't 1 is 0
+verdict-zero : {v : ℕ} {A : Type 0} → (v ≡ 0) ⊎ (v ≡ 1) → (v ≡ 1) ↔ A → (v ≡ 0) ↔ (A → ⊥)
+verdict-zero (inl q) iff = (λ e a. omega (arith, q, iff .1 a), λ none. q)
+verdict-zero (inr q) iff = (λ e. absurd (omega (arith, q, e)), λ none. absurd (none (iff .0 q)))
+
+pub reasons-of-runs : ReasonsOfRuns
+reasons-of-runs limit mark s table r n left b h calls = record {
+  dropped = λ i inside.
+      let verdict = sifted .drops i inside in
+      let node = node-iff-violated (explained i (getD (h .scans) i 0)) (kept-before-safe sifted i) (violates-somewhere r (file-well-formed s (b .bytes) r (b .read))) in
+      (λ e. node .1 (verdict .0 e), λ q. verdict .1 (node .0 q));
+  kept = λ i inside.
+      let verdict = verdict-zero (sifted .kept-or-dropped i inside) (sifted .drops i inside) in
+      let said = explained i (getD (h .scans) i 0) .kept in
+      (λ e. said .1 (verdict .0 e), λ q. verdict .1 (said .0 q));
+  fit = λ i c. said-fit (explained i c) (kept-before-safe sifted i);
+}
+  where
+    sifted : Sifted r h
+    sifted = drops-exactly limit mark s table r n left b h calls
+
+    explained : (i c : ℕ) → Explained r (keptBefore h i) c (reasonAfter limit s h i c)
+    explained i c = reasons-exactly limit s (b .bytes) (keptBefore h i) c .explained r n (b .read) (builds-counted b)
