@@ -14,6 +14,7 @@ use Rattle.synthesis.proofs.Numberings.Numbering.{one-numbering}
 use Rattle.synthesis.proofs.Tables.Rows.{hands-back-rows}
 use Rattle.synthesis.proofs.Reasons.Places.{violates-somewhere}
 use Rattle.synthesis.proofs.Reasons.Explained.{reasons-exactly}
+use Rattle.synthesis.proofs.Reasons.ByEquation.{reasons-by-equation}
 
 pub promises : Promises
 promises = record {
@@ -40,4 +41,5 @@ promises = record {
   hands-back-rows = hands-back-rows;
   violates-somewhere = violates-somewhere;
   reasons-exactly = reasons-exactly;
+  reasons-by-equation = reasons-by-equation;
 }

@@ -4,3 +4,4 @@ pub mod OpenedPlaces
 pub mod LowestNodes
 pub mod Following
 pub mod Explained
+pub mod ByEquation

@@ -15,7 +15,7 @@ use Rattle.synthesis.specs.Opening.{Opens, OpensToFalsity, Answers, IsFi
 use Rattle.synthesis.specs.Answering.{opening, opensAround, firstOf, answerOf}
 use Rattle.synthesis.specs.Table.{WellFormedTable}
 use Rattle.synthesis.specs.Building.{equationsOf, Synthesis, synthesisOf, buildingOf, countedOf, tableAfter, tableLeft, Builds}
-use Rattle.synthesis.specs.ReasonPromises.{ViolatesSomewhere, ReasonsExactly}
+use Rattle.synthesis.specs.ReasonPromises.{ViolatesSomewhere, ReasonsExactly, ReasonsByEquation}
 use Rattle.synthesis.specs.declared.Counted.the-variants.{Equations, Refused}
 
 -- ---- violation
@@ -251,3 +251,4 @@ pub record Promises : Type 1 where
   pub hands-back-rows : HandsBackRows
   pub violates-somewhere : ViolatesSomewhere
   pub reasons-exactly : ReasonsExactly
+  pub reasons-by-equation : ReasonsByEquation

@@ -8,10 +8,10 @@ use lib.ListN.{length, take}
 use Rattle.reading.specs.Rule.{size, WellFormed, Rule, Bytes}
 use Rattle.reading.specs.File.{accepted, ruleOf}
 use Rattle.synthesis.specs.Violation.{ViolatesRule}
-use Rattle.synthesis.specs.Monitor.{ended}
+use Rattle.synthesis.specs.Monitor.{ended, lookup}
 use Rattle.synthesis.specs.Opening.{IsFalsity}
 use Rattle.synthesis.specs.Answering.{firstOf, answerOf}
-use Rattle.synthesis.specs.Building.{synthesisOf, countedOf}
+use Rattle.synthesis.specs.Building.{synthesisOf, countedOf, Builds}
 use Rattle.synthesis.specs.Reason.{ViolatesAt, LowestPlace, LowestOpened, explanationOf, reasonOf}
 use Rattle.synthesis.specs.declared.Counted.the-variants as Counted
 use Rattle.synthesis.specs.declared.Reason.{Reason}
@@ -52,3 +52,14 @@ pub record Reasons (limit : ℕ) (s w : List ℕ) (c : ℕ) : Type 0 where
 
 abbrev pub ReasonsExactly : Type 0
 ReasonsExactly = (limit : ℕ) (s : List ℕ) → Bytes s → (w : List ℕ) (c : ℕ) → Reasons limit s w c
+
+-- ---- by the equation alone
+
+-- Under the table that building leaves, two lists that don't violate the rule and end in the same equation give every scan the same reason. So a desk
+-- may hand in any list that leads to the equation in which its run stands.
+abbrev pub ReasonsByEquation : Type 0
+ReasonsByEquation =
+    (limit mark : ℕ) (s table : List ℕ) (r : Rule) (n : ℕ) (left : List ℕ) → Builds limit mark s table r n left
+    → (w w′ : List ℕ) → Bytes w → Bytes w′ → (ViolatesRule r w → ⊥) → (ViolatesRule r w′ → ⊥)
+    → ended (lookup 256 mark left) 0 w ≡ ended (lookup 256 mark left) 0 w′
+    → (c : ℕ) → reasonOf (explanationOf limit s w c) ≡ reasonOf (explanationOf limit s w′ c)

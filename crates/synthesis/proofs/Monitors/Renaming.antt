@@ -20,19 +20,19 @@ pub record Renames {E F : Type 0} (codes : ℕ) (Ok : E → Type 0) (answer : E 
 module _ {E F : Type 0} (codes : ℕ) (Ok : E → Type 0) (answer : E → ℕ → Answer E) (answer′ : F → ℕ → Answer F) (f : E → F)
     (renames : Renames codes Ok answer answer′ f) where
   -- What holds of every run of equations that are renamed, from the answers of both monitors to each code.
-  renamed-induction : (P : E → List ℕ → Type 0) → ((e : E) → P e [])
+  renamed-induction : (P : E → List ℕ → Type 0) → ((e : E) → Ok e → P e [])
       → ((e : E) (c : ℕ) (w : List ℕ) → answer e c ≡ dropped → answer′ (f e) c ≡ dropped → P e w → P e (c ∷ w))
       → ((e e′ : E) (c : ℕ) (w : List ℕ) → answer e c ≡ next e′ → answer′ (f e) c ≡ next (f e′) → P e′ w → P e (c ∷ w))
       → (e : E) (w : List ℕ) → Ok e → All (λ c. c < codes) w → P e w
   renamed-induction P none dropping keeping =
-      run-induction answer (λ e w. Ok e → All (λ c. c < codes) w → P e w) (λ e ok all. none e)
+      run-induction answer (λ e w. Ok e → All (λ c. c < codes) w → P e w) (λ e ok all. none e ok)
       (λ e c w q h ok all. dropping e c w q (renames .drops e c ok (all .0) q) (h ok (all .1)))
       (λ e e′ c w q h ok all. keeping e e′ c w q (renames .follows e e′ c ok (all .0) q) (h (renames .invariant e e′ c ok (all .0) q) (all .1)))
 
   pub renamed-suppresses : (e : E) (w : List ℕ) → Ok e → All (λ c. c < codes) w → Suppresses answer e w ↔ Suppresses answer′ (f e) w
   renamed-suppresses =
       renamed-induction (λ e w. Suppresses answer e w ↔ Suppresses answer′ (f e) w)
-      (λ e. (λ l. absurd (suppresses-nothing answer l), λ l. absurd (suppresses-nothing answer′ l)))
+      (λ e ok. (λ l. absurd (suppresses-nothing answer l), λ l. absurd (suppresses-nothing answer′ l)))
       (λ e c w q q′ h. (λ l. now q′, λ l. now q))
       (λ e e′ c w q q′ h. (λ l. later q′ (h .0 (suppresses-rest answer q l)), λ l. later q (h .1 (suppresses-rest answer′ q′ l))))
 
@@ -40,19 +40,22 @@ module _ {E F : Type 0} (codes : ℕ) (Ok : E → Type 0) (answer : E → ℕ �
     pub keeps : kept answer′ (f e) w ≡ kept answer e w
     pub judges : verdicts answer′ (f e) w ≡ verdicts answer e w
     pub ends : ended answer′ (f e) w ≡ f (ended answer e w)
+    pub stays : Ok (ended answer e w)
 
   pub renamed-runs : (e : E) (w : List ℕ) → Ok e → All (λ c. c < codes) w → Alike e w
   renamed-runs =
-      renamed-induction Alike (λ e. record { keeps = refl; judges = refl; ends = refl })
+      renamed-induction Alike (λ e ok. record { keeps = refl; judges = refl; ends = refl; stays = ok })
       (λ e c w q q′ h. record {
         keeps = rw (q, q′) (h .keeps);
         judges = rw (q, q′) (ap (λ (l : List ℕ). 1 ∷ l) (h .judges));
         ends = rw (q, q′) (h .ends);
+        stays = rw q (h .stays);
       })
       (λ e e′ c w q q′ h. record {
         keeps = rw (q, q′) (ap (λ (l : List ℕ). c ∷ l) (h .keeps));
         judges = rw (q, q′) (ap (λ (l : List ℕ). 0 ∷ l) (h .judges));
         ends = rw (q, q′) (h .ends);
+        stays = rw q (h .stays);
       })
 
 -- ---- monitors of a rule

@@ -10,17 +10,19 @@ use native.Mathlib.Omega.{arith}
 use lib.ListN.{length, take, drop, take-append-drop}
 use lib.Seq.{take-add}
 use Rattle.reading.specs.Rule.{WellFormed, Rule, RuleWithinLimits}
-use Rattle.reading.specs.File.{accepted}
+use Rattle.reading.specs.File.{accepted, ruleOf}
+use Rattle.reading.proofs.Basics.Outcomes.{accepted-is}
 use Rattle.reading.proofs.Accepting.Accepted.{accepts-encodings}
 use Rattle.reading.proofs.Numbering.NodeLaws.{node-fits}
 use Rattle.synthesis.specs.Violation.{coveredBy, ViolatesRule}
 use Rattle.synthesis.specs.Monitor.{ended, Suppresses}
 use Rattle.synthesis.specs.Opening.{OpensToFalsity}
 use Rattle.synthesis.specs.Answering.{firstOf, answerOf, unsatisfiable}
-use Rattle.synthesis.specs.Building.{Synthesis, synthesisOf}
+use Rattle.synthesis.specs.Building.{synthesisOf, countedOf}
 use Rattle.synthesis.specs.Reason.{ViolatesAt, LowestPlace, OpensFalsity, LowestOpened}
 use Rattle.synthesis.specs.Reason.{lowestOf, openedFalsities, explanationOfRule, explanationOf, reasonOf}
 use Rattle.synthesis.specs.ReasonPromises.{Explained, ReasonsExactly}
+use Rattle.synthesis.specs.declared.Counted.the-variants.{Equations}
 use Rattle.synthesis.specs.declared.Reason.{Reason}
 use Rattle.synthesis.specs.declared.Reason.the-variants.{Kept, Node, Refused}
 use Rattle.synthesis.proofs.Unfolding.Extension.{closed-under-extension}
@@ -162,6 +164,20 @@ module _ (r : Rule) (w : List ℕ) (c : ℕ) where
     pub rule-explained : Explained r w c (reasonOf (explanationOfRule r w c))
     rule-explained = said-explained wf (reasonOf (explanationOfRule r w c)) said
 
+-- ---- a rule file that is counted
+
+module _ (limit : ℕ) (s : List ℕ) (r : Rule) (n : ℕ) (read : ruleOf s ≡ accepted r) (counted : countedOf (synthesisOf limit s) ≡ Equations n) where
+  pub counted-satisfiable : unsatisfiable r ≡ false
+  counted-satisfiable =
+      let (y, is, count) = counted-accepts (synthesisOf limit s) n counted in
+      synthesis-accepts limit s (λ y. unsatisfiable r ≡ false) (λ r′ read′ h few. rw (accepted-is (sym read ∙ read′)) h) y is
+
+  pub counted-explanation : (w : List ℕ) (c : ℕ) → explanationOf limit s w c ≡ explanationOfRule r w c
+  unfolding explanationOf
+  counted-explanation w c =
+      let (y, is, count) = counted-accepts (synthesisOf limit s) n counted in
+      rw (is, accepts-as limit s r read y is)
+
 -- ---- the promise
 
 pub reasons-exactly : ReasonsExactly
@@ -169,9 +185,6 @@ unfolding explanationOf
 reasons-exactly limit s bytes w c = record {
   refused = λ number place e. rw (counted-refuses (synthesisOf limit s) number place e);
   explained = λ r n read e.
-      let y = counted-accepts (synthesisOf limit s) n e in
-      rw (y .1)
-      (synthesis-accepts limit s (λ y. y .rule ≡ r → Explained r w c (reasonOf (explanationOfRule (y .rule) w c)))
-      (λ r′ read′ satisfiable few is. rw is (rule-explained r w c (accepts-encodings s bytes r .0 read .0) (rw is at satisfiable)))
-      (y .0) (y .1) (ap (λ (z : Synthesis). z .rule) (accepts-as limit s r read (y .0) (y .1))));
+      subst (λ o. Explained r w c (reasonOf o)) (sym (counted-explanation limit s r n read e w c))
+      (rule-explained r w c (accepts-encodings s bytes r .0 read .0) (counted-satisfiable limit s r n read e));
 }

@@ -37,6 +37,7 @@ pub record RunsAs (mark : ℕ) (y : Synthesis) (table w : List ℕ) : Type 0 whe
   pub keeps : kept (lookup 256 mark table) 0 w ≡ kept (answerOf (y .rule)) (firstOf (y .rule)) w
   pub judges : verdicts (lookup 256 mark table) 0 w ≡ verdicts (answerOf (y .rule)) (firstOf (y .rule)) w
   pub ends : ended (lookup 256 mark table) 0 w ≡ indexOf (ended (answerOf (y .rule)) (firstOf (y .rule)) w) (y .equations)
+  pub found : Member (ended (answerOf (y .rule)) (firstOf (y .rule)) w) (y .equations)
 
 module _ (limit mark : ℕ) (s table : List ℕ) where
   -- the table of a rule
@@ -95,6 +96,7 @@ module _ (limit mark : ℕ) (s table : List ℕ) where
           keeps = rw (first-index limit r) at (alike .keeps);
           judges = rw (first-index limit r) at (alike .judges);
           ends = rw (first-index limit r) at (alike .ends);
+          found = alike .stays;
         }
 
     module _ (bytes : Bytes s) where
