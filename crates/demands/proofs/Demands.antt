@@ -26,6 +26,7 @@ use Rattle.demands.specs.Outcomes.{running}
 use Rattle.demands.specs.Refusals.{RunRefused, short-buffer, unfit}
 use Rattle.demands.specs.Demands.{DemandOne, DemandTwo, DemandThree}
 use Rattle.demands.proofs.Refused.{count-refused, build-refused}
+use Rattle.demands.proofs.RefusedReasons.{explain-refused}
 use Rattle.demands.proofs.UnfitTables.{unfit-not-fit}
 use Rattle.demands.proofs.RefusedCalls.{run-refused, run-fit, judge-refused}
 
@@ -36,6 +37,7 @@ demand-one = record {
   refuses = record {
     read-rule = rules.refuses-at-the-fault;
     count = count-refused;
+    explain = λ s kept scan bytes. explain-refused s bytes kept scan;
     build = λ s table bytes. build-refused s bytes (length table);
     run = run-refused;
     read-model = models.refuses-at-the-fault;

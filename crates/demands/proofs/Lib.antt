@@ -1,5 +1,6 @@
--- What each function refuses: counting and building first, then, with the tables that are unfit, running and judging. Last, the three demands.
+-- What each function refuses: counting and building first, then explaining; then, with the tables that are unfit, running and judging. Last, the three demands.
 pub mod Refused
+pub mod RefusedReasons
 pub mod UnfitTables
 pub mod RefusedCalls
 pub mod Demands

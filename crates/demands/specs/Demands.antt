@@ -13,8 +13,10 @@ use Rattle.reading.specs.Numbered.{numbered, readingOf}
 use Rattle.reading.specs.declared.FileRead.the-variants as Reading
 use Rattle.synthesis.specs.Monitor.{lookup}
 use Rattle.synthesis.specs.Building.{countedOf, Builds}
+use Rattle.synthesis.specs.Reason.{reasonOf}
 use Rattle.synthesis.specs.Promises.{SameAfterRows, TableUnchanged}
 use Rattle.synthesis.specs.declared.Counted.the-variants as Counted
+use Rattle.synthesis.specs.declared.Reason.the-variants as Reason
 use Rattle.running.specs.Running.{resultOf}
 use Rattle.running.specs.Calls.{Call, History, Calls, OnTable, OnTableOrRefused}
 use Rattle.running.specs.Promises.{Sifted, RunUnchanged, OnlyFronts}
@@ -28,8 +30,8 @@ use Rattle.models.specs.Judging.{stored, modelReadingOf, JudgedAs}
 use Rattle.models.specs.Promises.{Acceptable, JudgedExactly}
 use Rattle.models.specs.declared.Judged.{Judged}
 use Rattle.models.specs.declared.Judged.the-variants as Judged′
-use Rattle.demands.specs.Outcomes.{counting, building, tableBuilt, running, judging, tableAfterJudging, RefusedIff, IfRefused}
-use Rattle.demands.specs.Refusals.{CountRefused, BuildRefused, RunRefused, JudgeRefused}
+use Rattle.demands.specs.Outcomes.{counting, explaining, building, tableBuilt, running, judging, tableAfterJudging, RefusedIff, IfRefused}
+use Rattle.demands.specs.Refusals.{CountRefused, ExplainRefused, BuildRefused, RunRefused, JudgeRefused}
 
 -- ---- demand 1
 
@@ -38,6 +40,7 @@ use Rattle.demands.specs.Refusals.{CountRefused, BuildRefused, RunRefuse
 pub record RefusesExactly : Type 1 where
   pub read-rule : (s : List ℕ) → Bytes s → RefusedIff (readingOf (ruleOf s) .answer) Reading.Refused (RuleFault s)
   pub count : (s : List ℕ) → Bytes s → RefusedIff (countedOf (counting s)) Counted.Refused (CountRefused s)
+  pub explain : (s kept : List ℕ) (scan : ℕ) → Bytes s → RefusedIff (reasonOf (explaining s kept scan)) Reason.Refused (ExplainRefused s kept)
   pub build : (s table : List ℕ) → Bytes s → RefusedIff (countedOf (building s table)) Counted.Refused (BuildRefused s (length table))
   pub run : (s : State) (c : Call) → RefusedIff (resultOf s (running s c) .checked) Checked.Refused (RunRefused s c)
   pub read-model : (f : List ℕ) → Bytes f → RefusedIff (modelReadingOf (phoneOf f) .answer) Reading.Refused (ModelFault f)

@@ -4,9 +4,10 @@ use Prim.Native.Nat.{ℕ, _+_, _*_, _≤_, _<_}
 use mathlib.Core.Path.{_≡_}
 use mathlib.Core.Logic.{_⊎_}
 use mathlib.Core.List.{List}
-use lib.ListN.{length, getD}
+use lib.ListN.{length, getD, take}
 use Rattle.reading.specs.Rule.{Rule, RuleWithinLimits, encode}
 use Rattle.reading.specs.Faults.{Fault as RuleFault}
+use Rattle.synthesis.specs.Violation.{ViolatesRule}
 use Rattle.synthesis.specs.Promises.{Closed}
 use Rattle.running.specs.Calls.{Call}
 use Rattle.running.specs.declared.State.{State}
@@ -23,6 +24,14 @@ pub data CountRefused (s : List ℕ) : (number place : ℕ) → Type 1 where
   -- 9: one does, and over 128 equations are reached: no list of so few is closed under the codes
   too-many : (r : Rule) → RuleWithinLimits r → s ≡ encode r → (m : Model) → Finite m → Satisfies m r
       → ((es : List ℕ) → length es ≤ 128 → Closed r es → ⊥) → CountRefused s 9 0
+
+-- explaining a scan after these, whatever the scan is
+pub data ExplainRefused (s kept : List ℕ) : (number place : ℕ) → Type 1 where
+  -- 1 to 9: counting is refused
+  in-counting : {number place : ℕ} → CountRefused s number place → ExplainRefused s kept number place
+  -- 17: it isn't, and the shortest front of the kept scans that violates the rule ends with the one at this place
+  violating-scan : (a : Acceptable 128 s) (i : ℕ) → i < length kept → (ViolatesRule (a .rule) (take i kept) → ⊥)
+      → ViolatesRule (a .rule) (take (i + 1) kept) → ExplainRefused s kept 17 i
 
 -- building, with a table of so many bytes
 pub data BuildRefused (s : List ℕ) (capacity : ℕ) : (number place : ℕ) → Type 1 where

@@ -60,7 +60,7 @@ module _ (limit : ℕ) (s : List ℕ) (bytes : Bytes s) where
       → (m : Model) × Finite m × Satisfies m r
   unrefused-satisfiable r read other = (still, phones-finite stillPhone, unrefused-satisfies r read other)
 
-  counted-acceptable : (n : ℕ) → countedOf (synthesisOf limit s) ≡ Equations n → Acceptable limit s
+  pub counted-acceptable : (n : ℕ) → countedOf (synthesisOf limit s) ≡ Equations n → Acceptable limit s
   counted-acceptable n e =
       let counts = answers-count limit s n e in
       let r = counts .rule in
@@ -88,7 +88,7 @@ module _ (limit : ℕ) (s : List ℕ) (bytes : Bytes s) where
         on true q = unsatisfiable-iff r (file-well-formed s bytes r read) .0 q
         on false q = absurd (none (still-satisfies r (λ v. true≢false (sym (unsatisfiable-iff r (file-well-formed s bytes r read) .1 v) ∙ q))))
 
-  acceptable-counted : Acceptable limit s → (n : ℕ) × (countedOf (synthesisOf limit s) ≡ Equations n)
+  pub acceptable-counted : Acceptable limit s → (n : ℕ) × (countedOf (synthesisOf limit s) ≡ Equations n)
   acceptable-counted a =
       let r = a .rule in
       let read : ruleOf s ≡ accepted r = accepts-encodings s bytes r .1 (a .within-limits, a .encoded) in
