@@ -8,6 +8,7 @@ pub mod PaperExamples
 pub mod NumberingExamples
 pub mod NodeExamples
 pub mod OverlapExample
+pub mod ReasonExamples
 pub mod PhoneSteps
 pub mod DrawnModel
 pub mod Shortening

@@ -3,5 +3,6 @@ pub mod Examples
 pub mod NumberingExamples
 pub mod NodeExamples
 pub mod OverlapExample
+pub mod ReasonExamples
 pub mod ModelExamples
 pub mod RefusalExamples
