@@ -10,6 +10,7 @@ use Rattle.reading.proofs.Accepting.Accepted.{answers-accepted as rules-accepte
 use Rattle.reading.proofs.Refusing.FaultsRefused as rules
 use Rattle.synthesis.specs.Building.{Builds}
 use Rattle.synthesis.proofs.Tables.Built as building
+use Rattle.synthesis.proofs.Reasons.Explained.{reasons-exactly}
 use Rattle.running.specs.Running.{resultOf}
 use Rattle.running.specs.Calls.{Call, History, Calls, OnTable, OnTableOrRefused}
 use Rattle.running.specs.declared.Checked.the-variants as Checked
@@ -17,6 +18,7 @@ use Rattle.running.proofs.Refusals.{runs-on-tables}
 use Rattle.running.proofs.BuiltTables.{never-unfit}
 use Rattle.running.proofs.Leaving as leaving
 use Rattle.running.proofs.DemandTwo.{drops-exactly}
+use Rattle.running.proofs.Reasons.{reasons-of-runs}
 use Rattle.models.proofs.Files.Encoding.{accepts-phones, encode-bytes, answers-accepted}
 use Rattle.models.proofs.Files.FileFaults as models
 use Rattle.models.proofs.Judgments.Accepting.{accepts-exactly}
@@ -76,6 +78,8 @@ pub demand-two : DemandTwo
 demand-two = record {
   drops = drops-exactly 128 255;
   takes = call-taken;
+  explains = reasons-exactly 128;
+  explains-runs = reasons-of-runs 128 255;
   reads-rule = rules-accepted;
   reads-model = answers-accepted;
   models = λ f y. (
