@@ -1,10 +1,10 @@
 -- What is said of the scans is computed from the rules; the places are read off the formulas.
 use Prim.Native.Nat.{ℕ}
-use mathlib.Core.Path.{_≡_, refl, _∙_, ap}
+use mathlib.Core.Path.{_≡_, refl, ap}
 use mathlib.Core.List.{List, [], _∷_}
 use native.Mathlib.Omega.{arith}
 use Rattle.reading.specs.Pattern.{bit, covers, least}
-use Rattle.reading.specs.File.{accepted, recordsAt, formulaAt, formulaOf, ruleOf}
+use Rattle.reading.specs.File.{recordsAt, formulaAt, formulaOf, ruleOf}
 use Rattle.reading.specs.Nodes.{whole, first, second, after, body}
 use Rattle.synthesis.specs.Answering.{firstOf, answerOf, unsatisfiable}
 use Rattle.synthesis.specs.Search.{explored, found}
@@ -13,7 +13,7 @@ use Rattle.synthesis.specs.Reason.{ViolatesAt, at-falsity, in-first, in-second,
 use Rattle.synthesis.specs.Reason.{openedFalsities, explanationOfRule, explanationOf, reasonOf}
 use Rattle.synthesis.specs.declared.Counted.the-variants.{Equations}
 use Rattle.synthesis.proofs.Reasons.Explained.{counted-explanation}
-use Rattle.examples.specs.Examples.{ReadAs, poolFile, poolRule}
+use Rattle.examples.specs.Examples.{ReadAs, poolRule}
 use Rattle.examples.specs.ReasonExamples.{reason, twoPlacesFile, twoPlacesRule, ReasonExamples}
 use Rattle.examples.proofs.FileAnswers.{reads}
 use Rattle.examples.proofs.NumberPool.{number-pool}

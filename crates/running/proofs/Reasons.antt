@@ -7,17 +7,17 @@ use mathlib.Core.List.{List, [], _∷_, _++_}
 use native.Mathlib.Omega.{arith}
 use lib.ListN.{length, getD, take, drop, take-append-drop, length-take}
 use Rattle.reading.specs.Rule.{Rule}
-use Rattle.synthesis.specs.Violation.{coveredBy, ViolatesRule}
+use Rattle.synthesis.specs.Violation.{ViolatesRule}
 use Rattle.synthesis.specs.ReasonPromises.{Placed, Explained}
 use Rattle.synthesis.specs.declared.Reason.{Reason}
 use Rattle.synthesis.specs.declared.Reason.the-variants.{Kept, Node, Refused}
-use Rattle.synthesis.proofs.Unfolding.Extension.{closed-under-extension}
 use Rattle.synthesis.proofs.Tables.Equations.{file-well-formed}
 use Rattle.synthesis.proofs.Tables.Built.{builds-counted}
+use Rattle.synthesis.proofs.Reasons.Fronts.{extended, front-violates}
 use Rattle.synthesis.proofs.Reasons.Places.{violates-somewhere}
-use Rattle.synthesis.proofs.Reasons.Explained.{front-violates, reasons-exactly}
+use Rattle.synthesis.proofs.Reasons.Explained.{reasons-exactly}
 use Rattle.running.specs.Calls.{History, withVerdict, keptBefore}
-use Rattle.running.specs.Promises.{Sifted, reasonAfter, Reasoned, ReasonsOfRuns}
+use Rattle.running.specs.Promises.{Sifted, reasonAfter, ReasonsOfRuns}
 use Rattle.running.proofs.WithVerdicts.{with-append}
 use Rattle.running.proofs.DemandTwo.{drops-exactly}
 
@@ -35,7 +35,7 @@ module _ {r : Rule} {h : History} (sifted : Sifted r h) where
 
   kept-before-safe : (i : ℕ) → ViolatesRule r (keptBefore h i) → ⊥
   kept-before-safe i v =
-      sifted .safe (subst (ViolatesRule r) (kept-front i) (closed-under-extension (coveredBy (r .patterns)) [] (r .formula) (keptBefore h i) _ v))
+      sifted .safe (subst (ViolatesRule r) (kept-front i) (extended r (keptBefore h i) _ v))
 
 -- ---- what is said of a scan after a list that doesn't violate the rule
 

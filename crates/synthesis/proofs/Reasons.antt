@@ -1,4 +1,5 @@
 -- Why a scan is dropped.
+pub mod Fronts
 pub mod Places
 pub mod OpenedPlaces
 pub mod LowestNodes

@@ -11,7 +11,7 @@ use Rattle.reading.specs.File.{Outcome, accepted, refused}
 use Rattle.reading.proofs.Basics.Outcomes.{Distinct, byCase-value, byCase-refused}
 use Rattle.synthesis.specs.NodeSet.{intersection}
 use Rattle.synthesis.specs.Answering.{firstOf, answerOf}
-use Rattle.synthesis.specs.Building.{synthesisOf, countedOf}
+use Rattle.synthesis.specs.Building.{synthesisOf}
 use Rattle.synthesis.specs.Arrays.{gathered, answerBy}
 use Rattle.synthesis.specs.Reason.{lowestOf, openedFalsities, followed, explanationOf, reasonOf}
 use Rattle.synthesis.specs.Plans.{IsPlan, followedOf, unexplained}

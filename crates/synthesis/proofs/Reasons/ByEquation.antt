@@ -15,8 +15,9 @@ use Rattle.synthesis.proofs.Monitors.RuleMonitor.{violated-iff-suppress
 use Rattle.synthesis.proofs.Numberings.Indices.{index-is}
 use Rattle.synthesis.proofs.Tables.Equations.{file-well-formed}
 use Rattle.synthesis.proofs.Tables.Built.{RunsAs, built-runs, builds-outcome, builds-counted}
+use Rattle.synthesis.proofs.Reasons.Fronts.{front-violates}
 use Rattle.synthesis.proofs.Reasons.Following.{Follows, all-kept, first-dropped, follows}
-use Rattle.synthesis.proofs.Reasons.Explained.{counted-satisfiable, counted-explanation, front-violates}
+use Rattle.synthesis.proofs.Reasons.Explained.{counted-satisfiable, counted-explanation}
 
 module _ {limit mark : ℕ} {s table : List ℕ} {r : Rule} {n : ℕ} {left : List ℕ} (b : Builds limit mark s table r n left) where
   abbrev endedIn : List ℕ → ℕ

@@ -1,20 +1,18 @@
 -- What is said of a scan is as promised. The scans before it are followed: at the first that is dropped the rule is violated first; where none is, the
 -- places of these scans with the one that is asked for are the ff nodes that it opens, and the lowest of them is said. Each answer excludes the others.
-use Prim.Native.Nat.{ℕ, suc, _+_, _-_, _≤_, _<_}
+use Prim.Native.Nat.{ℕ, suc, _+_, _-_}
 use mathlib.Core.Path.{_≡_, refl, sym, _∙_, ap, subst}
 use mathlib.Core.Logic.{_↔_, inl, inr}
 use mathlib.Core.Bool.{false, true≢false}
 use mathlib.Core.List.{List, [], _∷_, _++_}
-use native.Mathlib.Decide.{decLe}
 use native.Mathlib.Omega.{arith}
-use lib.ListN.{length, take, drop, take-append-drop}
-use lib.Seq.{take-add}
+use lib.ListN.{length, take}
 use Rattle.reading.specs.Rule.{WellFormed, Rule, RuleWithinLimits}
 use Rattle.reading.specs.File.{accepted, ruleOf}
 use Rattle.reading.proofs.Basics.Outcomes.{accepted-is}
 use Rattle.reading.proofs.Accepting.Accepted.{accepts-encodings}
 use Rattle.reading.proofs.Numbering.NodeLaws.{node-fits}
-use Rattle.synthesis.specs.Violation.{coveredBy, ViolatesRule}
+use Rattle.synthesis.specs.Violation.{ViolatesRule}
 use Rattle.synthesis.specs.Monitor.{ended, Suppresses}
 use Rattle.synthesis.specs.Opening.{OpensToFalsity}
 use Rattle.synthesis.specs.Answering.{firstOf, answerOf, unsatisfiable}
@@ -25,40 +23,30 @@ use Rattle.synthesis.specs.ReasonPromises.{Explained, ReasonsExactly}
 use Rattle.synthesis.specs.declared.Counted.the-variants.{Equations}
 use Rattle.synthesis.specs.declared.Reason.{Reason}
 use Rattle.synthesis.specs.declared.Reason.the-variants.{Kept, Node, Refused}
-use Rattle.synthesis.proofs.Unfolding.Extension.{closed-under-extension}
 use Rattle.synthesis.proofs.Monitors.RuleMonitor.{unsatisfiable-opens, violated-iff-suppressed}
+use Rattle.synthesis.proofs.Reasons.Fronts.{extended, front-violates, FirstViolated, first-violated-unique}
 use Rattle.synthesis.proofs.Reasons.Places.{violates-somewhere}
 use Rattle.synthesis.proofs.Reasons.OpenedPlaces.{places-opened}
 use Rattle.synthesis.proofs.Reasons.LowestNodes.{lowest-map, lowest-unique, said-of-opened}
 use Rattle.synthesis.proofs.Reasons.Following.{Follows, all-kept, first-dropped, follows}
 use Rattle.synthesis.proofs.Tables.SynthesisOutcomes.{synthesis-accepts, counted-accepts, counted-refuses, accepts-as}
 
--- ---- violated fronts
+-- ---- answers told apart
 
-module _ (r : Rule) (w : List ℕ) where
-  extended : (v u : List ℕ) → ViolatesRule r v → ViolatesRule r (v ++ u)
-  extended v u = closed-under-extension (coveredBy (r .patterns)) [] (r .formula) v u
+refused-same : {i j : ℕ} {reason : Reason} → reason ≡ Refused 17 i → reason ≡ Refused 17 j → i ≡ j
+refused-same e e′ = cc
 
-  -- a list with a front that violates the rule violates it, and so does a longer front
-  pub front-violates : (j : ℕ) → ViolatesRule r (take j w) → ViolatesRule r w
-  front-violates j v = subst (ViolatesRule r) (take-append-drop j w) (extended (take j w) (drop j w) v)
+node-same : {m n : ℕ} {reason : Reason} → reason ≡ Node m → reason ≡ Node n → m ≡ n
+node-same e e′ = cc
 
-  longer-front : (j k : ℕ) → j ≤ k → ViolatesRule r (take j w) → ViolatesRule r (take k w)
-  longer-front j k h v =
-      let e : j + (k - j) ≡ k = omega arith in
-      subst (ViolatesRule r) (sym (take-add j (k - j) w) ∙ ap (λ (n : ℕ). take n w) e) (extended (take j w) (take (k - j) (drop j w)) v)
+kept-not-refused : {i : ℕ} {reason : Reason} → reason ≡ Kept → reason ≡ Refused 17 i → ⊥
+kept-not-refused e e′ = let z : _≡_ {A = ℕ} 0 1 = cc in omega arith
 
-  -- the i-th scan is the last of the shortest front that violates the rule
-  abbrev FirstViolated : ℕ → Type 0
-  FirstViolated i = (i < length w) × (ViolatesRule r (take i w) → ⊥) × ViolatesRule r (take (suc i) w)
+kept-not-node : {m : ℕ} {reason : Reason} → reason ≡ Kept → reason ≡ Node m → ⊥
+kept-not-node e e′ = let z : _≡_ {A = ℕ} 0 1 = cc in omega arith
 
-  first-violated-unique : (i j : ℕ) → FirstViolated i → FirstViolated j → i ≡ j
-  first-violated-unique i j (h, none, v) (h′, none′, v′) = on (decLe (suc i) j) (decLe (suc j) i)
-    where
-      on : Dec (suc i ≤ j) → Dec (suc j ≤ i) → i ≡ j
-      on (yes less) k = absurd (none′ (longer-front (suc i) j less v))
-      on (no k) (yes less) = absurd (none (longer-front (suc j) i less v′))
-      on (no a) (no b) = omega arith
+node-not-refused : {m i : ℕ} {reason : Reason} → reason ≡ Node m → reason ≡ Refused 17 i → ⊥
+node-not-refused e e′ = let z : _≡_ {A = ℕ} 0 1 = cc in omega arith
 
 -- ---- the three answers
 
@@ -75,22 +63,7 @@ module _ (r : Rule) (w : List ℕ) (c : ℕ) where
 
   -- the scans before are fit where those with the scan are
   scans-violate : ViolatesRule r w → ViolatesRule r withScan
-  scans-violate = extended r w w (c ∷ [])
-
-  refused-same : {i j : ℕ} {reason : Reason} → reason ≡ Refused 17 i → reason ≡ Refused 17 j → i ≡ j
-  refused-same e e′ = cc
-
-  node-same : {m n : ℕ} {reason : Reason} → reason ≡ Node m → reason ≡ Node n → m ≡ n
-  node-same e e′ = cc
-
-  kept-not-refused : {i : ℕ} {reason : Reason} → reason ≡ Kept → reason ≡ Refused 17 i → ⊥
-  kept-not-refused e e′ = let z : _≡_ {A = ℕ} 0 1 = cc in omega arith
-
-  kept-not-node : {m : ℕ} {reason : Reason} → reason ≡ Kept → reason ≡ Node m → ⊥
-  kept-not-node e e′ = let z : _≡_ {A = ℕ} 0 1 = cc in omega arith
-
-  node-not-refused : {m i : ℕ} {reason : Reason} → reason ≡ Node m → reason ≡ Refused 17 i → ⊥
-  node-not-refused e e′ = let z : _≡_ {A = ℕ} 0 1 = cc in omega arith
+  scans-violate = extended r w (c ∷ [])
 
   -- so each is said exactly where that holds
   said-explained : WellFormed (length (r .patterns)) [] (r .formula) → (reason : Reason) → Said reason → Explained r w c reason

@@ -1,7 +1,7 @@
 -- Following scans from an equation: either all are kept, and they lead to the equation in which the run ends, or the first that is dropped is the last of
 -- the shortest front of which something is dropped. By induction on the scans.
-use Prim.Native.Nat.{ℕ, zero, suc, _+_, _<_}
-use mathlib.Core.Path.{_≡_, refl, _∙_, ap}
+use Prim.Native.Nat.{ℕ, suc, _+_, _<_}
+use mathlib.Core.Path.{_≡_, refl}
 use mathlib.Core.List.{List, [], _∷_}
 use native.Mathlib.Omega.{arith}
 use lib.ListN.{length, take}

@@ -1,6 +1,5 @@
 -- `explain` meets its contract: each return is a row of what is answered of a scan.
 use mathlib.Core.Path.{_∙_}
-use native.Mathlib.Omega.{arith}
 use borrow.Author.Needs.{needs}
 use Rattle.reading.proofs.Basics.ByteLaws.{slice-bytes}
 use Rattle.reading.specs.Rule.{Bytes}
