@@ -41,10 +41,14 @@ class Equations:
     def has_falsity(self, opened):
         return any(self.nodes[node][0] == 3 for node in opened)
 
+    def opened_under(self, equation, patterns):
+        """The ff nodes and the necessities that a code opens which these patterns cover."""
+        taken = [node for node in equation if self.nodes[node][1] in patterns]
+        return frozenset().union(*[self.opened(node + 1) for node in taken])
+
     def answer(self, equation, patterns):
         """The answer to a code that these patterns cover."""
-        taken = [node for node in equation if self.nodes[node][1] in patterns]
-        opened = frozenset().union(*[self.opened(node + 1) for node in taken])
+        opened = self.opened_under(equation, patterns)
         return DROPPED if self.has_falsity(opened) else opened
 
     def answers(self, equation):
