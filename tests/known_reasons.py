@@ -1,4 +1,4 @@
-"""Why scans are dropped, typed by hand from the paper: the lowest ff node, that the scan is kept, or the refusal.
+"""Why scans are dropped, typed by hand: the lowest ff node, that the scan is kept, or the refusal.
 Nodes are counted from 0 in reading order, and patterns aren't."""
 from known import ANY, ONE, POOL, bytes_of, counted
 from known_equations import BRANCHES, OVERLAPPING, REQUESTS, SIX

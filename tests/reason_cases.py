@@ -10,7 +10,7 @@ from known import POOL, bytes_of
 from reason_shapes import branches, filled_up, node_count, returning, with_faults
 from reasons import KEPT, by_violation, places_of
 from rules import Refusal, read_rule
-from shapes import FALSITY
+from shapes import FALSITY, TRUTH
 from stream_plays import RATES
 from stream_scans import steered
 
@@ -29,12 +29,9 @@ def is_node(answer):
     return answer.startswith("node")
 
 
-def accepted(rules):
-    return [rule for rule in rules if not isinstance(rows(rule), Refusal)]
-
-
 def dropping(rules):
-    return [rule for rule in accepted(rules) if can_drop(rows(rule))]
+    """Those of the rules that are accepted and can drop a scan."""
+    return [rule for rule in rules if not isinstance(rows(rule), Refusal) and can_drop(rows(rule))]
 
 
 def points(random, data, length, rate):
@@ -67,7 +64,7 @@ def drawn_cases(random):
 
 
 def long_cases(random):
-    """Kept lists of hundreds of scans, and some as long as the program takes."""
+    """Kept lists of hundreds of scans. Some are as long as the program takes, one with a rule file that is too."""
     cases = []
     for text in LASTING:
         for length in LONG:
@@ -75,6 +72,7 @@ def long_cases(random):
     for data in dropping(drawn(random, counters, 12) + drawn(random, tangled, 12) + drawn(random, returning, 12)):
         cases += points(random, data, random.choice(LONG), 0.3)
     pool, kept = bytes_of(POOL), bytes([37, 128]) * (MOST_BYTES // 2 - 1)
+    cases.append((pool.ljust(MOST_BYTES, TRUTH), kept + bytes([37, 5]), 5))
     return cases + [(pool, kept + bytes(last), 5) for last in ([37], [37, 128], [37, 37], [37, 5], [5, 37])]
 
 
@@ -85,7 +83,7 @@ def unfit(random, case, more):
 
 
 def unfit_cases(random, dropped):
-    """Lists in which the last scan violates the rule, one in the middle, or the first."""
+    """Lists that violate their rule with the last scan, with one in the middle, or with the first."""
     cases = [unfit(random, case, 0) for case in dropped[::9]]
     cases += [unfit(random, case, random.randrange(1, 9)) for case in dropped[1::9]]
     first = [case for case in dropped if case[1] == b""]
@@ -131,8 +129,8 @@ def with_other_scan(random, case):
 
 
 def with_neighbours(random, cases):
-    """The cases, none of them twice. With each whose answer is a node there is one that has the last of its kept scans
-    less, or another scan."""
+    """The cases, none of them twice, and with each whose answer is a node one without the last of its kept scans, or
+    with another scan."""
     every = dict.fromkeys(cases)
     queue = list(every)
     for case in queue:

@@ -21,9 +21,10 @@ def main():
     rules, lists = compare_reasons.check(table_cases.files()[::3])
     answers = {case: compare_reasons.reason(*case) for case in reason_cases.cases()}
     compare_reasons.check_neighbours(answers)
+    tally = compare_reasons.tally(answers)
     settle("reasons", b"".join(input_of(*case) for case in answers), answers.values(), checks)
     print(f"{rules} rules compared on {lists} lists of codes")
-    print(f"{len(answers)} cases: {told(compare_reasons.tally(answers))}")
+    print(f"{len(answers)} cases: {told(tally)}")
 
 
 if __name__ == "__main__":
