@@ -31,8 +31,8 @@ def check_typed():
 
 
 def check_rule(random, data):
-    """On lists of codes, each taken as kept scans and a last one, both give the same answer; and there is an ff node at
-    which a list violates a rule exactly where the list violates it. Says how many lists were tried."""
+    """On lists of codes, each taken as kept scans and a last one, both give the same answer; and there is an ff node
+    at which a list violates the rule exactly where violation says that it does. Says how many lists were tried."""
     rule, places = read_rule(data), places_of(data)
     lists = [bytes(codes) for codes in lists_of_codes(random, equations_of(data))]
     for codes in lists:

@@ -93,8 +93,8 @@ def unfit_cases(random, dropped):
 
 
 def refused_cases(random, dropped):
-    """Rules with a fault, for each of the refusals, and kept scans that violate the rule without it. A rule that drops
-    nearly everything has few equations whatever stands beside it, and so not the last of the faults."""
+    """Rules with a fault, for each of the refusals, and kept scans that violate the rule without it. A rule that
+    drops nearly everything has few equations whatever stands beside it, and so not the last of the faults."""
     small = [case for case in dropped if len(read_rule(case[0]).patterns) <= 30 and node_count(case[0]) <= 50]
     cases = []
     for case in random.sample(small, 60):

@@ -1,5 +1,5 @@
-"""Rules for their reasons: overlapping branches, ff nodes that variables bring in again, ff at node 63, and a rule with
-one fault for each refusal."""
+"""Rules for their reasons: overlapping branches, ff nodes that variables bring in again, ff at node 63, and a rule
+with one fault for each refusal."""
 from equation_shapes import afters, all_hold, wide_patterns
 from rules import MOST_NODES, numbered, read_rule
 from shapes import ANY, BOTH, FALSITY, MAX, ONE, TRUTH, after, pattern, variable
@@ -28,8 +28,8 @@ def branches(random):
 
 
 def brought_in(random, outer, deeper):
-    """A max below so many others, of two parts. One is ff after a code of the patterns 0 and 1. The other leads, after
-    a code of 2 and 3, to a max of the same kind, or at last to such an ff beside the variable of one of the maxes."""
+    """A max below so many others, of two parts. One is ff after a code of pattern 0 or 1. The other leads, after a
+    code of 2 or 3, to a max of the same kind, or at last to such an ff beside the variable of one of the maxes."""
     forbidden = [after(random.randrange(2)) + FALSITY for _ in range(2)]
     if deeper > 0:
         inner = brought_in(random, outer + 1, deeper - 1)
@@ -41,7 +41,7 @@ def brought_in(random, outer, deeper):
 
 
 def returning(random):
-    """Maxes in maxes. Their variables bring in ff nodes again, some of lower numbers than those beside the variable."""
+    """Maxes in maxes. A variable brings in ff nodes again, some of lower numbers than the one beside it."""
     forbidden = pattern(random.randrange(1, 8), 0, random.randrange(9, 20)) + pattern(7, 5, random.randrange(5, 32))
     leading = pattern(56, 0, 31) + pattern(random.choice([24, 40, 255]), 0, 31)
     return forbidden + leading + brought_in(random, 0, random.randrange(5))
@@ -54,7 +54,7 @@ def filled_up(rule):
 
 
 def counting(number):
-    """The formula of the paper's second family with m = 8, which has 256 equations, over the patterns from a number on."""
+    """The formula of the paper's second family with m = 8, over the patterns from that number on: 256 equations."""
     return MAX + all_hold([after(number) + variable(0), after(number + 1) + after(number) * 8 + TRUTH])
 
 

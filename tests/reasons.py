@@ -21,8 +21,8 @@ def in_reading_order(part, maxes=()):
 
 
 class Places:
-    """The ff nodes at which lists of codes violate a rule, in the order in which they are met. A list is taken from its
-    end on: the nodes of every part follow from the first code, and from the nodes of every part for the rest."""
+    """The ff nodes at which lists of codes violate a rule, in the order in which they are met. A list is taken from
+    its end on: the nodes of every part follow from the first code and from the nodes of every part for the rest."""
 
     def __init__(self, rule):
         self.covered = [pattern.codes() for pattern in rule.patterns]
@@ -31,8 +31,8 @@ class Places:
         self.with_code = cache(self.with_code)
 
     def with_code(self, code, rest):
-        """The nodes of every part for a code and then a rest, given those for the rest. No list is shorter than the
-        empty one: that has the code None, which no pattern covers."""
+        """The nodes of every part for a code and then a rest, given those for the rest. For the empty list
+        the code is None, which no pattern covers."""
 
         @cache
         def nodes(part, maxes):

@@ -1,9 +1,9 @@
 """Writes what the test program `reasons` reads and what it must answer, from the Python alone: from reasons by
 violation, which are held against reasons by the equations.
 
-Each case on its standard input is a rule's length and the number of kept scans, each as three bytes, highest first, then
-the rule file, the kept scans and the scan. Each case has one line on its standard output. With --check nothing is
-written, and the files are compared with what would be.
+Each case on its standard input is a rule's length and the number of kept scans, each as three bytes, highest first,
+then the rule file, the kept scans and the scan. Each case has one line on its standard output. With --check nothing
+is written, and the files are compared with what would be.
 """
 import compare_reasons
 import reason_cases
