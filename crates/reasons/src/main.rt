@@ -10,6 +10,9 @@ use testing::print_refusal;
 use testing::read_byte;
 use testing::read_size;
 
+// A case has no longer rule, and no more kept scans.
+const MOST: usize = 1024;
+
 fn print_reason(reason: Reason) {
     match reason {
         Reason::Kept => {
@@ -39,26 +42,22 @@ fn answer_scans(rule: &mut [u8], kept: &mut [u8]) -> bool {
 }
 
 // Answers the next case, and says whether there was one that the spaces can hold.
-fn answer_case(rule: &mut [u8], kept: &mut [u8]) -> bool {
-    let Head::Number(n) = read_size(rule.len()) else {
+fn answer_case() -> bool {
+    let mut rule = [0u8; MOST];
+    let mut kept = [0u8; MOST];
+    let Head::Number(n) = read_size(MOST) else {
         return false;
     };
-    let Head::Number(m) = read_size(kept.len()) else {
+    let Head::Number(m) = read_size(MOST) else {
         return false;
     };
     answer_scans(&mut rule[..n], &mut kept[..m])
 }
 
 // A proved loop has to end, and nothing says that the input does: so it has as many turns as 64 bits can count.
-fn answer_cases(rule: &mut [u8], kept: &mut [u8]) {
+fn main() {
     let mut case = 0;
-    while case < u64::MAX && answer_case(rule, kept) {
+    while case < u64::MAX && answer_case() {
         case += 1;
     }
-}
-
-fn main() {
-    let mut rule = [0u8; 1024];
-    let mut kept = [0u8; 1024];
-    answer_cases(&mut rule, &mut kept);
 }

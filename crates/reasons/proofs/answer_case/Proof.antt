@@ -1,4 +1,4 @@
--- `reasons::answer_case` is safe and ends. The parts that are lent on have the lengths that were read.
+-- `reasons::answer_case` is safe and ends. The parts that are lent have the lengths that were read.
 use mathlib.Core.Path.{sym}
 use lib.Seq.{length-take-le}
 use borrow.Author.Needs.{needs}
@@ -29,28 +29,22 @@ enum-told-2 c = search needs
 returns-2 : tie.Need-returns-2
 returns-2 c = search needs
 
-slice-relend-prefix-answer-scans : tie.Need-slice-relend-prefix-answer-scans
-slice-relend-prefix-answer-scans c =
+array-borrow-prefix-rule : tie.Need-array-borrow-prefix-rule
+array-borrow-prefix-rule c =
     let s = c .before .before .before .before .before in
     rw (s .n .given .1) at (s .before .before .read-size .ensures)
 
 slice-aggregate-answer-scans : tie.Need-slice-aggregate-answer-scans
-slice-aggregate-answer-scans c = sym (length-take-le _ _ (slice-relend-prefix-answer-scans (c .before)))
+slice-aggregate-answer-scans c = sym (length-take-le _ _ (array-borrow-prefix-rule (c .before)))
 
-slice-relend-prefix-answer-scans-2 : tie.Need-slice-relend-prefix-answer-scans-2
-slice-relend-prefix-answer-scans-2 c = let s = c .before .before in rw (s .m .given .1) at (s .before .before .read-size2 .ensures)
+array-borrow-prefix-kept : tie.Need-array-borrow-prefix-kept
+array-borrow-prefix-kept c = let s = c .before .before in rw (s .m .given .1) at (s .before .before .read-size2 .ensures)
 
 slice-aggregate-answer-scans-2 : tie.Need-slice-aggregate-answer-scans-2
-slice-aggregate-answer-scans-2 c = sym (length-take-le _ _ (slice-relend-prefix-answer-scans-2 (c .before)))
+slice-aggregate-answer-scans-2 c = sym (length-take-le _ _ (array-borrow-prefix-kept (c .before)))
 
 answer-scans-requires : tie.Need-answer-scans-requires
 answer-scans-requires c κs = search needs
-
-same-length : tie.Need-same-length
-same-length c = search needs
-
-same-length-2 : tie.Need-same-length-2
-same-length-2 c = search needs
 
 returns-3 : tie.Need-returns-3
 returns-3 c = search needs
@@ -67,11 +61,9 @@ answer-case-spec =
     enum-known-m
     enum-told-2
     returns-2
-    slice-relend-prefix-answer-scans
+    array-borrow-prefix-rule
     slice-aggregate-answer-scans
-    slice-relend-prefix-answer-scans-2
+    array-borrow-prefix-kept
     slice-aggregate-answer-scans-2
     answer-scans-requires
-    same-length
-    same-length-2
     returns-3)
