@@ -16,7 +16,7 @@ RETURNING = ONE + CANCEL + "6 4 5 0 3 5 1 4 5 0 3 7 0"
 INNER = ONE + CANCEL + "6 4 5 0 3 5 1 6 4 5 0 3 5 1 7 0"
 OUTER = ONE + CANCEL + "6 4 5 0 3 5 1 6 4 5 0 3 5 1 7 1"
 
-# "No second delivery of stop 7 before it is issued again", from the README. Its only ff is node 8.
+# The first of the four rules for a desk in the README, on a second delivery of stop 7. Its only ff is node 8.
 ONCE = (
     ANY + "1 8 7 7 1 254 0 31 1 1 0 6 1 1 8 31 "
     "6 4 5 0 7 0 5 1 6 4 5 1 3 4 5 2 7 0 4 5 3 7 0 5 4 7 0"
