@@ -5,6 +5,8 @@ use mathlib.Core.Path.{_≡_}
 use Rattle.reading.specs.File.{Outcome}
 use Rattle.synthesis.specs.declared.Counted.{Counted}
 use Rattle.synthesis.specs.declared.Counted as Counted′
+use Rattle.synthesis.specs.declared.Reason.{Reason}
+use Rattle.synthesis.specs.declared.Reason as Reason′
 use Rattle.running.specs.Running.{start, moved, Run, resultOf}
 use Rattle.running.specs.declared.State.{State}
 use Rattle.running.specs.declared.Checked.{Checked}
@@ -21,6 +23,16 @@ pub record Result : Type 0 where
 abbrev pub countedResult : Counted → Result
 countedResult (Counted′.the-variants.Equations n) = record { number = 0; value = n }
 countedResult (Counted′.the-variants.Refused number place) = record { number = number; value = place }
+
+-- what stands in place of a node where a scan is kept: a rule has at most 64 nodes, numbered from 0
+abbrev pub keptValue : ℕ
+keptValue = 64
+
+-- explaining: the number of the ff node, or that a scan is kept
+abbrev pub reasonResult : Reason → Result
+reasonResult Reason′.the-variants.Kept = record { number = 0; value = keptValue }
+reasonResult (Reason′.the-variants.Node m) = record { number = 0; value = m }
+reasonResult (Reason′.the-variants.Refused number place) = record { number = number; value = place }
 
 -- judging: 1 where the model meets the rule, 0 where it breaks it
 abbrev pub judgedResult : Judged → Result

@@ -1,16 +1,21 @@
-// The library for programs in C: building, judging and running, under plain names. A slice is a pointer and a length; the contracts suppose that
+// The library for programs in C: building, explaining, judging and running, under plain names. A slice is a pointer and a length; the contracts suppose that
 // it is good, and apart from what is changed. include/jarveun.h declares the functions, and says what a caller owes. The definitions that the
 // contracts cite stand in specs/ of the layers; Results.antt has the answers as numbers.
 use models::Judged;
 use running::Checked;
 use running::State;
 use synthesis::Counted;
+use synthesis::Reason;
 ghost use mathlib.Core.Path.{_≡_};
 ghost use lib.ListN.{length};
 ghost use Rattle.synthesis.specs.Building.{buildingOf, countedOf, tableAfter};
+ghost use Rattle.synthesis.specs.Reason.{explanationOf, reasonOf};
 ghost use Rattle.running.specs.Running.{runOf, outputAfter, verdictsAfter};
 ghost use Rattle.models.specs.Judging.{judgingOf, JudgedAs, tableJudged};
-ghost use Rattle.boundary.specs.Results.{countedResult, judgedResult, checkedNumber, stateOf, IsRun};
+ghost use Rattle.boundary.specs.Results.{countedResult, reasonResult, judgedResult, checkedNumber, stateOf, IsRun};
+
+// What is handed back in place of a node where a scan is kept. No node of a rule has this number.
+const KEPT_VALUE: usize = 64;
 
 // Fills a table as building does. Answers 0, with the count of equations in `value`, or the number of a refusal, with its place.
 #[no_mangle]
@@ -25,6 +30,29 @@ pub extern "C" fn jarveun_build(rule: &[u8], table: &mut [u8], value: &mut usize
             0
         }
         Counted::Refused(number, place) => {
+            *value = place;
+            number
+        }
+    }
+}
+
+// Explains why a scan is dropped after the scans kept so far. Answers 0, with the number of an ff node in `value`, or `KEPT_VALUE` where the scan is
+// kept; or the number of a refusal, with its place.
+#[no_mangle]
+pub extern "C" fn jarveun_explain(rule: &[u8], kept: &[u8], scan: u8, value: &mut usize) -> u8
+    ensures { λ r. ⌜ r ≡ reasonResult (reasonOf (explanationOf 128 (now (rule .entry)) (now (kept .entry)) scan)) .number ⌝ }
+    ensures { λ _. ⌜ now (value .exit) ≡ reasonResult (reasonOf (explanationOf 128 (now (rule .entry)) (now (kept .entry)) scan)) .value ⌝ }
+{
+    match synthesis::explain(rule, kept, scan) {
+        Reason::Kept => {
+            *value = KEPT_VALUE;
+            0
+        }
+        Reason::Node(node) => {
+            *value = node as usize;
+            0
+        }
+        Reason::Refused(number, place) => {
             *value = place;
             number
         }
