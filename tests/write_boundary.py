@@ -8,17 +8,23 @@ from expected import is_check, settle
 from judging import judge
 from known import POOL, bytes_of
 from known_models import MEETING, PAPER
+from reasons import KEPT, by_violation
 from rules import Refusal
 from running import run
 
-# A model that is cut short inside its first step, and the paper's scans.
+# A rule with an unguarded variable, a model that is cut short inside its first step, and the paper's scans.
+UNGUARDED = "6 7 0"
 CUT = "16 2 17 0"
 SCANS = bytes_of("37 5 128 5 37 5")
 
+# What the header has for a kept scan in place of a node.
+KEPT_VALUE = 64
+
 # After the name of a function come its answer, 0 or the number of a refusal, and the value beside it: 1 for a model that meets
-# its rule and 0 for one that breaks it, the count of equations, or the place of the refusal. A run has the equation and the
-# counts of kept and of dropped scans there, and then the 8 bytes of the output and all verdicts. Both buffers had 7 before the
-# first run, the verdicts have what it left there before the second, and the third has 5 verdicts of its own.
+# its rule and 0 for one that breaks it, the count of equations, the number of an ff node or 64 for a scan that is kept, or the
+# place of the refusal. A run has the equation and the counts of kept and of dropped scans there, and then the 8 bytes of the
+# output and all verdicts. Both buffers had 7 before the first run, the verdicts have what it left there before the second, and
+# the third has 5 verdicts of its own.
 LINES = [
     "judge 0 0",
     "judge 0 1",
@@ -26,6 +32,11 @@ LINES = [
     "build 10 0",
     "build 7 1",
     "build 0 3",
+    "explain 0 4",
+    "explain 0 64",
+    "explain 17 1",
+    "explain 17 1",
+    "explain 7 1",
     "run 0 1 5 1 37 128 5 37 5 7 7 7 0 1 0 0 0 0 7 7",
     "run 16 3 0 0 7 7 7 7 7 7 7 7 0 1 0 0 0 0 7 7",
     "run 15 2 0 0 7 7 7 7 7 7 7 7 7 7 7 7 7",
@@ -50,6 +61,14 @@ def built(rule, size):
     return f"build 0 {len(answer)}", table
 
 
+def explained(rule, kept, scan):
+    """The line of an explanation."""
+    word, *numbers = by_violation(bytes_of(rule), bytes_of(kept), scan).split()
+    if word == "refused":
+        return f"explain {numbers[0]} {numbers[2]}"
+    return f"explain 0 {KEPT_VALUE if word == KEPT else numbers[0]}"
+
+
 def ran(table, state, verdicts):
     """The line of a run over the scans with 3 equations."""
     output = bytearray([7] * 8)
@@ -63,9 +82,11 @@ def lines():
     """The same by the Python."""
     last, table = built(POOL, LEAST_TABLE)
     verdicts = bytearray([7] * 8)
-    buildings = [built(POOL, LEAST_TABLE - 1)[0], built("6 7 0", LEAST_TABLE)[0], last]
+    buildings = [built(POOL, LEAST_TABLE - 1)[0], built(UNGUARDED, LEAST_TABLE)[0], last]
+    reasons = [explained(POOL, "37", 5), explained(POOL, "37 128", 5)]
+    reasons += [explained(POOL, "37 5", 5), explained(POOL, "37 5", 128), explained(UNGUARDED, "37 5", 5)]
     runs = [ran(table, 0, verdicts), ran(table, 3, verdicts), ran(table, 2, bytearray([7] * 5))]
-    return [judged(PAPER), judged(MEETING), judged(CUT)] + buildings + runs
+    return [judged(PAPER), judged(MEETING), judged(CUT)] + buildings + reasons + runs
 
 
 def main():

@@ -39,6 +39,12 @@ const CUT: [u8; 4] = [16, 2, 17, 0];
 
 const SCANS: [u8; 6] = [37, 5, 128, 5, 37, 5];
 
+const CANCELLED: [u8; 1] = [37];
+
+const SYNCED: [u8; 2] = [37, 128];
+
+const VIOLATING: [u8; 2] = [37, 5];
+
 // Prints a space and a byte.
 fn print_byte(byte: u8) {
     print_field(byte as u64);
@@ -67,6 +73,12 @@ fn build(rule: &[u8], table: &mut [u8]) -> usize {
     let number = boundary::jarveun_build(rule, table, &mut value);
     print_result(b"build", number, value);
     value
+}
+
+fn explain(rule: &[u8], kept: &[u8], scan: u8) {
+    let mut value = 99;
+    let number = boundary::jarveun_explain(rule, kept, scan, &mut value);
+    print_result(b"explain", number, value);
 }
 
 fn judge(rule: &[u8], model: &[u8], table: &mut [u8]) {
@@ -111,6 +123,11 @@ fn main() {
     let mut table = [0u8; 32768];
     build(&UNGUARDED, &mut table);
     let count = build(&POOL, &mut table);
+    explain(&POOL, &CANCELLED, 5);
+    explain(&POOL, &SYNCED, 5);
+    explain(&POOL, &VIOLATING, 5);
+    explain(&POOL, &VIOLATING, 128);
+    explain(&UNGUARDED, &VIOLATING, 5);
     let mut verdicts = [7u8; 8];
     run(&table, count, 0, &mut verdicts);
     run(&table, count, 3, &mut verdicts);
