@@ -121,22 +121,26 @@ static void contest_of_small_calls(size_t count, size_t size, size_t rounds)
 }
 
 typedef uint8_t build_function(const uint8_t *, size_t, uint8_t *, size_t, size_t *);
+typedef uint8_t explain_function(const uint8_t *, size_t, const uint8_t *, size_t, uint8_t, size_t *);
 typedef uint8_t judge_function(const uint8_t *, size_t, const uint8_t *, size_t, uint8_t *, size_t, size_t *);
 
-/* A rule, a model where it is to be judged, and what becomes of them. */
+/* A rule, a model where it is to be judged, and what becomes of them. Where a scan is to be explained, the first block of scans was kept before. */
 struct job {
     const uint8_t *rule, *model;
     size_t rule_len, model_len, value;
     build_function *build;
+    explain_function *explain;
     judge_function *judge;
     uint8_t refused, table[LEAST_TABLE];
 };
 
-static void build_or_judge(void *work)
+static void do_job(void *work)
 {
     struct job *j = work;
     if (j->judge)
         j->refused = j->judge(j->rule, j->rule_len, j->model, j->model_len, j->table, LEAST_TABLE, &j->value);
+    else if (j->explain)
+        j->refused = j->explain(j->rule, j->rule_len, scans, BLOCK, scans[BLOCK], &j->value);
     else
         j->refused = j->build(j->rule, j->rule_len, j->table, LEAST_TABLE, &j->value);
 }
@@ -149,7 +153,7 @@ static int same_job(const void *a, const void *b)
 
 static void contest_of_jobs(const char *what, struct job ours, struct job twin, size_t rounds)
 {
-    struct entrant entrants[] = {{what, &ours, build_or_judge, 0, 0}, {"twin", &twin, build_or_judge, 0, 0}};
+    struct entrant entrants[] = {{what, &ours, do_job, 0, 0}, {"twin", &twin, do_job, 0, 0}};
     compete(entrants, 2, rounds, BUILD_CALLS, same_job);
     if (ours.refused) {
         fprintf(stderr, "%s: refused %u at %zu\n", what, ours.refused, ours.value);
@@ -167,6 +171,10 @@ static void contests_of_rule(const char *name, const uint8_t *rule, size_t len, 
     struct job ours = {.rule = rule, .rule_len = len, .model = model, .model_len = sizeof model, .build = jarveun_build}, twin = ours;
     twin.build = twin_build;
     snprintf(what, sizeof what, "build %s", name);
+    contest_of_jobs(what, ours, twin, rounds);
+    ours.explain = jarveun_explain;
+    twin.explain = twin_explain;
+    snprintf(what, sizeof what, "explain %s", name);
     contest_of_jobs(what, ours, twin, rounds);
     ours.judge = jarveun_judge;
     twin.judge = twin_judge;

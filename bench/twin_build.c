@@ -1,4 +1,4 @@
-/* Builds the table of a rule. Sets of nodes are numbers, node k is bit k. */
+/* Builds the table of a rule, and explains why a scan is dropped. Sets of nodes are numbers, node k is bit k. */
 #include "twin.h"
 
 #include <string.h>
@@ -141,4 +141,24 @@ uint8_t twin_build(const uint8_t *rule, size_t rule_len, uint8_t *table, size_t 
     if (!refused)
         fill(&g, found, *value, table);
     return refused;
+}
+
+uint8_t twin_explain(const uint8_t *rule, size_t rule_len, const uint8_t *kept, size_t kept_len, uint8_t scan, size_t *value)
+{
+    struct graph g;
+    uint64_t found[MOST_EQUATIONS + 1];
+    uint8_t refused = plan(rule, rule_len, &g, found, value);
+    if (refused)
+        return refused;
+    uint64_t equation = g.first;
+    for (size_t i = 0; i < kept_len; i++) {
+        equation = reached(&g, equation, kept[i]);
+        if (equation & g.falsities) {
+            *value = i;
+            return 17;
+        }
+    }
+    uint64_t opened = reached(&g, equation, scan) & g.falsities;
+    *value = opened ? (size_t)__builtin_ctzll(opened) : MOST_NODES;
+    return 0;
 }

@@ -1,6 +1,6 @@
-/* Jarveun for programs in C and C++: a rule is built into a table, scans are run through the table, a model of a phone is judged under a rule.
-   README.md says what the files mean. `rt staticlib boundary` writes target/staticlib/libboundary.a, for x86-64 Linux; it is linked beside the
-   program, and wants nothing but memcpy and memset of the C library.
+/* Jarveun for programs in C and C++: a rule is built into a table, scans are run through the table, a dropped scan is explained by the rule, a model
+   of a phone is judged under it. README.md says what the files mean. `rt staticlib boundary` writes target/staticlib/libboundary.a, for x86-64
+   Linux; it is linked beside the program, and wants nothing but memcpy and memset of the C library.
 
    Every function answers 0, or the number of a refusal. Whatever the bytes are, it ends, and does what is said here.
 
@@ -13,11 +13,11 @@
 
    What a call takes
    - No globals, heap, files or locks: calls share nothing, and may run side by side, any number of them on one table that they only read.
-   - Stack. At most 200 bytes were seen in use by a run, 47,000 by building and 81,000 by judging, the last two on rules with 64 nodes, each inside
-     the one before; bench/stack.c measures this.
+   - Stack. At most 200 bytes were seen in use by a run, 46,000 by explaining, 47,000 by building and 81,000 by judging, the last three on rules with
+     64 nodes, each inside the one before; bench/stack.c measures this.
 
-   The refusals. A place is an offset in bytes from 0, in the rule, or for 11 to 14 in the model. Where none is named below, it is that of the
-   record's first byte.
+   The refusals. A place is an offset in bytes from 0, in the rule, or for 11 to 14 in the model, and for 17 in the kept scans. Where none is named
+   below, it is that of the record's first byte.
     1  the rule ends before its formula is whole; at its length
     2  a record of the rule with a kind that isn't 1 to 7
     3  a byte after the whole formula, or a pattern once the formula has begun; at that byte
@@ -34,7 +34,8 @@
    14  a 513th step
    15  the output or the verdicts are shorter than the scans; at 0
    16  the count isn't 1 to 128, the equation isn't under it, the table has under 256 * count bytes, or one of these bytes is neither under the
-       count nor 255; at 0 */
+       count nor 255; at 0
+   17  the kept scans handed in violate the rule; at the first of them that does */
 #ifndef JARVEUN_H
 #define JARVEUN_H
 
@@ -48,11 +49,20 @@ extern "C" {
 /* The least size of a table for building and judging. */
 #define JARVEUN_TABLE 32768
 
+/* What explaining hands back for a kept scan. A rule has at most 64 nodes, numbered from 0, so no node has this number. */
+#define JARVEUN_KEPT 64
+
 /* Builds the table of a rule. The table has at least JARVEUN_TABLE bytes. Refusals: 10, then 1 to 9.
    0: *value is the count of equations, 1 to 128. Row k, the 256 bytes of the table from 256 * k on, has an entry for each code: the next equation,
    or 255 where the code is dropped. The bytes after the last row are as they were.
    Refused: *value is the place, and the table is as it was. *value is never read. */
 uint8_t jarveun_build(const uint8_t *rule, size_t rule_len, uint8_t *table, size_t table_len, size_t *value);
+
+/* Explains why a scan is dropped after the scans kept so far, all that were kept since the first equation, in order. Refusals: 1 to 9, then 17.
+   0: *value is the number of the ff node that forbids the scan, 0 to 63, or JARVEUN_KEPT where the scan is kept. A node's number is how many nodes
+   of the rule stand before it; patterns are none. Where the scan opens several ff nodes, it is the lowest number.
+   Refused: *value is the place. *value is never read, and nothing else is written. */
+uint8_t jarveun_explain(const uint8_t *rule, size_t rule_len, const uint8_t *kept, size_t kept_len, uint8_t scan, size_t *value);
 
 /* Judges a model under a rule. The table has at least JARVEUN_TABLE bytes. Refusals: 10, then 1 to 9, then 11 to 14.
    0: *value is 1 where the model meets the rule, and 0 where it breaks it. The table is as building leaves it.
