@@ -58,7 +58,7 @@ extern "C" {
    Refused: *value is the place, and the table is as it was. *value is never read. */
 uint8_t jarveun_build(const uint8_t *rule, size_t rule_len, uint8_t *table, size_t table_len, size_t *value);
 
-/* Explains why a scan is dropped after the scans kept so far, which are handed in all and in order. Refusals: 1 to 9, then 17.
+/* Explains why a scan is dropped after the scans kept so far; any list of them that doesn't violate the rule is taken. Refusals: 1 to 9, then 17.
    0: *value is the number of the lowest ff node that the scan opens, 0 to 63, or JARVEUN_KEPT where the scan is kept. A node's number is how many
    nodes of the rule stand before it; patterns are no nodes.
    Refused: *value is the place. *value is never read, and nothing else is written. */
