@@ -39,12 +39,15 @@ module _ {r : Rule} {h : History} (sifted : Sifted r h) where
 
 -- ---- what is said of a scan after a list that doesn't violate the rule
 
+-- no reason, or a node
+abbrev KeptOrNode : Reason → Type 0
+KeptOrNode reason = (reason ≡ Kept) ⊎ ((m : ℕ) × (reason ≡ Node m))
+
 module _ {r : Rule} {w : List ℕ} {c : ℕ} {reason : Reason} (explained : Explained r w c reason) (safe : ViolatesRule r w → ⊥) where
-  -- no reason, or a node
-  kept-or-node : (reason ≡ Kept) ⊎ ((m : ℕ) × (reason ≡ Node m))
+  kept-or-node : KeptOrNode reason
   kept-or-node = on (explained .only)
     where
-      on : (reason ≡ Kept) ⊎ (((m : ℕ) × (reason ≡ Node m)) ⊎ ((i : ℕ) × (reason ≡ Refused 17 i))) → (reason ≡ Kept) ⊎ ((m : ℕ) × (reason ≡ Node m))
+      on : (reason ≡ Kept) ⊎ (((m : ℕ) × (reason ≡ Node m)) ⊎ ((i : ℕ) × (reason ≡ Refused 17 i))) → KeptOrNode reason
       on (inl q) = inl q
       on (inr (inl q)) = inr q
       on (inr (inr (i, q))) = absurd (safe (front-violates r w (suc i) (explained .unfit i .0 q .2)))
@@ -52,14 +55,14 @@ module _ {r : Rule} {w : List ℕ} {c : ℕ} {reason : Reason} (explained : Expl
   said-fit : (number place : ℕ) → reason ≡ Refused number place → ⊥
   said-fit number place e = on kept-or-node
     where
-      on : (reason ≡ Kept) ⊎ ((m : ℕ) × (reason ≡ Node m)) → ⊥
+      on : KeptOrNode reason → ⊥
       on (inl q) = let z : _≡_ {A = ℕ} 0 1 = cc in omega arith
       on (inr (m, q)) = let z : _≡_ {A = ℕ} 0 1 = cc in omega arith
 
   node-iff-violated : Placed r → ((m : ℕ) × (reason ≡ Node m)) ↔ ViolatesRule r (w ++ (c ∷ []))
   node-iff-violated placed = (λ (m, q). placed .somewhere (w ++ (c ∷ [])) .1 (m, explained .node m .0 q .1 .holds), λ v. on v kept-or-node)
     where
-      on : ViolatesRule r (w ++ (c ∷ [])) → (reason ≡ Kept) ⊎ ((m : ℕ) × (reason ≡ Node m)) → (m : ℕ) × (reason ≡ Node m)
+      on : ViolatesRule r (w ++ (c ∷ [])) → KeptOrNode reason → (m : ℕ) × (reason ≡ Node m)
       on v (inl q) = absurd (explained .kept .0 q v)
       on v (inr q) = q
 
@@ -74,7 +77,7 @@ pub reasons-of-runs : ReasonsOfRuns
 reasons-of-runs limit mark s table r n left b h calls = record {
   dropped = λ i inside.
       let verdict = sifted .drops i inside in
-      let node = node-iff-violated (explained i (getD (h .scans) i 0)) (kept-before-safe sifted i) (violates-somewhere r (file-well-formed s (b .bytes) r (b .read))) in
+      let node = node-iff-violated (explained i (getD (h .scans) i 0)) (kept-before-safe sifted i) placed in
       (λ e. node .1 (verdict .0 e), λ q. verdict .1 (node .0 q));
   kept = λ i inside.
       let verdict = verdict-zero (sifted .kept-or-dropped i inside) (sifted .drops i inside) in
@@ -85,6 +88,9 @@ reasons-of-runs limit mark s table r n left b h calls = record {
   where
     sifted : Sifted r h
     sifted = drops-exactly limit mark s table r n left b h calls
+
+    placed : Placed r
+    placed = violates-somewhere r (file-well-formed s (b .bytes) r (b .read))
 
     explained : (i c : ℕ) → Explained r (keptBefore h i) c (reasonAfter limit s h i c)
     explained i c = reasons-exactly limit s (b .bytes) (keptBefore h i) c .explained r n (b .read) (builds-counted b)

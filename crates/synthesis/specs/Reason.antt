@@ -35,14 +35,14 @@ pub data ViolatesAt (r : Rule) : (k : ℕ) → (w : List ℕ) → (m : ℕ) → 
   in-variable : {k m d : ℕ} {ms : List EnclosingMax} {w : List ℕ} → Node (r .formula) k ms (variable d) → d < length ms
       → ViolatesAt r (suc (getD ms d noMax .number)) w m → ViolatesAt r k w m
 
--- the lowest number of which this holds
-pub record Lowest (P : ℕ → Type 0) (m : ℕ) : Type 0 where
+-- the least number of which this holds
+pub record Least (P : ℕ → Type 0) (m : ℕ) : Type 0 where
   pub holds : P m
   pub lowest : (n : ℕ) → P n → m ≤ n
 
 -- the lowest ff node at which a list violates a rule
 abbrev pub LowestPlace : Rule → (w : List ℕ) → (m : ℕ) → Type 0
-LowestPlace r w = Lowest (ViolatesAt r 0 w)
+LowestPlace r w = Least (ViolatesAt r 0 w)
 
 -- ---- by opening
 
@@ -51,7 +51,7 @@ abbrev pub OpensFalsity : Rule → (e c m : ℕ) → Type 0
 OpensFalsity r e c m = Leads r e c m × IsFalsity (r .formula) m
 
 abbrev pub LowestOpened : Rule → (e c m : ℕ) → Type 0
-LowestOpened r e c = Lowest (OpensFalsity r e c)
+LowestOpened r e c = Least (OpensFalsity r e c)
 
 -- ---- what the desk is told
 

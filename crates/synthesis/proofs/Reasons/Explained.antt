@@ -27,7 +27,7 @@ use Rattle.synthesis.proofs.Monitors.RuleMonitor.{unsatisfiable-opens, 
 use Rattle.synthesis.proofs.Reasons.Fronts.{extended, front-violates, FirstViolated, first-violated-unique}
 use Rattle.synthesis.proofs.Reasons.Places.{violates-somewhere}
 use Rattle.synthesis.proofs.Reasons.OpenedPlaces.{places-opened}
-use Rattle.synthesis.proofs.Reasons.LowestNodes.{lowest-map, lowest-unique, said-of-opened}
+use Rattle.synthesis.proofs.Reasons.LowestNodes.{least-map, least-unique, said-of-opened}
 use Rattle.synthesis.proofs.Reasons.Following.{Follows, all-kept, first-dropped, follows}
 use Rattle.synthesis.proofs.Tables.SynthesisOutcomes.{synthesis-accepts, counted-accepts, counted-refuses, accepts-as}
 
@@ -91,7 +91,7 @@ module _ (r : Rule) (w : List ℕ) (c : ℕ) where
   said-explained wf reason (drops m safe violated low opened is) = record {
     unfit = λ i. (λ q. absurd (node-not-refused is q), λ (h, before, v). absurd (safe (front-violates r w (suc i) v)));
     kept = (λ q. absurd (kept-not-node q is), λ none. absurd (none violated));
-    node = λ n. (λ q. rw (← (node-same is q)) (safe, low), λ (safe′, low′). is ∙ ap Node (lowest-unique low low′));
+    node = λ n. (λ q. rw (← (node-same is q)) (safe, low), λ (safe′, low′). is ∙ ap Node (least-unique low low′));
     opened = λ n q. rw (← (node-same is q)) opened;
     inside = λ n q. omega (arith, node-same is q, node-fits (opened .holds .1 .1));
     only = inr (inl (m, is));
@@ -116,7 +116,7 @@ module _ (r : Rule) (w : List ℕ) (c : ℕ) where
         said-of-opened r within (ended (answerOf r) (firstOf r) w) c (λ x. Said (reasonOf (accepted x)))
         (λ nothing. keeps (λ v. let (m, a) = somewhere .0 v in nothing m (places m .0 a)) refl)
         (λ m low.
-        let place = lowest-map (λ n. (places n .1, places n .0)) low in
+        let place = least-map (λ n. (places n .1, places n .0)) low in
         drops m (λ v. none (suppressed w .0 v)) (somewhere .1 (m, place .holds)) place low refl)
       where
         somewhere : ViolatesRule r withScan ↔ ((m : ℕ) × ViolatesAt r 0 withScan m)

@@ -38,7 +38,8 @@ module _ (answer : ℕ → ℕ → Answer ℕ) where
 pub followed-cong : (codes : ℕ) (answer answer′ : ℕ → ℕ → Answer ℕ) → ((e c : ℕ) → c < codes → answer e c ≡ answer′ e c) → (w : List ℕ)
     → All (λ c. c < codes) w → (e i : ℕ) → followed answer e i w ≡ followed answer′ e i w
 followed-cong codes answer answer′ agree [] all e i = refl
-followed-cong codes answer answer′ agree (c ∷ w) (code, all) e i = rw (agree e c code) (on (answer′ e c) (λ e′. followed-cong codes answer answer′ agree w all e′ (suc i)))
+followed-cong codes answer answer′ agree (c ∷ w) (code, all) e i =
+    rw (agree e c code) (on (answer′ e c) (λ e′. followed-cong codes answer answer′ agree w all e′ (suc i)))
   where
     on : (a : Answer ℕ) → ((e′ : ℕ) → followed answer e′ (suc i) w ≡ followed answer′ e′ (suc i) w)
         → cases a (refused 17 i) (λ e′. followed answer e′ (suc i) w) ≡ cases a (refused 17 i) (λ e′. followed answer′ e′ (suc i) w)

@@ -16,14 +16,14 @@ use Rattle.reading.proofs.Numbering.NodeLaws.{node-fits}
 use Rattle.synthesis.specs.Violation.{coveredBy}
 use Rattle.synthesis.specs.NodeSet.{Has, has, emptySet}
 use Rattle.synthesis.specs.Answering.{falsities, reached}
-use Rattle.synthesis.specs.Reason.{Lowest, OpensFalsity, LowestOpened, Explanation, no-reason, falsity-node, lowestOf, openedFalsities}
+use Rattle.synthesis.specs.Reason.{Least, OpensFalsity, LowestOpened, Explanation, no-reason, falsity-node, lowestOf, openedFalsities}
 use Rattle.synthesis.proofs.Unfolding.NodeSetLaws.{has-none, has-common, has-true, true-has, nonempty-member}
 use Rattle.synthesis.proofs.Unfolding.NodeWise.{falsities-has}
 use Rattle.synthesis.proofs.Unfolding.AnsweringLaws.{reached-leads}
 
 -- ---- the least member of a set
 
-lowest-member : (n set : ℕ) → ((m : ℕ) → Has set m → m < n) → (m : ℕ) → Has set m → Lowest (Has set) (least n (has set))
+lowest-member : (n set : ℕ) → ((m : ℕ) → Has set m → m < n) → (m : ℕ) → Has set m → Least (Has set) (least n (has set))
 lowest-member n set small m h = record { holds = has-true set low (least-holds n (has set) (omega (arith, below m h, small m h))); lowest = below }
   where
     low : ℕ
@@ -36,11 +36,11 @@ lowest-member n set small m h = record { holds = has-true set low (least-holds n
         on (yes le) = le
         on (no over) = absurd (true≢false (sym (true-has set k h) ∙ least-below n (has set) k (omega arith)))
 
-pub lowest-map : {P Q : ℕ → Type 0} → ((n : ℕ) → P n ↔ Q n) → {m : ℕ} → Lowest P m → Lowest Q m
-lowest-map iff {m} l = record { holds = iff m .0 (l .holds); lowest = λ n q. l .lowest n (iff n .1 q) }
+pub least-map : {P Q : ℕ → Type 0} → ((n : ℕ) → P n ↔ Q n) → {m : ℕ} → Least P m → Least Q m
+least-map iff {m} l = record { holds = iff m .0 (l .holds); lowest = λ n q. l .lowest n (iff n .1 q) }
 
-pub lowest-unique : {P : ℕ → Type 0} {m n : ℕ} → Lowest P m → Lowest P n → m ≡ n
-lowest-unique {m = m} {n} a b = omega (arith, a .lowest n (b .holds), b .lowest m (a .holds))
+pub least-unique : {P : ℕ → Type 0} {m n : ℕ} → Least P m → Least P n → m ≡ n
+least-unique {m = m} {n} a b = omega (arith, a .lowest n (b .holds), b .lowest m (a .holds))
 
 -- ---- the ff nodes that a scan opens
 
@@ -68,4 +68,4 @@ module _ (r : Rule) (within : RuleWithinLimits r) where
       on true q = none (λ m o. has-none m (rw (eqb-true set emptySet q) at (opened-has e c m .1 o)))
       on false q =
           let (m, h) = nonempty-member set (omega (arith, eqb-false set emptySet q)) in
-          some (least 64 (has set)) (lowest-map (opened-has e c) (lowest-member 64 set (opened-below e c) m h))
+          some (least 64 (has set)) (least-map (opened-has e c) (lowest-member 64 set (opened-below e c) m h))
