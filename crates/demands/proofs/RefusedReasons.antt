@@ -1,5 +1,5 @@
 -- What explaining refuses: what counting refuses, and else 17, as its promise has it.
-use Prim.Native.Nat.{ℕ, suc, _+_}
+use Prim.Native.Nat.{ℕ}
 use mathlib.Core.Path.{_≡_, refl, sym, _∙_, ap}
 use mathlib.Core.Logic.{_⊎_, inl, inr}
 use mathlib.Core.List.{List}
@@ -45,9 +45,7 @@ module _ (s : List ℕ) (bytes : Bytes s) (kept : List ℕ) (scan : ℕ) where
       on (inr (inr (i, q))) =
           let same : Refused 17 i ≡ Refused number place = cc in
           let (number-is, place-is) = refusal-same same in
-          let (inside, before, violated) = explained a .unfit i .0 q in
-          let one-more : suc i ≡ i + 1 = omega arith in
-          rw (← number-is, ← place-is) (violating-scan a i inside before (rw one-more at violated))
+          rw (← number-is, ← place-is) (violating-scan a i (explained a .unfit i .0 q))
 
   refusal-clause : (number place : ℕ) → reason ≡ Refused number place → ExplainRefused s kept number place
   refusal-clause number place e = on (counting s) refl
@@ -60,9 +58,7 @@ module _ (s : List ℕ) (bytes : Bytes s) (kept : List ℕ) (scan : ℕ) where
 
   clause-refuses : {number place : ℕ} → ExplainRefused s kept number place → reason ≡ Refused number place
   clause-refuses {number} {place} (in-counting clause) = reasons .refused number place (count-refused s bytes number place .1 clause)
-  clause-refuses (violating-scan a i inside before violated) =
-      let one-more : i + 1 ≡ suc i = omega arith in
-      explained a .unfit i .1 (inside, before, rw one-more at violated)
+  clause-refuses (violating-scan a i first) = explained a .unfit i .1 first
 
   pub explain-refused : RefusedIff reason Refused (ExplainRefused s kept)
   explain-refused number place = (refusal-clause number place, clause-refuses)

@@ -7,7 +7,7 @@ use mathlib.Core.List.{List}
 use lib.ListN.{length}
 use Rattle.reading.specs.File.{Outcome}
 use Rattle.synthesis.specs.Building.{Synthesis, synthesisOf, buildingOf, tableLeft}
-use Rattle.synthesis.specs.Reason.{Explanation, explanationOf}
+use Rattle.synthesis.specs.Reason.{explanationOf}
 use Rattle.running.specs.Running.{Run}
 use Rattle.running.specs.Calls.{Call, outcomeOf}
 use Rattle.running.specs.declared.State.{State}
@@ -20,7 +20,7 @@ abbrev pub counting : List ℕ → Outcome Synthesis
 counting s = synthesisOf 128 s
 
 -- explaining a scan after kept ones
-abbrev pub explaining : (s kept : List ℕ) → (scan : ℕ) → Outcome Explanation
+abbrev pub explaining : (s kept : List ℕ) → (scan : ℕ) → Outcome ℕ
 explaining s kept c = explanationOf 128 s kept c
 
 -- building in a table

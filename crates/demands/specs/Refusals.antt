@@ -4,10 +4,10 @@ use Prim.Native.Nat.{ℕ, _+_, _*_, _≤_, _<_}
 use mathlib.Core.Path.{_≡_}
 use mathlib.Core.Logic.{_⊎_}
 use mathlib.Core.List.{List}
-use lib.ListN.{length, getD, take}
+use lib.ListN.{length, getD}
 use Rattle.reading.specs.Rule.{Rule, RuleWithinLimits, encode}
 use Rattle.reading.specs.Faults.{Fault as RuleFault}
-use Rattle.synthesis.specs.Violation.{ViolatesRule}
+use Rattle.synthesis.specs.Reason.{FirstViolated}
 use Rattle.synthesis.specs.Promises.{Closed}
 use Rattle.running.specs.Calls.{Call}
 use Rattle.running.specs.declared.State.{State}
@@ -30,8 +30,7 @@ pub data ExplainRefused (s kept : List ℕ) : (number place : ℕ) → Type 1 wh
   -- 1 to 9: counting is refused
   in-counting : {number place : ℕ} → CountRefused s number place → ExplainRefused s kept number place
   -- 17: it isn't, and the shortest front of the kept scans that violates the rule ends with the one at this place
-  violating-scan : (a : Acceptable 128 s) (i : ℕ) → i < length kept → (ViolatesRule (a .rule) (take i kept) → ⊥)
-      → ViolatesRule (a .rule) (take (i + 1) kept) → ExplainRefused s kept 17 i
+  violating-scan : (a : Acceptable 128 s) (i : ℕ) → FirstViolated (a .rule) kept i → ExplainRefused s kept 17 i
 
 -- building, with a table of so many bytes
 pub data BuildRefused (s : List ℕ) (capacity : ℕ) : (number place : ℕ) → Type 1 where

@@ -10,11 +10,11 @@ use Rattle.synthesis.specs.Answering.{firstOf, answerOf, unsatisfiable}
 use Rattle.synthesis.specs.Search.{explored, found}
 use Rattle.synthesis.specs.Building.{equationsOf, synthesisOf}
 use Rattle.synthesis.specs.Reason.{ViolatesAt, at-falsity, in-first, in-second, after-code, in-body, in-variable}
-use Rattle.synthesis.specs.Reason.{openedFalsities, explanationOfRule, explanationOf, reasonOf}
+use Rattle.synthesis.specs.Reason.{openedFalsities, openedAfter, explanationOf, reasonOf}
 use Rattle.synthesis.specs.declared.Counted.the-variants.{Equations}
 use Rattle.synthesis.proofs.Reasons.Explained.{counted-explanation}
 use Rattle.examples.specs.Examples.{ReadAs, poolRule}
-use Rattle.examples.specs.ReasonExamples.{reason, twoPlacesFile, twoPlacesRule, ReasonExamples}
+use Rattle.examples.specs.ReasonExamples.{reason, twoPlacesFile, twoPlacesRule, eitherFile, eitherRule, ReasonExamples}
 use Rattle.examples.proofs.FileAnswers.{reads}
 use Rattle.examples.proofs.NumberPool.{number-pool}
 
@@ -22,8 +22,12 @@ two-file : ReadAs twoPlacesFile twoPlacesRule (Equations 3)
 unfolding ruleOf recordsAt formulaOf formulaAt unsatisfiable equationsOf found explored firstOf answerOf bit covers
 two-file = reads twoPlacesFile twoPlacesRule refl refl (20 ∷ 0 ∷ 84 ∷ []) refl (omega arith)
 
+either-file : ReadAs eitherFile eitherRule (Equations 2)
+unfolding ruleOf recordsAt formulaOf formulaAt unsatisfiable equationsOf found explored firstOf answerOf bit covers
+either-file = reads eitherFile eitherRule refl refl (10 ∷ 0 ∷ []) refl (omega arith)
+
 -- of a file that is counted, by its rule
-by-rule : {s : List ℕ} {n : ℕ} (r : _) → ReadAs s r (Equations n) → (w : List ℕ) (c : ℕ) → reason s w c ≡ reasonOf (explanationOfRule r w c)
+by-rule : {s : List ℕ} {n : ℕ} (r : _) → ReadAs s r (Equations n) → (w : List ℕ) (c : ℕ) → reason s w c ≡ reasonOf (openedAfter r w c)
 by-rule {s} {n} r file w c = ap reasonOf (counted-explanation 128 s r n (file .reading) (file .answers .counting) w c)
 
 met-first : ViolatesAt twoPlacesRule 0 (37 ∷ 5 ∷ []) 7
@@ -59,4 +63,10 @@ reason-examples = record {
   met-first = met-first;
   by-variable = by-variable;
   two-dropped = by-rule twoPlacesRule two-file (37 ∷ []) 5;
+  either-file = either-file;
+  either-issue = by-rule eitherRule either-file [] 5;
+  either-cancel = by-rule eitherRule either-file [] 37;
+  either-other = by-rule eitherRule either-file [] 6;
+  either-unfit = λ c. by-rule eitherRule either-file (37 ∷ []) c;
+  either-only = refl;
 }

@@ -1,9 +1,10 @@
--- Why scans are dropped: by the number-pool rule, and by a rule whose lowest ff node comes in through a variable.
+-- Why scans are dropped: by the number-pool rule, by a rule whose lowest ff node comes in through a variable, and by one of whose two ff nodes each scan
+-- opens at most one.
 use Prim.Native.Nat.{ℕ}
 use mathlib.Core.Path.{_≡_}
 use mathlib.Core.List.{List, [], _∷_}
-use Rattle.reading.specs.Rule.{falsity, both, necessity, max, variable, Rule}
-use Rattle.synthesis.specs.Reason.{ViolatesAt, explanationOf, reasonOf}
+use Rattle.reading.specs.Rule.{truth, falsity, both, necessity, max, variable, Rule}
+use Rattle.synthesis.specs.Reason.{ViolatesAt, onlyFalsity, explanationOf, reasonOf}
 use Rattle.synthesis.specs.declared.Counted.the-variants.{Equations}
 use Rattle.synthesis.specs.declared.Reason.{Reason}
 use Rattle.synthesis.specs.declared.Reason.the-variants.{Kept, Node, Refused}
@@ -23,8 +24,15 @@ twoPlacesRule =
     rule (pattern 1 5 5 ∷ pattern 2 5 5 ∷ [])
     (max (both (necessity 0 falsity) (necessity 1 (both (necessity 0 falsity) (variable 0)))))
 
+-- both "after an issue of 5, ff" and "after a cancel of 5, ff". Its nodes: 0 both, 1 necessity, 2 ff, 3 necessity, 4 ff.
+abbrev pub eitherFile : List ℕ
+eitherFile = 1 ∷ 1 ∷ 5 ∷ 5 ∷ 1 ∷ 2 ∷ 5 ∷ 5 ∷ 4 ∷ 5 ∷ 0 ∷ 3 ∷ 5 ∷ 1 ∷ 3 ∷ []
+
+abbrev pub eitherRule : Rule
+eitherRule = rule (pattern 1 5 5 ∷ pattern 2 5 5 ∷ []) (both (necessity 0 falsity) (necessity 1 falsity))
+
 pub record ReasonExamples : Type 0 where
-  -- after a cancel, an issue of the number is dropped by the rule's only ff, node 4: patterns have no numbers
+  -- after a cancel, an issue of the number is dropped by the rule's only ff, node 4: patterns aren't counted
   pub pool-dropped : reason poolFile (37 ∷ []) 5 ≡ Node 4
   pub pool-place : ViolatesAt poolRule 0 (37 ∷ 5 ∷ []) 4
   -- after a sync it is kept
@@ -39,3 +47,11 @@ pub record ReasonExamples : Type 0 where
   pub met-first : ViolatesAt twoPlacesRule 0 (37 ∷ 5 ∷ []) 7
   pub by-variable : ViolatesAt twoPlacesRule 0 (37 ∷ 5 ∷ []) 3
   pub two-dropped : reason twoPlacesFile (37 ∷ []) 5 ≡ Node 3
+  -- Each scan is dropped by the ff that it opens, and not by the lowest of the rule; so a list of one such scan is unfit at 0.
+  pub either-file : ReadAs eitherFile eitherRule (Equations 2)
+  pub either-issue : reason eitherFile [] 5 ≡ Node 2
+  pub either-cancel : reason eitherFile [] 37 ≡ Node 4
+  pub either-other : reason eitherFile [] 6 ≡ Kept
+  pub either-unfit : (c : ℕ) → reason eitherFile (37 ∷ []) c ≡ Refused 17 0
+  -- without its other ff, the rule is violated by the scan of the one that is left
+  pub either-only : onlyFalsity eitherRule 4 ≡ rule (eitherRule .patterns) (both (necessity 0 truth) (necessity 1 falsity))

@@ -16,7 +16,7 @@ use Rattle.synthesis.specs.Table.{WellFormedTable}
 use Rattle.synthesis.proofs.Monitors.Runs.{verdicts-length}
 use Rattle.synthesis.proofs.Monitors.Verdicts.{verdicts-range, verdicts-take, dropped-at}
 use Rattle.synthesis.proofs.Monitors.MonitorLaws.{drops-violations, kept-safe}
-use Rattle.synthesis.proofs.Monitors.Renaming.{renamed-monitors}
+use Rattle.synthesis.proofs.Monitors.Renaming.{Renames, renamed-monitors}
 use Rattle.synthesis.proofs.Tables.Built.{table-monitors, built-well-formed}
 use Rattle.running.specs.Running.{start, moved, answerIn}
 use Rattle.running.specs.Calls.{History, Calls, OnTableOrRefused, withVerdict}
@@ -43,10 +43,12 @@ module _ {E : Type 0} (r : Rule) (answer : E → ℕ → Answer E) (first : E) (
 -- ---- a table
 
 -- the states of a run are the equations under a new name
+pub state-renames : (mark : ℕ) (table : List ℕ) → Renames 256 (λ e. Unit) (lookup 256 mark table) (answerIn mark table) (moved start)
+state-renames mark table = record { invariant = λ e e′ c ok b q. tt; drops = λ e c ok b q. rw q; follows = λ e e′ c ok b q. rw q }
+
 answer-in-monitors : (r : Rule) (mark : ℕ) (table : List ℕ) → Monitors r (lookup 256 mark table) 0 → Monitors r (answerIn mark table) start
 answer-in-monitors r mark table =
-    renamed-monitors r (λ e. Unit) (lookup 256 mark table) (answerIn mark table) (moved start)
-    (record { invariant = λ e e′ c ok b q. tt; drops = λ e c ok b q. rw q; follows = λ e e′ c ok b q. rw q }) 0 tt
+    renamed-monitors r (λ e. Unit) (lookup 256 mark table) (answerIn mark table) (moved start) (state-renames mark table) 0 tt
 
 sifted : (r : Rule) (mark : ℕ) (table : List ℕ) (count : ℕ) (h : History)
     → Monitors r (answerIn mark table) start → OneRun mark table count h → Sifted r h

@@ -6,7 +6,7 @@ use Rattle.running.proofs.Conservation.{conserves, calls-conserve}
 use Rattle.running.proofs.Refusals.{runs-on-tables}
 use Rattle.running.proofs.BuiltTables.{never-unfit}
 use Rattle.running.proofs.Leaving.{refused-unchanged, rest-unchanged}
-use Rattle.running.proofs.Reasons.{reasons-of-runs}
+use Rattle.running.proofs.Reasons.{reasons-of-runs, reasons-by-state}
 
 pub promises : Promises
 promises = record {
@@ -19,4 +19,5 @@ promises = record {
   refused-unchanged = refused-unchanged;
   rest-unchanged = rest-unchanged;
   reasons-of-runs = reasons-of-runs;
+  reasons-by-state = reasons-by-state;
 }

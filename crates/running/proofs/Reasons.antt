@@ -1,25 +1,32 @@
 -- What `explain` says of the scans of a run goes with their verdicts: what was kept doesn't violate the rule, so 17 is never said, and a node is said
 -- exactly of what would violate it.
-use Prim.Native.Nat.{ℕ, suc}
-use mathlib.Core.Path.{_≡_, sym, _∙_, subst}
+use Prim.Native.Nat.{ℕ, _<_}
+use mathlib.Core.Path.{_≡_, sym, _∙_, ap, subst}
 use mathlib.Core.Logic.{_↔_, _⊎_, inl, inr}
 use mathlib.Core.List.{List, [], _∷_, _++_}
 use native.Mathlib.Omega.{arith}
 use lib.ListN.{length, getD, take, drop, take-append-drop, length-take}
-use Rattle.reading.specs.Rule.{Rule}
+use Rattle.reading.specs.Rule.{Rule, Bytes}
 use Rattle.synthesis.specs.Violation.{ViolatesRule}
+use Rattle.synthesis.specs.Monitor.{ended, lookup}
 use Rattle.synthesis.specs.ReasonPromises.{Placed, Explained}
 use Rattle.synthesis.specs.declared.Reason.{Reason}
 use Rattle.synthesis.specs.declared.Reason.the-variants.{Kept, Node, Refused}
 use Rattle.synthesis.proofs.Tables.Equations.{file-well-formed}
-use Rattle.synthesis.proofs.Tables.Built.{builds-counted}
-use Rattle.synthesis.proofs.Reasons.Fronts.{extended, front-violates}
-use Rattle.synthesis.proofs.Reasons.Places.{violates-somewhere}
+use Rattle.synthesis.proofs.Monitors.Runs.{kept-all, ended-kept}
+use Rattle.synthesis.proofs.Monitors.Renaming.{renamed-runs}
+use Rattle.synthesis.proofs.Tables.Built.{built-well-formed, builds-counted}
+use Rattle.synthesis.proofs.Reasons.Fronts.{extended, first-violates}
+use Rattle.synthesis.proofs.Reasons.Alone.{violates-somewhere}
 use Rattle.synthesis.proofs.Reasons.Explained.{reasons-exactly}
+use Rattle.synthesis.proofs.Reasons.ByEquation.{reasons-by-equation}
+use Rattle.running.specs.Running.{start, moved, answerIn}
 use Rattle.running.specs.Calls.{History, withVerdict, keptBefore}
-use Rattle.running.specs.Promises.{Sifted, reasonAfter, ReasonsOfRuns}
+use Rattle.running.specs.declared.State.{State}
+use Rattle.running.specs.Promises.{Sifted, reasonAfter, ReasonsOfRuns, ReasonsByState}
 use Rattle.running.proofs.WithVerdicts.{with-append}
-use Rattle.running.proofs.DemandTwo.{drops-exactly}
+use Rattle.running.proofs.Histories.{OneRun, one-run}
+use Rattle.running.proofs.DemandTwo.{state-renames, drops-exactly}
 
 -- ---- what was kept
 
@@ -50,7 +57,7 @@ module _ {r : Rule} {w : List ℕ} {c : ℕ} {reason : Reason} (explained : Expl
       on : (reason ≡ Kept) ⊎ (((m : ℕ) × (reason ≡ Node m)) ⊎ ((i : ℕ) × (reason ≡ Refused 17 i))) → KeptOrNode reason
       on (inl q) = inl q
       on (inr (inl q)) = inr q
-      on (inr (inr (i, q))) = absurd (safe (front-violates r w (suc i) (explained .unfit i .0 q .2)))
+      on (inr (inr (i, q))) = absurd (safe (first-violates r w i (explained .unfit i .0 q)))
 
   said-fit : (number place : ℕ) → reason ≡ Refused number place → ⊥
   said-fit number place e = on kept-or-node
@@ -94,3 +101,21 @@ reasons-of-runs limit mark s table r n left b h calls = record {
 
     explained : (i c : ℕ) → Explained r (keptBefore h i) c (reasonAfter limit s h i c)
     explained i c = reasons-exactly limit s (b .bytes) (keptBefore h i) c .explained r n (b .read) (builds-counted b)
+
+-- ---- another list to the same equation
+
+-- the run over what was kept ends in the state that the caller has
+kept-ends : (mark : ℕ) (table : List ℕ) (count : ℕ) (h : History) → OneRun mark table count h → Bytes (h .kept)
+    → ended (lookup 256 mark table) 0 (h .kept) ≡ h .state .equation
+kept-ends mark table count h run bytes =
+    let named =
+    renamed-runs 256 (λ e. Unit) (lookup 256 mark table) (answerIn mark table) (moved start) (state-renames mark table) 0 (h .kept) tt bytes .ends in
+    let same : ended (answerIn mark table) start (h .kept) ≡ h .state = rw (run .kept, run .state) (ended-kept (answerIn mark table) start (h .scans)) in
+    ap (λ (s : State). s .equation) (sym named ∙ same)
+
+pub reasons-by-state : ReasonsByState
+reasons-by-state limit mark s table r n left b h calls w bytes safe same =
+    let run = one-run limit mark n left (built-well-formed limit mark s table r n left b) h calls in
+    let kept-bytes : Bytes (h .kept) = rw (run .kept) (kept-all (answerIn mark left) (λ b. b < 256) start (h .scans) (run .bytes)) in
+    reasons-by-equation limit mark s table r n left b w (h .kept) bytes kept-bytes safe (drops-exactly limit mark s table r n left b h calls .safe)
+    (same ∙ sym (kept-ends mark left n h run kept-bytes))

@@ -6,10 +6,10 @@ use mathlib.Core.Logic.{_↔_, _⊎_}
 use mathlib.Core.Bool.{true}
 use mathlib.Core.List.{List, [], _∷_, _++_}
 use lib.ListN.{length, getD, take, drop}
-use Rattle.reading.specs.Rule.{Rule}
+use Rattle.reading.specs.Rule.{Rule, Bytes}
 use Rattle.reading.specs.File.{Outcome, accepted}
 use Rattle.synthesis.specs.Violation.{ViolatesRule}
-use Rattle.synthesis.specs.Monitor.{dropped, cases, next, meaning}
+use Rattle.synthesis.specs.Monitor.{dropped, cases, next, ended, meaning, lookup}
 use Rattle.synthesis.specs.Table.{WellFormedTable}
 use Rattle.synthesis.specs.Building.{Builds}
 use Rattle.synthesis.specs.Reason.{explanationOf, reasonOf}
@@ -166,6 +166,15 @@ ReasonsOfRuns =
     (limit mark : ℕ) (s table : List ℕ) (r : Rule) (n : ℕ) (left : List ℕ) → Builds limit mark s table r n left
     → (h : History) → Calls limit mark (OnTableOrRefused limit mark left n) h → Reasoned limit s h
 
+-- So does any list that doesn't violate the rule and ends, over the table, in the equation of the caller's state: it gives every scan the reason that what
+-- was kept gives.
+abbrev pub ReasonsByState : Type 0
+ReasonsByState =
+    (limit mark : ℕ) (s table : List ℕ) (r : Rule) (n : ℕ) (left : List ℕ) → Builds limit mark s table r n left
+    → (h : History) → Calls limit mark (OnTableOrRefused limit mark left n) h
+    → (w : List ℕ) → Bytes w → (ViolatesRule r w → ⊥) → ended (lookup 256 mark left) 0 w ≡ h .state .equation
+    → (c : ℕ) → reasonOf (explanationOf limit s w c) ≡ reasonOf (explanationOf limit s (h .kept) c)
+
 -- ---- all of these
 
 -- The theorem `promises` has this type, so that each promise has its proof.
@@ -179,3 +188,4 @@ pub record Promises : Type 0 where
   pub refused-unchanged : RefusedUnchanged
   pub rest-unchanged : RestUnchanged
   pub reasons-of-runs : ReasonsOfRuns
+  pub reasons-by-state : ReasonsByState

@@ -12,7 +12,7 @@ use Rattle.synthesis.proofs.Unfolding.NodeSetLaws.{same-members-same-se
 use Rattle.synthesis.proofs.Numberings.FindingOrder.{numbered-as-found}
 use Rattle.synthesis.proofs.Numberings.Numbering.{one-numbering}
 use Rattle.synthesis.proofs.Tables.Rows.{hands-back-rows}
-use Rattle.synthesis.proofs.Reasons.Places.{violates-somewhere}
+use Rattle.synthesis.proofs.Reasons.Alone.{violates-somewhere}
 use Rattle.synthesis.proofs.Reasons.Explained.{reasons-exactly}
 use Rattle.synthesis.proofs.Reasons.ByEquation.{reasons-by-equation}
 

@@ -1,6 +1,7 @@
 -- Why a scan is dropped.
 pub mod Fronts
 pub mod Places
+pub mod Alone
 pub mod OpenedPlaces
 pub mod LowestNodes
 pub mod Following

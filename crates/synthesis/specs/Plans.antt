@@ -43,6 +43,6 @@ abbrev pub followedOf : Outcome ℕ → Followed
 followedOf = byCase Followed′.Equation Followed′.Refused
 
 -- The refusal of a file that has no count; of one that has, it isn't asked for.
-abbrev pub unexplained : Counted → Reason
-unexplained (counted.Equations n) = Reason′.Refused 0 0
-unexplained (counted.Refused number place) = Reason′.Refused number place
+abbrev pub unexplainedOf : Counted → Reason
+unexplainedOf (counted.Equations n) = Reason′.Refused 0 0
+unexplainedOf (counted.Refused number place) = Reason′.Refused number place

@@ -4,10 +4,9 @@ use crate::Reason;
 use crate::search::reached;
 ghost use mathlib.Core.Path.{_≡_};
 ghost use lib.ListN.{length};
-ghost use Rattle.reading.specs.File.{accepted};
-ghost use Rattle.synthesis.specs.Reason.{lowestOf, followed, reasonOf};
+ghost use Rattle.synthesis.specs.Reason.{lowestOf, followed};
 ghost use Rattle.synthesis.specs.Arrays.{answerBy};
-ghost use Rattle.synthesis.specs.Plans.{followedOf, unexplained};
+ghost use Rattle.synthesis.specs.Plans.{followedOf, unexplainedOf};
 
 // Where scans lead: to an equation, or to the refusal of the first that is dropped.
 pub(crate) enum Followed {
@@ -40,9 +39,9 @@ pub(crate) fn follow(
     Followed::Equation(e)
 }
 
-// The lowest node of a set.
+// What is said of a scan that opens these ff nodes: the lowest of them, or that it is kept where there is none.
 pub(crate) fn lowest(set: u64) -> Reason
-    ensures { λ r. ⌜ r ≡ reasonOf (accepted (lowestOf set)) ⌝ }
+    ensures { λ r. ⌜ r ≡ lowestOf set ⌝ }
 {
     if set == 0 {
         return Reason::Kept;
@@ -52,7 +51,7 @@ pub(crate) fn lowest(set: u64) -> Reason
 
 // The refusal of a rule file that has no count.
 pub(crate) fn unexplained(answer: Counted) -> Reason
-    ensures { λ r. ⌜ r ≡ unexplained answer ⌝ }
+    ensures { λ r. ⌜ r ≡ unexplainedOf answer ⌝ }
 {
     match answer {
         Counted::Equations(_) => Reason::Refused(0, 0),

@@ -127,8 +127,8 @@ pub fn row(table: &[u8], k: usize) -> &[u8]
     &table[0..0]
 }
 
-// Answers why a scan is dropped after the scans kept so far: the lowest ff node that it opens. A refusal of 1 to 9, or 17 where the kept scans
-// violate the rule themselves.
+// Answers why a scan is dropped after the scans kept so far, by the lowest ff node that it opens, or that it is kept. A refusal of 1 to 9, or 17 where
+// the kept scans violate the rule themselves.
 pub fn explain(rule: &[u8], kept: &[u8], scan: u8) -> Reason
     ensures { λ r. ⌜ r ≡ reasonOf (explanationOf 128 (now (rule .entry)) (now (kept .entry)) scan) ⌝ }
 {

@@ -14,7 +14,7 @@ use Rattle.synthesis.specs.Answering.{firstOf, answerOf}
 use Rattle.synthesis.specs.Building.{synthesisOf}
 use Rattle.synthesis.specs.Arrays.{gathered, answerBy}
 use Rattle.synthesis.specs.Reason.{lowestOf, openedFalsities, followed, explanationOf, reasonOf}
-use Rattle.synthesis.specs.Plans.{IsPlan, followedOf, unexplained}
+use Rattle.synthesis.specs.Plans.{IsPlan, followedOf, unexplainedOf}
 use Rattle.synthesis.specs.declared.Counted.the-variants as Counted
 use Rattle.synthesis.specs.declared.Plan.{Plan}
 use Rattle.synthesis.specs.declared.Reason.{Reason}
@@ -29,7 +29,7 @@ use Rattle.synthesis.proofs.Functions.BuildingWays.{CountedPlan}
 -- ---- a plan that is refused
 
 pub refused-plan-reason : (s w : List ℕ) (c : ℕ) (p : Plan) → IsPlan (synthesisOf 128 s) p → {number place : ℕ}
-    → p .answer ≡ Counted.Refused number place → (reason : Reason) → reason ≡ unexplained (p .answer) → reason ≡ reasonOf (explanationOf 128 s w c)
+    → p .answer ≡ Counted.Refused number place → (reason : Reason) → reason ≡ unexplainedOf (p .answer) → reason ≡ reasonOf (explanationOf 128 s w c)
 unfolding explanationOf
 refused-plan-reason s w c p is {number} {place} e reason said =
     rw (counted-refuses (synthesisOf 128 s) number place (sym (is .answer-is) ∙ e), said, e)
@@ -67,7 +67,7 @@ module _ (s w : List ℕ) (bytes : Bytes w) (c : ℕ) {n : ℕ} (p : Plan) (coun
   -- none is, and they lead to the equation e
   pub kept-reason : (e : ℕ) → f ≡ Followed′.Equation e → c < 256 → (set : ℕ)
       → set ≡ gathered (p .graph .after) (intersection e (getD (p .graph .enabled) c 0))
-      → reasonOf (accepted (lowestOf (bitAnd set (p .graph .falsities)))) ≡ reasonOf (explanationOf 128 s w c)
+      → lowestOf (bitAnd set (p .graph .falsities)) ≡ reasonOf (explanationOf 128 s w c)
   unfolding explanationOf
   kept-reason e q code set reached =
       let to : leads ≡ accepted e = byCase-value followed-cases leads e (sym q ∙ leads-is) in

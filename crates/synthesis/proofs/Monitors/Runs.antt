@@ -90,3 +90,10 @@ module _ {E : Type 0} (answer : E → ℕ → Answer E) where
   kept-all P =
       run-induction (λ e w. All P w → All P (kept answer e w)) (λ e all. tt)
       (λ e c w q h all. rw q (h (all .1))) (λ e e′ c w q h all. rw q (all .0, h (all .1)))
+
+  -- ---- the run over what was kept ends where the run does
+
+  pub ended-kept : (e : E) (w : List ℕ) → ended answer e (kept answer e w) ≡ ended answer e w
+  ended-kept =
+      run-induction (λ e w. ended answer e (kept answer e w) ≡ ended answer e w) (λ e. refl)
+      (λ e c w q h. rw q h) (λ e e′ c w q h. rw q (rw q h))

@@ -9,7 +9,7 @@ use Rattle.synthesis.specs.Violation.{ViolatesRule}
 use Rattle.synthesis.specs.Monitor.{ended, Suppresses, lookup}
 use Rattle.synthesis.specs.Answering.{firstOf, answerOf}
 use Rattle.synthesis.specs.Building.{equationsOf, withEquations, Builds}
-use Rattle.synthesis.specs.Reason.{lowestOf, openedFalsities, explanationOfRule, explanationOf, reasonOf}
+use Rattle.synthesis.specs.Reason.{openedFalsities, openedAfter, explanationOf, reasonOf}
 use Rattle.synthesis.specs.ReasonPromises.{ReasonsByEquation}
 use Rattle.synthesis.proofs.Monitors.RuleMonitor.{violated-iff-suppressed}
 use Rattle.synthesis.proofs.Numberings.Indices.{index-is}
@@ -25,7 +25,7 @@ module _ {limit mark : ℕ} {s table : List ℕ} {r : Rule} {n : ℕ} {left : Li
 
   -- a list that doesn't violate the rule is explained by the equation in which it ends
   safe-explanation : (w : List ℕ) → (ViolatesRule r w → ⊥) → (c : ℕ)
-      → explanationOf limit s w c ≡ accepted (lowestOf (openedFalsities r (endedIn w) c))
+      → explanationOf limit s w c ≡ accepted (openedFalsities r (endedIn w) c)
   safe-explanation w safe c =
       counted-explanation limit s r n (b .read) (builds-counted b) w c ∙ on (follows (answerOf r) w (firstOf r) 0)
     where
@@ -33,7 +33,7 @@ module _ {limit mark : ℕ} {s table : List ℕ} {r : Rule} {n : ℕ} {left : Li
       violated v =
           violated-iff-suppressed r (file-well-formed s (b .bytes) r (b .read)) (counted-satisfiable limit s r n (b .read) (builds-counted b)) v .1
 
-      on : Follows (answerOf r) (firstOf r) 0 w → explanationOfRule r w c ≡ accepted (lowestOf (openedFalsities r (endedIn w) c))
+      on : Follows (answerOf r) (firstOf r) 0 w → openedAfter r w c ≡ accepted (openedFalsities r (endedIn w) c)
       on (all-kept none o) = rw o
       on (first-dropped j h none dropped o) = absurd (safe (front-violates r w (suc j) (violated (take (suc j) w) dropped)))
 
@@ -52,4 +52,4 @@ reasons-by-equation limit mark s table r n left b w w′ bytes bytes′ safe saf
     sym (ended-at b w bytes) ∙ (ap (λ (k : ℕ). getD (equationsOf limit r) k 0) same ∙ ended-at b w′ bytes′) in
     ap reasonOf
     (safe-explanation b w safe c
-    ∙ (ap (λ (e : ℕ). accepted (lowestOf (openedFalsities r e c))) equal ∙ sym (safe-explanation b w′ safe′ c)))
+    ∙ (ap (λ (e : ℕ). accepted (openedFalsities r e c)) equal ∙ sym (safe-explanation b w′ safe′ c)))

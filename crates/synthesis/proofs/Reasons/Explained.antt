@@ -17,15 +17,15 @@ use Rattle.synthesis.specs.Monitor.{ended, Suppresses}
 use Rattle.synthesis.specs.Opening.{OpensToFalsity}
 use Rattle.synthesis.specs.Answering.{firstOf, answerOf, unsatisfiable}
 use Rattle.synthesis.specs.Building.{synthesisOf, countedOf}
-use Rattle.synthesis.specs.Reason.{ViolatesAt, LowestPlace, OpensFalsity, LowestOpened}
-use Rattle.synthesis.specs.Reason.{lowestOf, openedFalsities, explanationOfRule, explanationOf, reasonOf}
+use Rattle.synthesis.specs.Reason.{ViolatesAt, LowestPlace, FirstViolated, OpensFalsity, LowestOpened}
+use Rattle.synthesis.specs.Reason.{lowestOf, openedFalsities, openedAfter, explanationOf, reasonOf}
 use Rattle.synthesis.specs.ReasonPromises.{Explained, ReasonsExactly}
 use Rattle.synthesis.specs.declared.Counted.the-variants.{Equations}
 use Rattle.synthesis.specs.declared.Reason.{Reason}
 use Rattle.synthesis.specs.declared.Reason.the-variants.{Kept, Node, Refused}
 use Rattle.synthesis.proofs.Monitors.RuleMonitor.{unsatisfiable-opens, violated-iff-suppressed}
-use Rattle.synthesis.proofs.Reasons.Fronts.{extended, front-violates, FirstViolated, first-violated-unique}
-use Rattle.synthesis.proofs.Reasons.Places.{violates-somewhere}
+use Rattle.synthesis.proofs.Reasons.Fronts.{extended, first-violated-unique, first-violates}
+use Rattle.synthesis.proofs.Reasons.Alone.{violates-somewhere}
 use Rattle.synthesis.proofs.Reasons.OpenedPlaces.{places-opened}
 use Rattle.synthesis.proofs.Reasons.LowestNodes.{least-map, least-unique, said-of-opened}
 use Rattle.synthesis.proofs.Reasons.Following.{Follows, all-kept, first-dropped, follows}
@@ -54,21 +54,24 @@ module _ (r : Rule) (w : List ℕ) (c : ℕ) where
   abbrev withScan : List ℕ
   withScan = w ++ (c ∷ [])
 
+  -- the equation to which the list leads
+  abbrev endedIn : ℕ
+  endedIn = ended (answerOf r) (firstOf r) w
+
   -- what is known of each
   data Said (reason : Reason) : Type 0 where
     unfit : (i : ℕ) → FirstViolated r w i → reason ≡ Refused 17 i → Said reason
-    keeps : (ViolatesRule r withScan → ⊥) → reason ≡ Kept → Said reason
-    drops : (m : ℕ) → (ViolatesRule r w → ⊥) → ViolatesRule r withScan → LowestPlace r withScan m
-        → LowestOpened r (ended (answerOf r) (firstOf r) w) c m → reason ≡ Node m → Said reason
+    keeps : (ViolatesRule r withScan → ⊥) → ((m : ℕ) → OpensFalsity r endedIn c m → ⊥) → reason ≡ Kept → Said reason
+    drops : (m : ℕ) → (ViolatesRule r w → ⊥) → ViolatesRule r withScan → LowestPlace r withScan m → LowestOpened r endedIn c m
+        → reason ≡ Node m → Said reason
 
-  -- the scans before are fit where those with the scan are
   scans-violate : ViolatesRule r w → ViolatesRule r withScan
   scans-violate = extended r w (c ∷ [])
 
   -- so each is said exactly where that holds
   said-explained : WellFormed (length (r .patterns)) [] (r .formula) → (reason : Reason) → Said reason → Explained r w c reason
   said-explained wf reason (unfit i first is) =
-      let violated = front-violates r w (suc i) (first .2) in
+      let violated = first-violates r w i first in
       record {
         unfit = λ j. (
           λ q. rw (← (refused-same is q)) first,
@@ -76,23 +79,23 @@ module _ (r : Rule) (w : List ℕ) (c : ℕ) where
         );
         kept = (λ q. absurd (kept-not-refused q is), λ none. absurd (none (scans-violate violated)));
         node = λ m. (λ q. absurd (node-not-refused q is), λ (none, low). absurd (none violated));
-        opened = λ m q. absurd (node-not-refused q is);
+        opened = λ m. (λ q. absurd (node-not-refused q is), λ (none, low). absurd (none violated));
         inside = λ m q. absurd (node-not-refused q is);
         only = inr (inr (i, is));
       }
-  said-explained wf reason (keeps none is) = record {
-    unfit = λ i. (λ q. absurd (kept-not-refused is q), λ (h, before, v). absurd (none (scans-violate (front-violates r w (suc i) v))));
+  said-explained wf reason (keeps none nothing is) = record {
+    unfit = λ i. (λ q. absurd (kept-not-refused is q), λ first. absurd (none (scans-violate (first-violates r w i first))));
     kept = (λ q. none, λ none′. is);
     node = λ m. (λ q. absurd (kept-not-node is q), λ (safe, low). absurd (none (violates-somewhere r wf .somewhere withScan .1 (m, low .holds))));
-    opened = λ m q. absurd (kept-not-node is q);
+    opened = λ m. (λ q. absurd (kept-not-node is q), λ (safe, low). absurd (nothing m (low .holds)));
     inside = λ m q. absurd (kept-not-node is q);
     only = inl is;
   }
   said-explained wf reason (drops m safe violated low opened is) = record {
-    unfit = λ i. (λ q. absurd (node-not-refused is q), λ (h, before, v). absurd (safe (front-violates r w (suc i) v)));
+    unfit = λ i. (λ q. absurd (node-not-refused is q), λ first. absurd (safe (first-violates r w i first)));
     kept = (λ q. absurd (kept-not-node q is), λ none. absurd (none violated));
     node = λ n. (λ q. rw (← (node-same is q)) (safe, low), λ (safe′, low′). is ∙ ap Node (least-unique low low′));
-    opened = λ n q. rw (← (node-same is q)) opened;
+    opened = λ n. (λ q. rw (← (node-same is q)) (safe, opened), λ (safe′, low′). is ∙ ap Node (least-unique opened low′));
     inside = λ n q. omega (arith, node-same is q, node-fits (opened .holds .1 .1));
     only = inr (inl (m, is));
   }
@@ -110,11 +113,10 @@ module _ (r : Rule) (w : List ℕ) (c : ℕ) where
     suppressed = violated-iff-suppressed r wf satisfiable
 
     -- where all scans are kept, by what the scan opens
-    said-kept : (Suppresses (answerOf r) (firstOf r) w → ⊥)
-        → Said (reasonOf (accepted (lowestOf (openedFalsities r (ended (answerOf r) (firstOf r) w) c))))
+    said-kept : (Suppresses (answerOf r) (firstOf r) w → ⊥) → Said (lowestOf (openedFalsities r endedIn c))
     said-kept none =
-        said-of-opened r within (ended (answerOf r) (firstOf r) w) c (λ x. Said (reasonOf (accepted x)))
-        (λ nothing. keeps (λ v. let (m, a) = somewhere .0 v in nothing m (places m .0 a)) refl)
+        said-of-opened r within endedIn c Said
+        (λ nothing. keeps (λ v. let (m, a) = somewhere .0 v in nothing m (places m .0 a)) nothing refl)
         (λ m low.
         let place = least-map (λ n. (places n .1, places n .0)) low in
         drops m (λ v. none (suppressed w .0 v)) (somewhere .1 (m, place .holds)) place low refl)
@@ -122,20 +124,20 @@ module _ (r : Rule) (w : List ℕ) (c : ℕ) where
         somewhere : ViolatesRule r withScan ↔ ((m : ℕ) × ViolatesAt r 0 withScan m)
         somewhere = violates-somewhere r wf .somewhere withScan
 
-        places : (m : ℕ) → ViolatesAt r 0 withScan m ↔ OpensFalsity r (ended (answerOf r) (firstOf r) w) c m
+        places : (m : ℕ) → ViolatesAt r 0 withScan m ↔ OpensFalsity r endedIn c m
         places = places-opened r wf unopened w none c
 
-    said : Said (reasonOf (explanationOfRule r w c))
+    said : Said (reasonOf (openedAfter r w c))
     said = on (follows (answerOf r) w (firstOf r) 0)
       where
-        on : Follows (answerOf r) (firstOf r) 0 w → Said (reasonOf (explanationOfRule r w c))
+        on : Follows (answerOf r) (firstOf r) 0 w → Said (reasonOf (openedAfter r w c))
         on (all-kept none o) = rw o (said-kept none)
         on (first-dropped j h none s o) =
             let start : 0 + j ≡ j = omega arith in
-            unfit j (h, λ v. none (suppressed (take j w) .0 v), suppressed (take (suc j) w) .1 s) (rw (o, start))
+            unfit j (record { inside = h; before = λ v. none (suppressed (take j w) .0 v); violated = suppressed (take (suc j) w) .1 s }) (rw (o, start))
 
-    pub rule-explained : Explained r w c (reasonOf (explanationOfRule r w c))
-    rule-explained = said-explained wf (reasonOf (explanationOfRule r w c)) said
+    pub rule-explained : Explained r w c (reasonOf (openedAfter r w c))
+    rule-explained = said-explained wf (reasonOf (openedAfter r w c)) said
 
 -- ---- a rule file that is counted
 
@@ -145,7 +147,7 @@ module _ (limit : ℕ) (s : List ℕ) (r : Rule) (n : ℕ) (read : ruleOf s ≡ 
       let (y, is, count) = counted-accepts (synthesisOf limit s) n counted in
       synthesis-accepts limit s (λ y. unsatisfiable r ≡ false) (λ r′ read′ h few. rw (accepted-is (sym read ∙ read′)) h) y is
 
-  pub counted-explanation : (w : List ℕ) (c : ℕ) → explanationOf limit s w c ≡ explanationOfRule r w c
+  pub counted-explanation : (w : List ℕ) (c : ℕ) → explanationOf limit s w c ≡ openedAfter r w c
   unfolding explanationOf
   counted-explanation w c =
       let (y, is, count) = counted-accepts (synthesisOf limit s) n counted in

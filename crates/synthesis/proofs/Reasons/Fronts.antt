@@ -1,14 +1,15 @@
 -- The shortest front of a list that violates a rule: since violation is closed under extension, each longer front violates the rule too, so there is only
 -- one that is the first to.
-use Prim.Native.Nat.{ℕ, suc, _+_, _-_, _≤_, _<_}
+use Prim.Native.Nat.{ℕ, suc, _+_, _-_, _≤_}
 use mathlib.Core.Path.{_≡_, sym, _∙_, ap, subst}
 use mathlib.Core.List.{List, [], _++_}
 use native.Mathlib.Decide.{decLe}
 use native.Mathlib.Omega.{arith}
-use lib.ListN.{length, take, drop, take-append-drop}
+use lib.ListN.{take, drop, take-append-drop}
 use lib.Seq.{take-add}
 use Rattle.reading.specs.Rule.{Rule}
 use Rattle.synthesis.specs.Violation.{coveredBy, ViolatesRule}
+use Rattle.synthesis.specs.Reason.{FirstViolated}
 use Rattle.synthesis.proofs.Unfolding.Extension.{closed-under-extension}
 
 pub extended : (r : Rule) (v u : List ℕ) → ViolatesRule r v → ViolatesRule r (v ++ u)
@@ -24,14 +25,14 @@ module _ (r : Rule) (w : List ℕ) where
       let e : j + (k - j) ≡ k = omega arith in
       subst (ViolatesRule r) (sym (take-add j (k - j) w) ∙ ap (λ (n : ℕ). take n w) e) (extended r (take j w) (take (k - j) (drop j w)) v)
 
-  -- the i-th scan is the last of the shortest front that violates the rule
-  abbrev pub FirstViolated : ℕ → Type 0
-  FirstViolated i = (i < length w) × (ViolatesRule r (take i w) → ⊥) × ViolatesRule r (take (suc i) w)
-
-  pub first-violated-unique : (i j : ℕ) → FirstViolated i → FirstViolated j → i ≡ j
-  first-violated-unique i j (h, none, v) (h′, none′, v′) = on (decLe (suc i) j) (decLe (suc j) i)
+  pub first-violated-unique : (i j : ℕ) → FirstViolated r w i → FirstViolated r w j → i ≡ j
+  first-violated-unique i j a b = on (decLe (suc i) j) (decLe (suc j) i)
     where
       on : Dec (suc i ≤ j) → Dec (suc j ≤ i) → i ≡ j
-      on (yes less) k = absurd (none′ (longer-front (suc i) j less v))
-      on (no k) (yes less) = absurd (none (longer-front (suc j) i less v′))
-      on (no a) (no b) = omega arith
+      on (yes less) k = absurd (b .before (longer-front (suc i) j less (a .violated)))
+      on (no k) (yes less) = absurd (a .before (longer-front (suc j) i less (b .violated)))
+      on (no k) (no l) = omega arith
+
+  -- a list with such a front violates the rule
+  pub first-violates : (i : ℕ) → FirstViolated r w i → ViolatesRule r w
+  first-violates i a = front-violates (suc i) (a .violated)

@@ -16,7 +16,9 @@ use Rattle.reading.proofs.Numbering.NodeLaws.{node-fits}
 use Rattle.synthesis.specs.Violation.{coveredBy}
 use Rattle.synthesis.specs.NodeSet.{Has, has, emptySet}
 use Rattle.synthesis.specs.Answering.{falsities, reached}
-use Rattle.synthesis.specs.Reason.{Least, OpensFalsity, LowestOpened, Explanation, no-reason, falsity-node, lowestOf, openedFalsities}
+use Rattle.synthesis.specs.Reason.{Least, OpensFalsity, LowestOpened, lowestOf, openedFalsities}
+use Rattle.synthesis.specs.declared.Reason.{Reason}
+use Rattle.synthesis.specs.declared.Reason.the-variants.{Kept, Node}
 use Rattle.synthesis.proofs.Unfolding.NodeSetLaws.{has-none, has-common, has-true, true-has, nonempty-member}
 use Rattle.synthesis.proofs.Unfolding.NodeWise.{falsities-has}
 use Rattle.synthesis.proofs.Unfolding.AnsweringLaws.{reached-leads}
@@ -57,14 +59,14 @@ module _ (r : Rule) (within : RuleWithinLimits r) where
   opened-below e c m h = omega (arith, node-fits (opened-has e c m .0 h .1 .1), within .few-nodes)
 
   -- What holds where nothing is opened, and for the lowest node where something is, holds of what is said.
-  pub said-of-opened : (e c : ℕ) (P : Explanation → Type 0) → (((m : ℕ) → OpensFalsity r e c m → ⊥) → P no-reason)
-      → ((m : ℕ) → LowestOpened r e c m → P (falsity-node m)) → P (lowestOf (openedFalsities r e c))
+  pub said-of-opened : (e c : ℕ) (P : Reason → Type 0) → (((m : ℕ) → OpensFalsity r e c m → ⊥) → P Kept)
+      → ((m : ℕ) → LowestOpened r e c m → P (Node m)) → P (lowestOf (openedFalsities r e c))
   said-of-opened e c P none some = on (eqb (openedFalsities r e c) emptySet) refl
     where
       set : ℕ
       set = openedFalsities r e c
 
-      on : (b : Bool) → eqb set emptySet ≡ b → P (cond b no-reason (falsity-node (least 64 (has set))))
+      on : (b : Bool) → eqb set emptySet ≡ b → P (cond b Kept (Node (least 64 (has set))))
       on true q = none (λ m o. has-none m (rw (eqb-true set emptySet q) at (opened-has e c m .1 o)))
       on false q =
           let (m, h) = nonempty-member set (omega (arith, eqb-false set emptySet q)) in

@@ -16,12 +16,12 @@ use Rattle.synthesis.proofs.Unfolding.OpeningLaws.{same-node}
 
 -- ---- the maxes around a node
 
--- the bodies of the maxes around, from max d on
-pub bodies-from : (ms : List EnclosingMax) (d : ℕ) → d < length ms
-    → drop d (map bodyOf ms) ≡ bodyOf (getD ms d noMax) ∷ map bodyOf (drop (suc d) ms)
-bodies-from [] d b = absurd (omega arith)
-bodies-from (m ∷ ms) zero b = refl
-bodies-from (m ∷ ms) (suc d) b = bodies-from ms d (omega arith)
+-- formulas for the maxes around, from max d on
+pub bodies-from : (of : EnclosingMax → Formula) (ms : List EnclosingMax) (d : ℕ) → d < length ms
+    → drop d (map of ms) ≡ of (getD ms d noMax) ∷ map of (drop (suc d) ms)
+bodies-from of [] d b = absurd (omega arith)
+bodies-from of (m ∷ ms) zero b = refl
+bodies-from of (m ∷ ms) (suc d) b = bodies-from of ms d (omega arith)
 
 -- Where the bodies around a node begin with f from max d on, f is the body of that max, with the maxes around it.
 pub body-around : {root g f : Formula} {bodies outer : List Formula} {k d : ℕ} {ms : List EnclosingMax} → Node root k ms g → d < length ms
@@ -29,7 +29,7 @@ pub body-around : {root g f : Formula} {bodies outer : List Formula} {k d : ℕ}
     → let x = getD ms d noMax in Node root (suc (x .number)) (x ∷ drop (suc d) ms) f × (f ∷ outer ≡ map bodyOf (x ∷ drop (suc d) ms))
 body-around {f = f} {outer = outer} {d = d} {ms} n b e q =
     let x : EnclosingMax = getD ms d noMax in
-    let same : f ∷ outer ≡ bodyOf x ∷ map bodyOf (drop (suc d) ms) = sym q ∙ rw e (bodies-from ms d b) in
+    let same : f ∷ outer ≡ bodyOf x ∷ map bodyOf (drop (suc d) ms) = sym q ∙ rw e (bodies-from bodyOf ms d b) in
     let is-body : f ≡ bodyOf x = cc in
     (rw is-body (body (max-around n d b .node)), same)
 
@@ -53,7 +53,7 @@ module _ (covered : ℕ → ℕ → Bool) (root : Formula) where
   opens-violates (second-part n o) v = violates-node n (by-second (opens-violates o v _ _ (second n)))
   opens-violates (body-of-max n o) v = violates-node n (by-body (opens-violates o v _ _ (body n)))
   opens-violates (body-of-variable {d = d} {ms} n b o) v =
-      violates-node n (by-variable (bodies-from ms d b) (opens-violates o v _ _ (body (max-around n d b .node))))
+      violates-node n (by-variable (bodies-from bodyOf ms d b) (opens-violates o v _ _ (body (max-around n d b .node))))
 
   -- ---- from the node to what opening gives
 
