@@ -9,7 +9,9 @@ use Rattle.reading.specs.Rule.{Rule}
 use Rattle.reading.proofs.Accepting.Accepted.{answers-accepted as rules-accepted}
 use Rattle.reading.proofs.Refusing.FaultsRefused as rules
 use Rattle.synthesis.specs.Building.{Builds}
+use Rattle.synthesis.proofs.Tables.Equations.{file-well-formed}
 use Rattle.synthesis.proofs.Tables.Built as building
+use Rattle.synthesis.proofs.Reasons.Alone.{violates-somewhere}
 use Rattle.synthesis.proofs.Reasons.Explained.{reasons-exactly}
 use Rattle.running.specs.Running.{resultOf}
 use Rattle.running.specs.Calls.{Call, History, Calls, OnTable, OnTableOrRefused}
@@ -79,6 +81,7 @@ demand-two = record {
   drops = drops-exactly 128 255;
   takes = call-taken;
   explains = reasons-exactly 128;
+  places = λ s bytes r read. violates-somewhere r (file-well-formed s bytes r read);
   explains-runs = reasons-of-runs 128 255;
   reads-rule = rules-accepted;
   reads-model = answers-accepted;

@@ -14,7 +14,7 @@ use Rattle.reading.specs.declared.FileRead.the-variants as Reading
 use Rattle.synthesis.specs.Monitor.{lookup}
 use Rattle.synthesis.specs.Building.{countedOf, Builds}
 use Rattle.synthesis.specs.Reason.{reasonOf}
-use Rattle.synthesis.specs.ReasonPromises.{Reasons}
+use Rattle.synthesis.specs.ReasonPromises.{Placed, Reasons}
 use Rattle.synthesis.specs.Promises.{SameAfterRows, TableUnchanged}
 use Rattle.synthesis.specs.declared.Counted.the-variants as Counted
 use Rattle.synthesis.specs.declared.Reason.the-variants as Reason
@@ -71,10 +71,10 @@ pub record DemandOne : Type 1 where
 -- ---- demand 2
 
 -- 2. A scan is dropped exactly when the scans kept so far, followed by it, violate the rule; and with room for its scans no call on the built table is
--- refused. The reason of a dropped scan is the lowest ff node at which they violate it, and a kept scan has none. A file is read exactly where it is the
--- encoding of a rule, or of a model, within the limits, and then as that one. It builds exactly where it is read and its equations are counted. With a
--- table that is long enough, exactly the rules of the grammar within the limits are accepted, except those that no finite model satisfies. A model is said
--- to meet a rule exactly when it satisfies it.
+-- refused. The reason of a dropped scan is the lowest ff node at which they violate it, and a kept scan has none; a list violates a rule at an ff node
+-- exactly when it violates the rule that has no other ff. A file is read exactly where it is the encoding of a rule, or of a model, within the limits,
+-- and then as that one. It builds exactly where it is read and its equations are counted. With a table that is long enough, exactly the rules of the
+-- grammar within the limits are accepted, except those that no finite model satisfies. A model is said to meet a rule exactly when it satisfies it.
 pub record DemandTwo : Type 1 where
   pub drops : (s table : List ℕ) (r : Rule) (n : ℕ) (left : List ℕ) → Builds 128 255 s table r n left
       → (h : History) → Calls 128 255 (OnTableOrRefused 128 255 left n) h → Sifted r h
@@ -83,6 +83,7 @@ pub record DemandTwo : Type 1 where
       → length (c .scans) ≤ length (c .output) → length (c .scans) ≤ length (c .verdicts)
       → resultOf (h .state) (running (h .state) c) .checked ≡ Checked.Fit
   pub explains : (s : List ℕ) → Bytes s → (kept : List ℕ) (scan : ℕ) → Reasons 128 s kept scan
+  pub places : (s : List ℕ) → Bytes s → (r : Rule) → ruleOf s ≡ accepted r → Placed r
   pub explains-runs : (s table : List ℕ) (r : Rule) (n : ℕ) (left : List ℕ) → Builds 128 255 s table r n left
       → (h : History) → Calls 128 255 (OnTableOrRefused 128 255 left n) h → Reasoned 128 s h
   pub reads-rule : (s : List ℕ) → Bytes s → (readingOf (ruleOf s) .answer ≡ Reading.Accepted)
