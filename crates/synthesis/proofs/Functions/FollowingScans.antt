@@ -1,5 +1,4 @@
--- Following scans one at a time: a scan that reaches an ff node ends it, and any other leads on to the set that it reaches. What is answered of a
--- scan then goes by the arrays as it goes by the rule.
+-- Following scans one at a time: a scan that reaches an ff node ends it, and any other leads on to the set that it reaches.
 use Prim.Native.Nat.{ℕ, suc, _+_, _≤_, _<_}
 use mathlib.Core.Path.{_≡_}
 use mathlib.Core.List.{List}
