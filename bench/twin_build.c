@@ -1,4 +1,5 @@
 /* Builds the table of a rule, and explains why a scan is dropped. Sets of nodes are numbers, node k is bit k. */
+#include "jarveun.h"
 #include "twin.h"
 
 #include <string.h>
@@ -159,6 +160,6 @@ uint8_t twin_explain(const uint8_t *rule, size_t rule_len, const uint8_t *kept, 
         }
     }
     uint64_t opened = reached(&g, equation, scan) & g.falsities;
-    *value = opened ? (size_t)__builtin_ctzll(opened) : MOST_NODES;
+    *value = opened ? (size_t)__builtin_ctzll(opened) : JARVEUN_KEPT;
     return 0;
 }

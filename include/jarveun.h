@@ -35,7 +35,7 @@
    15  the output or the verdicts are shorter than the scans; at 0
    16  the count isn't 1 to 128, the equation isn't under it, the table has under 256 * count bytes, or one of these bytes is neither under the
        count nor 255; at 0
-   17  the kept scans handed in violate the rule; at the first of them that does, an offset in the kept scans */
+   17  the kept scans handed in violate the rule; at the first with which they do */
 #ifndef JARVEUN_H
 #define JARVEUN_H
 
@@ -59,7 +59,7 @@ extern "C" {
 uint8_t jarveun_build(const uint8_t *rule, size_t rule_len, uint8_t *table, size_t table_len, size_t *value);
 
 /* Explains why a scan is dropped after the scans kept so far; any list of them that doesn't violate the rule is taken. Refusals: 1 to 9, then 17.
-   0: *value is the number of the lowest ff node that the scan opens, 0 to 63, or JARVEUN_KEPT where the scan is kept. A node's number is how many
+   0: *value is the number of the lowest ff node that the scan opens, 1 to 63, or JARVEUN_KEPT where the scan is kept. A node's number is how many
    nodes of the rule stand before it; patterns are no nodes.
    Refused: *value is the place. *value is never read, and nothing else is written. */
 uint8_t jarveun_explain(const uint8_t *rule, size_t rule_len, const uint8_t *kept, size_t kept_len, uint8_t scan, size_t *value);

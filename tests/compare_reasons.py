@@ -6,7 +6,7 @@ import known_reasons
 from compare import Disagreement, expect, lists_of_codes
 from equations import rows
 from reason_cases import is_node, without_last
-from reasons import by_equations, by_violation, equations_of, places_of
+from reasons import by_equations, by_violation, equations_of, places_of, without_others
 from rules import Refusal, read_rule
 from violation import violates
 
@@ -31,12 +31,16 @@ def check_typed():
 
 
 def check_rule(random, data):
-    """On lists of codes, each taken as kept scans and a last one, both give the same answer; and there is an ff node
-    at which a list violates the rule exactly where violation says that it does. Says how many lists were tried."""
+    """On lists of codes, each taken as kept scans and a last one, both give the same answer; there is an ff node at
+    which a list violates the rule exactly where violation says that it does; and of each ff node, a list violates the
+    rule there exactly when it violates the rule without the others. Says how many lists were tried."""
     rule, places = read_rule(data), places_of(data)
+    alone = {node: without_others(rule, node) for node, (part, _) in enumerate(places.parts) if part.kind == 3}
     lists = [bytes(codes) for codes in lists_of_codes(random, equations_of(data))]
     for codes in lists:
-        expect(violates(rule, codes) == bool(places.of(codes)), "violates", list(codes))
+        found = places.of(codes)
+        expect(violates(rule, codes) == bool(found), "violates", list(codes))
+        expect({node for node in alone if violates(alone[node], codes)} == set(found), "alone", list(codes))
         if codes:
             reason(data, codes[:-1], codes[-1])
     is_eight = str(rows(data)) == str(Refusal(8, 0))

@@ -20,6 +20,11 @@ def digest(content):
     return int.from_bytes(content, "big") % PRIME
 
 
+def told(tally):
+    """What was counted, each sort with its number."""
+    return ", ".join(f"{number} {what}" for what, number in sorted(tally.items()))
+
+
 def is_check(description):
     """Whether the script was started with --check."""
     parser = ArgumentParser(description=description, allow_abbrev=False)

@@ -35,8 +35,8 @@ def dropping(rules):
 
 
 def points(random, data, length, rate):
-    """A stream of so many scans, asked scan by scan: for all ff nodes that a scan meets, and for none, the last case
-    that meets these."""
+    """A stream of so many scans, asked scan by scan: for each set of ff nodes that a scan meets, also for the empty
+    one, the last case that meets it."""
     found, kept = {}, b""
     for scan in steered(random, read_rule(data), length, rate):
         nodes = places_of(data).of(kept + bytes([scan]))

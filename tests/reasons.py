@@ -1,9 +1,10 @@
 """Why a scan is dropped after the scans that were kept: the lowest ff node at which they and then the scan violate a
 rule. It is found twice, by the paper's "Meaning" without equations, and by what the equations open."""
 from functools import cache
+from itertools import count
 
 from equations import DROPPED, Equations, rows
-from rules import Refusal, read_rule
+from rules import After, Both, Max, Refusal, Rule, Truth, read_rule
 
 KEPT = "kept"
 
@@ -60,6 +61,23 @@ class Places:
     def shortest(self, codes):
         """How long the shortest front of a violating list is that violates the rule."""
         return next(length for length in range(len(codes) + 1) if self.of(codes[:length]))
+
+
+def without_others(rule, number):
+    """The rule in which each ff but the node of that number is tt. Nodes are counted in reading order."""
+    numbers = count()
+
+    def kept(part):
+        own = next(numbers)
+        if part.kind == 3:
+            return part if own == number else Truth()
+        if part.kind == 4:
+            return Both(kept(part.left), kept(part.right))
+        if part.kind == 5:
+            return After(part.pattern, kept(part.body))
+        return Max(kept(part.body)) if part.kind == 6 else part
+
+    return Rule(rule.patterns, kept(rule.formula))
 
 
 @cache

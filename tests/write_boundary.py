@@ -12,8 +12,9 @@ from reasons import KEPT, by_violation
 from rules import Refusal
 from running import run
 
-# A rule with an unguarded variable, a model that is cut short inside its first step, and the paper's scans.
+# A rule with an unguarded variable, one with an ff each for codes 5 and 37, a model that is cut short inside its first step, and the paper's scans.
 UNGUARDED = "6 7 0"
+EITHER = "1 1 5 5 1 2 5 5 4 5 0 3 5 1 3"
 CUT = "16 2 17 0"
 SCANS = bytes_of("37 5 128 5 37 5")
 
@@ -37,6 +38,10 @@ LINES = [
     "explain 17 1",
     "explain 17 1",
     "explain 7 1",
+    "explain 0 2",
+    "explain 0 4",
+    "explain 0 64",
+    "explain 17 0",
     "run 0 1 5 1 37 128 5 37 5 7 7 7 0 1 0 0 0 0 7 7",
     "run 16 3 0 0 7 7 7 7 7 7 7 7 0 1 0 0 0 0 7 7",
     "run 15 2 0 0 7 7 7 7 7 7 7 7 7 7 7 7 7",
@@ -85,6 +90,7 @@ def lines():
     buildings = [built(POOL, LEAST_TABLE - 1)[0], built(UNGUARDED, LEAST_TABLE)[0], last]
     reasons = [explained(POOL, "37", 5), explained(POOL, "37 128", 5)]
     reasons += [explained(POOL, "37 5", 5), explained(POOL, "37 5", 128), explained(UNGUARDED, "37 5", 5)]
+    reasons += [explained(EITHER, "", scan) for scan in (5, 37, 6)] + [explained(EITHER, "37", 5)]
     runs = [ran(table, 0, verdicts), ran(table, 3, verdicts), ran(table, 2, bytearray([7] * 5))]
     return [judged(PAPER), judged(MEETING), judged(CUT)] + buildings + reasons + runs
 

@@ -12,7 +12,7 @@ import model_cases
 import stream_cases
 from compare import expect
 from compare_models import BY_SILENCE
-from expected import digest, is_check, settle, three_bytes
+from expected import digest, is_check, settle, three_bytes, told
 from judging import judge
 from models import MOST_STEPS, Model, read_model
 from rules import Refusal
@@ -36,10 +36,6 @@ def reading_of(data):
 
 def input_of(size, rule, model):
     return three_bytes(size) + three_bytes(len(rule)) + three_bytes(len(model)) + rule + model
-
-
-def told(tally):
-    return ", ".join(f"{number} {what}" for what, number in sorted(tally.items()))
 
 
 def main():

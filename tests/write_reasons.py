@@ -8,8 +8,7 @@ is written, and the files are compared with what would be.
 import compare_reasons
 import reason_cases
 import table_cases
-from expected import is_check, settle, three_bytes
-from write_judgments import told
+from expected import is_check, settle, three_bytes, told
 
 
 def input_of(rule, kept, scan):

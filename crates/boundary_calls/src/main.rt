@@ -39,6 +39,11 @@ const CUT: [u8; 4] = [16, 2, 17, 0];
 
 const SCANS: [u8; 6] = [37, 5, 128, 5, 37, 5];
 
+// Both "after code 5, ff", its node 2, and "after code 37, ff", its node 4.
+const EITHER: [u8; 15] = [1, 1, 5, 5, 1, 2, 5, 5, 4, 5, 0, 3, 5, 1, 3];
+
+const NOTHING: [u8; 0] = [];
+
 const CANCELLED: [u8; 1] = [37];
 
 const SYNCED: [u8; 2] = [37, 128];
@@ -113,6 +118,19 @@ fn run(table: &[u8], count: usize, from: usize, verdicts: &mut [u8]) {
     io::write_all(STDOUT_FILENO, b"\n");
 }
 
+// Asks for the reasons of scans.
+fn explain_all() {
+    explain(&POOL, &CANCELLED, 5);
+    explain(&POOL, &SYNCED, 5);
+    explain(&POOL, &VIOLATING, 5);
+    explain(&POOL, &VIOLATING, 128);
+    explain(&UNGUARDED, &VIOLATING, 5);
+    explain(&EITHER, &NOTHING, 5);
+    explain(&EITHER, &NOTHING, 37);
+    explain(&EITHER, &NOTHING, 6);
+    explain(&EITHER, &CANCELLED, 5);
+}
+
 fn main() {
     let mut judged = [0u8; 32768];
     judge(&POOL, &BREAKS, &mut judged);
@@ -123,11 +141,7 @@ fn main() {
     let mut table = [0u8; 32768];
     build(&UNGUARDED, &mut table);
     let count = build(&POOL, &mut table);
-    explain(&POOL, &CANCELLED, 5);
-    explain(&POOL, &SYNCED, 5);
-    explain(&POOL, &VIOLATING, 5);
-    explain(&POOL, &VIOLATING, 128);
-    explain(&UNGUARDED, &VIOLATING, 5);
+    explain_all();
     let mut verdicts = [7u8; 8];
     run(&table, count, 0, &mut verdicts);
     run(&table, count, 3, &mut verdicts);

@@ -57,6 +57,7 @@ reason-examples = record {
   pool-place = pool-place;
   pool-kept = by-rule poolRule (number-pool .file) (37 ∷ 128 ∷ []) 5;
   pool-unfit = λ c. by-rule poolRule (number-pool .file) (37 ∷ 5 ∷ []) c;
+  pool-longer = λ c. by-rule poolRule (number-pool .file) (37 ∷ 5 ∷ 128 ∷ 5 ∷ []) c;
   bad-file = λ w c. refl;
   bad-rule = λ w c. refl;
   two-file = two-file;

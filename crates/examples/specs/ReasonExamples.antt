@@ -39,6 +39,8 @@ pub record ReasonExamples : Type 0 where
   pub pool-kept : reason poolFile (37 ∷ 128 ∷ []) 5 ≡ Kept
   -- a list that has the issue after the cancel is no list of kept scans, whatever comes after it
   pub pool-unfit : (c : ℕ) → reason poolFile (37 ∷ 5 ∷ []) c ≡ Refused 17 1
+  -- nor is one that goes on from it; the place is that of the issue
+  pub pool-longer : (c : ℕ) → reason poolFile (37 ∷ 5 ∷ 128 ∷ 5 ∷ []) c ≡ Refused 17 1
   -- what is wrong with the rule file comes first: 7 at 1, and 8 at 0
   pub bad-file : (w : List ℕ) (c : ℕ) → reason (6 ∷ 7 ∷ 0 ∷ []) w c ≡ Refused 7 1
   pub bad-rule : (w : List ℕ) (c : ℕ) → reason (3 ∷ []) w c ≡ Refused 8 0
@@ -53,5 +55,5 @@ pub record ReasonExamples : Type 0 where
   pub either-cancel : reason eitherFile [] 37 ≡ Node 4
   pub either-other : reason eitherFile [] 6 ≡ Kept
   pub either-unfit : (c : ℕ) → reason eitherFile (37 ∷ []) c ≡ Refused 17 0
-  -- without its other ff, the rule is violated by the scan of the one that is left
+  -- the rule that has no ff but node 4
   pub either-only : onlyFalsity eitherRule 4 ≡ rule (eitherRule .patterns) (both (necessity 0 truth) (necessity 1 falsity))

@@ -166,8 +166,8 @@ ReasonsOfRuns =
     (limit mark : ℕ) (s table : List ℕ) (r : Rule) (n : ℕ) (left : List ℕ) → Builds limit mark s table r n left
     → (h : History) → Calls limit mark (OnTableOrRefused limit mark left n) h → Reasoned limit s h
 
--- So does any list that doesn't violate the rule and ends, over the table, in the equation of the caller's state: it gives every scan the reason that what
--- was kept gives.
+-- Any list that doesn't violate the rule and ends, over the table, in the equation of the caller's state gives every scan the reason that what was kept
+-- gives.
 abbrev pub ReasonsByState : Type 0
 ReasonsByState =
     (limit mark : ℕ) (s table : List ℕ) (r : Rule) (n : ℕ) (left : List ℕ) → Builds limit mark s table r n left

@@ -1,4 +1,4 @@
-// Builds the monitor of a rule as a table. The definitions that the contracts cite stand in specs/.
+// Builds the monitor of a rule as a table, and explains why it drops a scan. The definitions that the contracts cite stand in specs/.
 mod explaining;
 mod filling;
 mod graph;

@@ -1,6 +1,6 @@
 -- What is said of a scan is as promised. The scans before it are followed: at the first that is dropped the rule is violated first; where none is, the
 -- places of these scans with the one that is asked for are the ff nodes that it opens, and the lowest of them is said. Each answer excludes the others.
-use Prim.Native.Nat.{ℕ, suc, _+_, _-_}
+use Prim.Native.Nat.{ℕ, suc, _+_}
 use mathlib.Core.Path.{_≡_, refl, sym, _∙_, ap, subst}
 use mathlib.Core.Logic.{_↔_, inl, inr}
 use mathlib.Core.Bool.{false, true≢false}

@@ -1,4 +1,4 @@
--- `explain` meets its contract: each return is a row of what is answered of a scan.
+-- `explain` meets its contract: each return is one of the ways in which a scan is answered.
 use mathlib.Core.Path.{_∙_}
 use borrow.Author.Needs.{needs}
 use Rattle.reading.proofs.Basics.ByteLaws.{slice-bytes}
