@@ -4,6 +4,7 @@ use Rattle.reading.proofs.Accepting.Accepted.{accepts-encodings, one-ru
 use Rattle.reading.proofs.Refusing.FaultsRefused.{refuses-at-the-fault, has-one-fault}
 use Rattle.reading.proofs.Numbering.NumberedLaws.{numbers-nodes, numbers-patterns}
 use Rattle.reading.proofs.Settling.Prefix.{settled-by-first-bytes, not-by-fewer}
+use Rattle.reading.proofs.Measures.NamedSlots.{goes-round}
 use Rattle.reading.proofs.Measures.Extents.{covers-means, measures-pattern}
 
 pub promises : Promises
@@ -18,5 +19,6 @@ promises = record {
   settled-by-first-bytes = settled-by-first-bytes;
   not-by-fewer = not-by-fewer;
   covers-means = covers-means;
+  goes-round = goes-round;
   measures-pattern = measures-pattern;
 }

@@ -73,8 +73,7 @@ patternAt s at =
     (refuse (eqb mask 0) 5 at
     (refuse (ltb 31 first) 5 at
     (refuse (ltb 31 last) 5 at
-    (refuse (ltb last first) 5 at
-    (accepted (record { mask = mask; first = first; last = last }))))))
+    (accepted (record { mask = mask; first = first; last = last })))))
 
 abbrev pub isPattern : List ℕ → (at : ℕ) → Bool
 isPattern s at = ltb at (length s) && eqb (getD s at 0) patternKind

@@ -1,7 +1,7 @@
 -- Scans and patterns. A scan is its code, made of its kind, 0 to 7, and its slot, 0 to 31. A pattern is a set of codes: the mask says for each
--- kind whether it belongs, first and last bound the slots. `Pattern` and `Extent` are the structs of src/lib.rt.
-use Prim.Native.Nat.{ℕ, _+_, _*_, _/_, _%_, zero, suc, _^_, _≤_, _<_}
-use mathlib.Core.Bool.{Bool, cond, _&&_}
+-- kind whether it belongs, first and last name the slots. `Pattern` and `Extent` are the structs of src/lib.rt.
+use Prim.Native.Nat.{ℕ, _+_, _-_, _*_, _/_, _%_, zero, suc, _^_, _≤_, _<_}
+use mathlib.Core.Bool.{Bool, cond, _&&_, _||_}
 use lib.Dec.{leb, eqb}
 use Rattle.reading.specs.declared.Pattern.{Pattern}
 use Rattle.reading.specs.declared.Extent.{Extent}
@@ -48,8 +48,12 @@ handover = 7
 unfoldable pub bit : ℕ → ℕ → ℕ
 bit i n = n / 2 ^ i % 2
 
+-- The slots that first and last name: from first to last, and where first is over last, from first on and from 0 to last.
+abbrev pub named : (first last slot : ℕ) → Bool
+named first last slot = cond (leb first last) (leb first slot && leb slot last) (leb first slot || leb slot last)
+
 unfoldable pub covers : Pattern → ℕ → Bool
-covers p code = eqb (bit (kindOf code) (p .mask)) 1 && (leb (p .first) (slotOf code) && leb (slotOf code) (p .last))
+covers p code = eqb (bit (kindOf code) (p .mask)) 1 && named (p .first) (p .last) (slotOf code)
 
 -- the least number below n that a test holds of; n where there is none
 unfoldable pub least : ℕ → (ℕ → Bool) → ℕ
@@ -65,9 +69,16 @@ countBelow (suc n) holds = countBelow n holds + cond (holds n) 1 0
 abbrev pub extentOf : Pattern → Extent
 extentOf p = record { lowest = least 256 (covers p); count = countBelow 256 (covers p) }
 
+-- Where both are slots, the lowest of those that first and last name, and how many these are.
+abbrev pub lowestSlot : (first last : ℕ) → ℕ
+lowestSlot first last = cond (leb first last) first 0
+
+abbrev pub slotWidth : (first last : ℕ) → ℕ
+slotWidth first last = cond (leb first last) (last - first + 1) (32 - first + last + 1)
+
 -- what refusal 5 lets through; a mask is a byte
 pub record WellFormedPattern (p : Pattern) : Type 0 where
   pub some-kind : 0 < p .mask
   pub byte : p .mask ≤ 255
-  pub in-order : p .first ≤ p .last
-  pub slots : p .last ≤ 31
+  pub first-slot : p .first ≤ 31
+  pub last-slot : p .last ≤ 31

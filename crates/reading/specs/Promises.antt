@@ -1,12 +1,12 @@
 -- What this crate promises, as statements over the definitions; proofs/ has a theorem of each of these types.
-use Prim.Native.Nat.{ℕ, _+_, _-_, _*_, _≤_, _<_}
+use Prim.Native.Nat.{ℕ, _+_, _-_, _*_, _%_, _≤_, _<_}
 use mathlib.Core.Path.{_≡_}
-use mathlib.Core.Logic.{_↔_}
+use mathlib.Core.Logic.{_↔_, _⊎_}
 use mathlib.Core.Bool.{true}
 use mathlib.Core.List.{List, [], map}
 use lib.ListN.{length, getD, take}
 use lib.Count.{ones, trailingZeros}
-use Rattle.reading.specs.Pattern.{kindOf, slotOf, bit, covers, extentOf, WellFormedPattern}
+use Rattle.reading.specs.Pattern.{kindOf, slotOf, bit, named, covers, extentOf, lowestSlot, slotWidth, WellFormedPattern}
 use Rattle.reading.specs.Rule.{Formula, size, WellFormed, Rule, RuleWithinLimits, encode, Bytes}
 use Rattle.reading.specs.File.{accepted, refused, ruleOf}
 use Rattle.reading.specs.Faults.{Fault}
@@ -72,18 +72,28 @@ SettledByFirstBytes = (s : List ℕ) (n : ℕ) → 257 ≤ n → ruleOf (take n 
 abbrev pub NotByFewer : Type 0
 NotByFewer = (s : List ℕ) × Bytes s × (ruleOf (take 256 s) ≡ refused 1 256) × (ruleOf s ≡ refused 4 256)
 
--- 4. What a pattern covers: the codes of its kinds, with the slots from first to last.
+-- 4. What a pattern covers: the codes of its kinds with the slots from first to last, or, where first is over last, with those from first on and with
+-- those up to last.
+abbrev pub Names : (first last slot : ℕ) → Type 0
+Names first last slot = ((first ≤ last) × (first ≤ slot) × (slot ≤ last)) ⊎ ((last < first) × ((first ≤ slot) ⊎ (slot ≤ last)))
+
 abbrev pub CoversMeans : Type 0
 CoversMeans =
-    (p : Pattern) (code : ℕ) → (covers p code ≡ true) ↔ ((bit (kindOf code) (p .mask) ≡ 1) × (p .first ≤ slotOf code) × (slotOf code ≤ p .last))
+    (p : Pattern) (code : ℕ) → (covers p code ≡ true) ↔ ((bit (kindOf code) (p .mask) ≡ 1) × Names (p .first) (p .last) (slotOf code))
 
--- Of a well-formed pattern: its lowest code is the least that it covers, the trailing zeros of the mask give it, and the ones of
--- the mask times the slot width give its count. (That the count is how many codes it covers is its definition.)
+-- The same without the two cases, of slots in a ring, where 0 comes after 31: one counts up from first, and comes to last before any slot comes again.
+pub record GoesRound (first last : ℕ) : Type 0 where
+  pub counted : (slot : ℕ) → slot ≤ 31 → (named first last slot ≡ true) ↔ ((k : ℕ) × (k < slotWidth first last) × ((first + k) % 32 ≡ slot))
+  pub to-last : (first + (slotWidth first last - 1)) % 32 ≡ last
+  pub once : (0 < slotWidth first last) × (slotWidth first last ≤ 32)
+
+-- Of a well-formed pattern: its lowest code is the least that it covers, by the trailing zeros of the mask and the lowest slot, which is 0 where the
+-- pattern goes round; and its count is the ones of the mask times the slot width. (That the count is how many codes it covers is its definition.)
 pub record MeasuresPattern (p : Pattern) : Type 0 where
   pub covered : covers p (extentOf p .lowest) ≡ true
   pub least : (code : ℕ) → covers p code ≡ true → extentOf p .lowest ≤ code
-  pub by-zeros : extentOf p .lowest ≡ trailingZeros 8 (p .mask) * 32 + p .first
-  pub by-ones : extentOf p .count ≡ ones (p .mask) * (p .last - p .first + 1)
+  pub by-zeros : extentOf p .lowest ≡ trailingZeros 8 (p .mask) * 32 + lowestSlot (p .first) (p .last)
+  pub by-ones : extentOf p .count ≡ ones (p .mask) * slotWidth (p .first) (p .last)
 
 -- ---- all of these
 
@@ -99,4 +109,5 @@ pub record Promises : Type 0 where
   pub settled-by-first-bytes : SettledByFirstBytes
   pub not-by-fewer : NotByFewer
   pub covers-means : CoversMeans
+  pub goes-round : (first last : ℕ) → first ≤ 31 → last ≤ 31 → GoesRound first last
   pub measures-pattern : (p : Pattern) → WellFormedPattern p → MeasuresPattern p

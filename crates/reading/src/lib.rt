@@ -2,13 +2,14 @@
 mod formulas;
 pub mod kinds;
 mod patterns;
+mod slots;
 
 ghost use mathlib.Core.Path.{_≡_};
 ghost use Rattle.reading.specs.Pattern.{covers};
 ghost use Rattle.reading.specs.File.{ruleOf};
 ghost use Rattle.reading.specs.Numbered.{readingOf, blank};
 
-// A pattern as it is written: a bit for each kind, and the slots from first to last.
+// A pattern as it is written: a bit for each kind, and the slots from first to last, round past 31 to 0 where first is over last.
 pub struct Pattern {
     pub mask: u8,
     pub first: u8,
@@ -53,10 +54,7 @@ pub fn covers(p: Pattern, code: u8) -> bool
     if (p.mask >> kind) % 2 == 0 {
         return false;
     }
-    if slot < p.first {
-        return false;
-    }
-    slot <= p.last
+    slots::has_slot(p.first, p.last, slot)
 }
 
 // The rule of a refused file.

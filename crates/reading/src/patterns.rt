@@ -4,6 +4,8 @@ use crate::FileRead;
 use crate::Pattern;
 use crate::blank_rule;
 use crate::kinds::PATTERN;
+use crate::slots::lowest_slot;
+use crate::slots::slot_width;
 ghost use mathlib.Core.Path.{_≡_};
 ghost use Prim.Native.Nat.{_<_};
 ghost use lib.ListN.{length};
@@ -32,10 +34,9 @@ fn extent(p: Pattern) -> Extent
     ensures { λ r. ⌜ r ≡ extentOf p ⌝ }
 {
     let kind = u8::trailing_zeros(p.mask);
-    let lowest = kind * 32 + (p.first as u32);
+    let lowest = kind * 32 + (lowest_slot(p.first, p.last) as u32);
     let kinds = u8::count_ones(p.mask);
-    let width = (p.last - p.first) as u32 + 1;
-    let count = kinds * width;
+    let count = kinds * (slot_width(p.first, p.last) as u32);
     Extent {
         lowest: lowest as u8,
         count: count as u16,
@@ -63,9 +64,6 @@ fn read_pattern(bytes: &[u8], at: usize, left: usize) -> PatternRead
         return PatternRead::Refused(5, at);
     }
     if 31 < last {
-        return PatternRead::Refused(5, at);
-    }
-    if last < first {
         return PatternRead::Refused(5, at);
     }
     PatternRead::Read(Pattern { mask, first, last })

@@ -42,18 +42,13 @@ module _ (s : List ℕ) (at left : ℕ) where
           pub last-over : 31 < getD s (at + 3) 0 → PatternRead.Refused 5 at ≡ read-at
           last-over h = simp (ne-eqb _ _ l, lt-leb _ _ b, ne-eqb _ _ k, le-ltb _ _ f, lt-ltb _ _ h)
 
-          module _ (t : getD s (at + 3) 0 ≤ 31) where
-            pub first-past-last : getD s (at + 3) 0 < getD s (at + 2) 0 → PatternRead.Refused 5 at ≡ read-at
-            first-past-last h = simp (ne-eqb _ _ l, lt-leb _ _ b, ne-eqb _ _ k, le-ltb _ _ f, le-ltb _ _ t, lt-ltb _ _ h)
-
 -- the pattern of the three bytes after a kind
 abbrev pub patternOfBytes : List ℕ → (at : ℕ) → Pattern
 patternOfBytes s at = record { mask = getD s (at + 1) 0; first = getD s (at + 2) 0; last = getD s (at + 3) 0 }
 
-module _ (s : List ℕ) (at : ℕ) (b : at + 3 < length s) (k : getD s (at + 1) 0 ≡ 0 → ⊥) (f : getD s (at + 2) 0 ≤ 31) (t : getD s (at + 3) 0 ≤ 31)
-    (o : getD s (at + 2) 0 ≤ getD s (at + 3) 0) where
+module _ (s : List ℕ) (at : ℕ) (b : at + 3 < length s) (k : getD s (at + 1) 0 ≡ 0 → ⊥) (f : getD s (at + 2) 0 ≤ 31) (t : getD s (at + 3) 0 ≤ 31) where
   pub pattern-accepted : patternAt s at ≡ accepted (patternOfBytes s at)
-  pattern-accepted = simp (lt-leb _ _ b, ne-eqb _ _ k, le-ltb _ _ f, le-ltb _ _ t, le-ltb _ _ o)
+  pattern-accepted = simp (lt-leb _ _ b, ne-eqb _ _ k, le-ltb _ _ f, le-ltb _ _ t)
 
   pub pattern-read : (left : ℕ) → (left ≡ 0 → ⊥) → PatternRead.Read (patternOfBytes s at) ≡ read-at s at left
   pattern-read left l = simp (ne-eqb _ _ l, pattern-accepted)

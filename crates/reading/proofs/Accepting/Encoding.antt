@@ -16,7 +16,7 @@ use Rattle.reading.proofs.Basics.EncodeLaws.{encodeEach-bytes}
 -- ---- bytes
 
 pattern-is-bytes : (p : Pattern) → WellFormedPattern p → Bytes (patternBytes p)
-pattern-is-bytes p w = (omega arith, (omega (arith, w .byte), (omega (arith, w .in-order, w .slots), (omega (arith, w .slots), tt))))
+pattern-is-bytes p w = (omega arith, (omega (arith, w .byte), (omega (arith, w .first-slot), (omega (arith, w .last-slot), tt))))
 
 -- a variable's depth is below the maxes around it, each of which is a node
 formula-is-bytes : (n : ℕ) → n ≤ 256 → (f : Formula) (g : Guards) → length g + size f ≤ 256 → WellFormed n g f → Bytes (encodeFormula f)

@@ -35,7 +35,7 @@ module _ (s : List ℕ) (at : ℕ) (p : Pattern) where
       let first = h .first .is in
       let last = h .last .is in
       pattern-accepted s at (h .last .inside) (λ e. omega (arith, w .some-kind))
-      (omega (arith, w .in-order, w .slots)) (omega (arith, w .slots)) (omega (arith, w .in-order))
+      (omega (arith, w .first-slot)) (omega (arith, w .last-slot))
       ∙ rw (mask, first, last)
 
   pub pattern-stands : getD s (at + 1) 0 < 256 → patternAt s at ≡ accepted p → PatternStands s at p
@@ -44,14 +44,13 @@ module _ (s : List ℕ) (at : ℕ) (p : Pattern) where
       let kind = refuse-accepted (eqb (getD s (at + 1) 0) 0) 5 at _ (whole .1) in
       let first = refuse-accepted (ltb 31 (getD s (at + 2) 0)) 5 at _ (kind .1) in
       let last = refuse-accepted (ltb 31 (getD s (at + 3) 0)) 5 at _ (first .1) in
-      let order = refuse-accepted (ltb (getD s (at + 3) 0) (getD s (at + 2) 0)) 5 at _ (last .1) in
       let inside : at + 3 < length s = leb-false _ _ (whole .0) in
-      subst (λ (x : Pattern). PatternStands s at x) (accepted-is (order .1)) (record {
+      subst (λ (x : Pattern). PatternStands s at x) (accepted-is (last .1)) (record {
         well-formed = record {
           some-kind = omega (arith, eqb-false (getD s (at + 1) 0) 0 (kind .0));
           byte = omega arith;
-          in-order = ltb-false _ _ (order .0);
-          slots = ltb-false _ _ (last .0);
+          first-slot = ltb-false _ _ (first .0);
+          last-slot = ltb-false _ _ (last .0);
         };
         mask = record { inside = omega arith; is = refl };
         first = record { inside = omega arith; is = refl };

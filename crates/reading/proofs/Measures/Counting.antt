@@ -1,11 +1,9 @@
 -- Laws of the least number that a test holds of, and of how many numbers it holds of, for any test, each by recursion over the bound.
 use mathlib.Core.Path.{_≡_, refl, ap}
-use mathlib.Core.Bool.{Bool, true, false, cond, _&&_, and-false}
-use Prim.Native.Nat.{ℕ, zero, suc, _+_, _-_, _*_, _≤_, _<_}
+use mathlib.Core.Bool.{Bool, true, false, cond, _&&_}
+use Prim.Native.Nat.{ℕ, zero, suc, _+_, _*_, _≤_, _<_}
 use native.Mathlib.Nat.{add-zero, add-suc}
 use native.Mathlib.Omega.{arith}
-use lib.Dec.{leb}
-use borrow.Author.Tests.{le-leb, lt-leb}
 use Rattle.reading.specs.Pattern.{least, countBelow}
 
 -- ---- the least
@@ -97,48 +95,8 @@ count-below-all zero holds h = refl
 count-below-all (suc n) holds h =
     rw (h n (omega arith)) (omega (arith, count-below-all n holds (λ i l. h i (omega arith))))
 
--- f misses, then w hits, then r misses
-count-below-run :
-    (f w r : ℕ) (holds : ℕ → Bool)
-    → ((i : ℕ) → i < f → holds i ≡ false)
-    → ((i : ℕ) → i < w → holds (f + i) ≡ true)
-    → ((i : ℕ) → i < r → holds (f + w + i) ≡ false)
-    → countBelow (f + w + r) holds ≡ w
-count-below-run f w r holds before hits after =
-    omega (
-      arith,
-      count-below-split (f + w) r holds,
-      count-below-split f w holds,
-      count-below-none f holds before,
-      count-below-all w (λ i. holds (f + i)) hits,
-      count-below-none r (λ i. holds (f + w + i)) after,
-    )
-
 -- a condition beside the test
 pub count-below-and :
     (n : ℕ) (b : Bool) (holds : ℕ → Bool) → countBelow n (λ i. b && holds i) ≡ cond b 1 0 * countBelow n holds
 count-below-and n true holds = omega arith
 count-below-and n false holds = omega (arith, count-below-none n (λ i. false) (λ i l. refl))
-
--- ---- the numbers from one to another
-
-abbrev pub between : ℕ → ℕ → ℕ → Bool
-between first last i = leb first i && leb i last
-
-module _ (n first last : ℕ) (in-order : first ≤ last) (inside : last < n) where
-  pub least-between : least n (between first last) ≡ first
-  least-between =
-      least-is n first (between first last) (omega arith)
-      (rw (le-leb first first (omega arith), le-leb first last in-order))
-      (λ i l. rw (lt-leb first i l))
-
-  pub count-below-between : countBelow n (between first last) ≡ last - first + 1
-  count-below-between =
-      let width = last - first + 1 in
-      let rest = n - last - 1 in
-      let whole : first + width + rest ≡ n = omega arith in
-      rw whole at
-      (count-below-run first width rest (between first last)
-      (λ i l. rw (lt-leb first i l))
-      (λ i l. rw (le-leb first (first + i) (omega arith), le-leb (first + i) last (omega arith)))
-      (λ i l. rw (lt-leb (first + width + i) last (omega arith)) (and-false (leb first (first + width + i)))))

@@ -162,14 +162,11 @@ module _ {s : List ℕ} {at n : ℕ} (h : ReadTo s at n 0 ([] ∷ [])) (b : Byte
       (λ t. unfit-fault few whole (λ w. omega (arith, w .some-kind, eqb-true mask 0 t)))
       (λ f₂ e₃.
       refuse-refused (Fault s) (ltb 31 first) 5 at _ e₃
-      (λ t. unfit-fault few whole (λ w. omega (arith, w .in-order, w .slots, ltb-true 31 first t)))
+      (λ t. unfit-fault few whole (λ w. omega (arith, w .first-slot, ltb-true 31 first t)))
       (λ f₃ e₄.
       refuse-refused (Fault s) (ltb 31 last) 5 at _ e₄
-      (λ t. unfit-fault few whole (λ w. omega (arith, w .slots, ltb-true 31 last t)))
-      (λ f₄ e₅.
-      refuse-refused (Fault s) (ltb last first) 5 at _ e₅
-      (λ t. unfit-fault few whole (λ w. omega (arith, w .in-order, ltb-true last first t)))
-      (λ f₅ e₆. absurd (never-refused e₆))))))
+      (λ t. unfit-fault few whole (λ w. omega (arith, w .last-slot, ltb-true 31 last t)))
+      (λ f₄ e₅. absurd (never-refused e₅)))))
 
 head-fault : (left : ℕ) {s : List ℕ} → Bytes s → {at n : ℕ} {number place : ℕ} → ReadTo s at n 0 ([] ∷ []) → left + n ≡ 32
     → headAt s left n at ≡ refused number place → Fault s number place

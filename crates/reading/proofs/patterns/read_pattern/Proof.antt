@@ -1,5 +1,5 @@
 -- `patterns::read_pattern` meets its contract: each return is a row of the table.
-use Rattle.reading.proofs.Accepting.Checks.{no-pattern-left, pattern-cut, no-kind, first-over, last-over, first-past-last, pattern-read}
+use Rattle.reading.proofs.Accepting.Checks.{no-pattern-left, pattern-cut, no-kind, first-over, last-over, pattern-read}
 use borrow.Author.Needs.{needs}
 use Rattle.reading.proofs.patterns.read_pattern.Statement.{statement}
 use Rattle.reading.proofs.patterns.read_pattern.Tie as tie
@@ -43,10 +43,7 @@ returns-5 : tie.Need-returns-5
 returns-5 c = search last-over
 
 returns-6 : tie.Need-returns-6
-returns-6 c = search first-past-last
-
-returns-7 : tie.Need-returns-7
-returns-7 c = search pattern-read
+returns-6 c = search pattern-read
 
 -- ---- all of them
 
@@ -66,5 +63,4 @@ read-pattern-spec =
     returns-3
     returns-4
     returns-5
-    returns-6
-    returns-7)
+    returns-6)
