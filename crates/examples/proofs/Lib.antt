@@ -2,6 +2,7 @@
 pub mod FileAnswers
 pub mod RunAnswers
 pub mod Listed
+pub mod ModelAnswers
 pub mod SmallFiles
 pub mod NumberPool
 pub mod PaperExamples
@@ -14,5 +15,6 @@ pub mod DrawnModel
 pub mod Shortening
 pub mod Distinctions
 pub mod PoolModels
+pub mod RoundExample
 pub mod FullModel
 pub mod RefusalExamples

@@ -2,7 +2,6 @@
 -- examples.
 use Prim.Native.Nat.{ℕ, _≤_}
 use mathlib.Core.Path.{_≡_, refl, sym, _∙_}
-use mathlib.Core.Logic.{inl, inr}
 use mathlib.Core.Bool.{false, true≢false}
 use mathlib.Core.List.{List, [], _∷_}
 use native.Mathlib.Omega.{arith}
@@ -13,21 +12,18 @@ use Rattle.reading.specs.File.{accepted, recordsAt}
 use Rattle.synthesis.specs.Violation.{coveredBy, ViolatesRule, by-falsity, by-first, by-code, by-body}
 use Rattle.synthesis.specs.Monitor.{lookup}
 use Rattle.synthesis.specs.Building.{tableLeft}
-use Rattle.enforcement.specs.Model.{Label, silent, code, Walk, stay, silent-first, code-first, Weak, StateSatisfies, Satisfies, SatisfiesDecided}
+use Rattle.enforcement.specs.Model.{Label, silent, code, Walk, stay, silent-first, code-first, Weak, StateSatisfies, Satisfies}
 use Rattle.enforcement.specs.Model.{suppressing}
 use Rattle.models.specs.Phone.{Phone, StepIn, modelOf, statesOf, phoneOf}
-use Rattle.models.specs.Judging.{judgingOf, JudgedAs}
 use Rattle.enforcement.specs.Promises.{Enforces}
-use Rattle.models.specs.declared.Judged.the-variants.{Meets, Breaks}
 use Rattle.enforcement.proofs.SatisfactionLaws.{satisfies-safe}
-use Rattle.models.proofs.Phones.DecidedSets.{decided-satisfies}
 use Rattle.enforcement.proofs.BisimulationLaws.{bisimilar-alike}
 use Rattle.models.proofs.Judgments.TablesEnforce.{tables-enforce}
-use Rattle.models.proofs.Judgments.JudgingLaws.{judging-case}
 use Rattle.examples.specs.Examples.{poolFile, poolRule}
-use Rattle.examples.specs.ModelExamples.{behind, JudgesPool, breakingFile, breakingPhone, Breaking}
+use Rattle.examples.specs.ModelExamples.{behind, breakingFile, breakingPhone, Breaking}
 use Rattle.examples.specs.ModelExamples.{meetingFile, meetingPhone, Meeting, ModelExamples}
 use Rattle.examples.proofs.NumberPool.{pool-builds, pool-table}
+use Rattle.examples.proofs.ModelAnswers.{judges-met, judges-broken}
 use Rattle.examples.proofs.PhoneSteps.{step-at, every-step}
 use Rattle.examples.proofs.DrawnModel.{drawn-bisimilar}
 use Rattle.examples.proofs.Shortening.{shortening}
@@ -40,24 +36,6 @@ module _ (f : List ℕ) (y : Phone) (read : phoneOf f ≡ accepted y) where
       → Enforces poolRule (suppressing (lookup 256 255 (tableLeft 128 255 poolFile table))) 0 (modelOf y)
   pool-enforces bytes table room =
       tables-enforce 128 255 poolFile table poolRule 3 (tableLeft 128 255 poolFile table) (pool-builds table room) f y bytes read .0
-
-  pool-judging : (table : List ℕ) → 32768 ≤ length table
-      → judgingOf 128 poolFile (length table) f ≡ accepted (record { rule = poolRule; phone = y })
-  pool-judging table room = judging-case (pool-builds table room) f y read
-
-  judges-met : SatisfiesDecided (modelOf y) poolRule → JudgesPool f Meets
-  judges-met sat table room r = rw (pool-judging table room) (on, λ e. inl (e, sat))
-    where
-      on : JudgedAs (accepted (record { rule = poolRule; phone = y })) r → r ≡ Meets
-      on (inl x) = x .0
-      on (inr x) = absurd (x .1 sat)
-
-  judges-broken : (SatisfiesDecided (modelOf y) poolRule → ⊥) → JudgesPool f Breaks
-  judges-broken unsat table room r = rw (pool-judging table room) (on, λ e. inr (e, unsat))
-    where
-      on : JudgedAs (accepted (record { rule = poolRule; phone = y })) r → r ≡ Breaks
-      on (inl x) = absurd (unsat (x .1))
-      on (inr x) = x .0
 
 -- ---- the paper's model breaks the rule
 
@@ -82,7 +60,7 @@ breaking : Breaking
 breaking = record {
   file = breaking-read;
   unsatisfied = breaking-unsatisfied;
-  judged = judges-broken breakingFile breakingPhone breaking-read (λ sat. breaking-unsatisfied (decided-satisfies breakingPhone poolRule .0 sat));
+  judged = judges-broken pool-builds breakingFile breakingPhone breaking-read breaking-unsatisfied;
   changed = λ table room alike. breaking-unsatisfied (
       bisimilar-alike (modelOf breakingPhone) (behind poolFile table (modelOf breakingPhone)) alike poolRule .1
       (pool-enforces breakingFile breakingPhone breaking-read (search arith) table room .satisfies));
@@ -142,7 +120,7 @@ meeting : Meeting
 meeting = record {
   file = meeting-read;
   satisfied = meeting-satisfied;
-  judged = judges-met meetingFile meetingPhone meeting-read (decided-satisfies meetingPhone poolRule .1 meeting-satisfied);
+  judged = judges-met pool-builds meetingFile meetingPhone meeting-read meeting-satisfied;
   unchanged = λ table room. pool-enforces meetingFile meetingPhone meeting-read (search arith) table room .bisimilar meeting-satisfied;
 }
 

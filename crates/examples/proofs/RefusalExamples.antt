@@ -63,6 +63,7 @@ rule-refusals = record {
   variable-cut = refuses _ 1 2 refl;
   mask-0 = refuses _ 5 0 refl;
   first-32 = refuses _ 5 0 refl;
+  first-32-round = refuses _ 5 0 refl;
   last-32 = refuses _ 5 0 refl;
   second-pattern = refuses _ 5 4 refl;
   pattern-1 = refuses _ 6 4 refl;

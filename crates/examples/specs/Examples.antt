@@ -160,8 +160,9 @@ pub record SmallFiles : Type 0 where
   pub no-pattern : Refuses (5 ∷ 0 ∷ 2 ∷ []) 6 0
   -- * 1 1 5 5: 1 at 4
   pub no-formula : Refuses (1 ∷ 1 ∷ 5 ∷ 5 ∷ []) 1 4
-  -- * 1 1 6 5 2: 5 at 0
-  pub first-over-last : Refuses (1 ∷ 1 ∷ 6 ∷ 5 ∷ 2 ∷ []) 5 0
+  -- * 1 1 6 5 2: 5 at 0 in the paper. C-12 changed this row: it is accepted, and covers 32 codes from 0 on
+  pub first-over-last : ReadAs (1 ∷ 1 ∷ 6 ∷ 5 ∷ 2 ∷ []) (rule (pattern 1 6 5 ∷ []) truth) (Equations 1)
+  pub first-over-last-extent : extentOf (pattern 1 6 5) ≡ extent 0 32
   -- * 1 1 31 31 2: accepted, lowest 31
   pub last-slot : ReadAs (1 ∷ 1 ∷ 31 ∷ 31 ∷ 2 ∷ []) (rule (pattern 1 31 31 ∷ []) truth) (Equations 1)
   pub last-slot-lowest : extentOf (pattern 1 31 31) .lowest ≡ 31

@@ -5,4 +5,5 @@ pub mod NodeExamples
 pub mod OverlapExample
 pub mod ReasonExamples
 pub mod ModelExamples
+pub mod RoundExample
 pub mod RefusalExamples

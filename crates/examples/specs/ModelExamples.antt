@@ -27,10 +27,13 @@ step from label to = record { from = from; label = label; to = to }
 abbrev pub behind : (s table : List ℕ) → Model → Model
 behind s table = monitored (suppressing (lookup 256 255 (tableLeft 128 255 s table))) 0
 
--- With every table of at least 32,768 bytes this is an answer of judging, and it is the only one.
+-- With every table of at least 32,768 bytes this is an answer of judging a model under a rule, and it is the only one.
+abbrev pub Judges : (s model : List ℕ) → Judged → Type 0
+Judges s f answer =
+    (table : List ℕ) → 32768 ≤ length table → (r : Judged) → JudgedAs (judgingOf 128 s (length table) f) r ↔ (r ≡ answer)
+
 abbrev pub JudgesPool : (model : List ℕ) → Judged → Type 0
-JudgesPool f answer =
-    (table : List ℕ) → 32768 ≤ length table → (r : Judged) → JudgedAs (judgingOf 128 poolFile (length table) f) r ↔ (r ≡ answer)
+JudgesPool = Judges poolFile
 
 -- ---- a model that breaks the rule
 

@@ -46,9 +46,10 @@ pub record RuleRefusals : Type 0 where
   pub pattern-cut : Refuses (1 ∷ 0 ∷ 5 ∷ []) 1 3
   pub necessity-cut : Refuses (5 ∷ []) 1 1
   pub variable-cut : Refuses (6 ∷ 7 ∷ []) 1 2
-  -- 5: mask 0, slot 32 as first and as last, and at a second pattern
+  -- 5: mask 0, slot 32 as first, also over the last, and as last, and at a second pattern
   pub mask-0 : Refuses (1 ∷ 0 ∷ 5 ∷ 5 ∷ 2 ∷ []) 5 0
   pub first-32 : Refuses (1 ∷ 1 ∷ 32 ∷ 32 ∷ 2 ∷ []) 5 0
+  pub first-32-round : Refuses (1 ∷ 1 ∷ 32 ∷ 5 ∷ 2 ∷ []) 5 0
   pub last-32 : Refuses (1 ∷ 1 ∷ 5 ∷ 32 ∷ 2 ∷ []) 5 0
   pub second-pattern : Refuses (1 ∷ 1 ∷ 5 ∷ 5 ∷ 1 ∷ 1 ∷ 32 ∷ 5 ∷ 2 ∷ []) 5 4
   -- 6: pattern 1 where there is only pattern 0, and depth 1 below a single max, guarded or not
