@@ -15,9 +15,9 @@ static const uint8_t paper_rule[] = {
 };
 
 /* The hardest rule that a search at random found: 64 nodes, 127 equations of 9 to 46 members. All but one of its necessities are of any code, so that
-   most members of an equation count under each code. */
+   most members of an equation count under each code. The slots of its other pattern go round. */
 static const uint8_t hard_rule[] = {
-    1, 255, 0, 31, 1, 174, 1, 29,
+    1, 255, 0, 31, 1, 174, 16, 12,
     6, 4, 5, 0, 7, 0,
     4, 5, 1, 5, 0, 5, 0, 5, 0, 5, 0, 5, 0, 2,
     4, 5, 0, 5, 0, 5, 0, 5, 0, 5, 0, 5, 0, 5, 0, 5, 0, 2,

@@ -29,13 +29,14 @@ static uint64_t opening(const struct rule *rule, const uint64_t *opened, size_t 
     }
 }
 
-/* Puts a necessity into the set of each code that its pattern holds. */
+/* Puts a necessity into the set of each code that its pattern holds. The slots go round: after the last of all comes 0. */
 static void wait_for(uint64_t *waiting, struct pattern p, uint64_t node)
 {
-    for (unsigned kind = 0; kind < 8; kind++)
+    unsigned width = (p.last + SLOTS - p.first) % SLOTS + 1;
+    for (unsigned kind = 0; kind < CODES / SLOTS; kind++)
         if (p.mask >> kind & 1)
-            for (unsigned slot = p.first; slot <= p.last; slot++)
-                waiting[32 * kind + slot] |= node;
+            for (unsigned i = 0; i < width; i++)
+                waiting[SLOTS * kind + (p.first + i) % SLOTS] |= node;
 }
 
 static void link_nodes(const struct rule *rule, struct graph *g)

@@ -21,6 +21,13 @@ def expect(is_right, *where):
         raise Disagreement(*where)
 
 
+def check_round(files):
+    """At least one in four of the rules that are read has a pattern that goes round."""
+    rules = [rule for rule in map(read_rule, files) if not isinstance(rule, Refusal)]
+    going = sum(any(pattern.goes_round() for pattern in rule.patterns) for rule in rules)
+    expect(4 * going >= len(rules), "patterns that go round", going, len(rules))
+
+
 def ends_of_classes(equations):
     """The lowest and the highest code of each class: of all codes that the same patterns cover."""
     classes = {}
@@ -100,6 +107,7 @@ def check_typed():
 def check(files):
     """Checks what was typed, and each of the files that holds a rule. Says how many rules and lists there were."""
     check_typed()
+    check_round(files)
     random = Random(3)
     rules = lists = 0
     for data in files:

@@ -36,9 +36,9 @@ def small_formulas(nodes, scope=()):
 
 
 def small_rules(nodes):
-    """The small formulas over two patterns that overlap."""
-    patterns = pattern(3, 0, 9) + pattern(6, 5, 31)
-    return [patterns + formula for formula in small_formulas(nodes)]
+    """The small formulas over two patterns that overlap, by turns a pair in order and a pair of which one goes round."""
+    pairs = [pattern(3, 0, 9) + pattern(6, 5, 31), pattern(3, 28, 9) + pattern(6, 5, 30)]
+    return [pairs[number % 2] + formula for number, formula in enumerate(small_formulas(nodes))]
 
 
 def in_groups(items, size):
@@ -57,10 +57,18 @@ def pattern_rules(random):
     return rules + [b"".join(group) + four for group in in_groups(patterns, 4)]
 
 
+def wide_slots(random):
+    """A first and a last slot with many between them, round or not."""
+    if random.randrange(5) < 2:
+        first = random.randrange(12, 32)
+        return first, random.randrange(4, first)
+    return random.randrange(9), random.randrange(15, 32)
+
+
 def wide_patterns(random, count):
     """Patterns most of which overlap."""
     masks = [random.randrange(1, 256) | random.randrange(256) for _ in range(count)]
-    return b"".join(pattern(mask, random.randrange(9), random.randrange(15, 32)) for mask in masks)
+    return b"".join(pattern(mask, *wide_slots(random)) for mask in masks)
 
 
 def afters(random, patterns, most):

@@ -33,13 +33,33 @@ SMALL = [
     ("6 7 0", "refused 7 at 1"),
     ("5 0 2", "refused 6 at 0"),
     ("1 1 5 5", "refused 1 at 4"),
-    ("1 1 6 5 2", "refused 5 at 0"),
+    # C-12: first over last, all 32 slots
+    ("1 1 6 5 2", "accepted p 1 6 5 0 32 496 n 2 0"),
     ("1 1 31 31 2", "accepted p 1 31 31 31 1 31 n 2 0"),
     (POOL, POOL_LINE),
     (ANY + "5 0 " * 63 + "2", ANY_LINE + " n 5 0" * 63 + " n 2 0"),
     (ANY + "5 0 " * 64 + "2", "refused 4 at 132"),
     (counted(7), counted_line(7)),
     (counted(8), counted_line(8)),
+]
+
+# Slots that go round: from first to 31, then from 0 to last. The lowest code has slot 0.
+ROUND = [
+    ("1 1 30 2 2", "accepted p 1 30 2 0 5 64 n 2 0"),
+    ("1 1 31 0 2", "accepted p 1 31 0 0 2 31 n 2 0"),
+    ("1 1 1 0 2", "accepted p 1 1 0 0 32 496 n 2 0"),
+    ("1 1 31 30 2", "accepted p 1 31 30 0 32 496 n 2 0"),
+    ("1 1 0 31 2", "accepted p 1 0 31 0 32 496 n 2 0"),
+    ("1 1 2 30 2", "accepted p 1 2 30 2 29 464 n 2 0"),
+    ("1 10 30 2 2", "accepted p 10 30 2 32 10 768 n 2 0"),
+    ("1 128 20 19 2", "accepted p 128 20 19 224 32 7664 n 2 0"),
+    ("1 255 17 16 2", "accepted p 255 17 16 0 256 32640 n 2 0"),
+    # what is left of refusal 5
+    ("1 0 30 2 2", "refused 5 at 0"),
+    ("1 1 32 2 2", "refused 5 at 0"),
+    ("1 1 255 0 2", "refused 5 at 0"),
+    ("1 1 30 32 2", "refused 5 at 0"),
+    (ONE + "1 1 33 32 2", "refused 5 at 4"),
 ]
 
 # Two faults at one record: the one that stands first in the paper's table.
@@ -69,12 +89,12 @@ AT_ONE_RECORD = [
     ("6 1", "refused 3 at 1"),
     ("6 1 1 5", "refused 3 at 1"),
     ("4 2 1 0 5 5", "refused 3 at 2"),
-    ("6 1 1 6 5", "refused 3 at 1"),
+    ("6 1 1 32 5", "refused 3 at 1"),
     # a limit: before the record's length and its body
     (FULL + "1", "refused 4 at 128"),
     (FULL + "1 1 5", "refused 4 at 128"),
     (FULL + "1 0 5 5", "refused 4 at 128"),
-    (FULL + "1 1 6 5", "refused 4 at 128"),
+    (FULL + "1 1 5 32", "refused 4 at 128"),
     ("6 " * 64 + "5", "refused 4 at 64"),
     ("6 " * 64 + "7", "refused 4 at 64"),
     ("6 " * 64 + "5 0", "refused 4 at 64"),
@@ -143,5 +163,5 @@ def bytes_of(text):
 
 def answers():
     """Each file with the line that answers it."""
-    typed = SMALL + AT_ONE_RECORD + AT_TWO_RECORDS + GUARDS
+    typed = SMALL + ROUND + AT_ONE_RECORD + AT_TWO_RECORDS + GUARDS
     return [(bytes_of(text), line) for text, line in typed]

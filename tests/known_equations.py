@@ -5,6 +5,10 @@ SIX = "1 1 6 6 "
 SEVEN = "1 1 7 7 "
 OVERLAPPING = "1 3 0 9 1 6 5 31 "
 
+# "after an issue of slots 30 to 2, ff", and "after an issue of 30 to 2, after one of 2 to 30, ff".
+ROUND = "1 1 30 2 5 0 3"
+ROUND_TWICE = "1 1 30 2 1 1 2 30 5 0 5 1 3"
+
 # Two branches for 5: "after 5, after 6, ff" and "after 5, after 7, ff".
 BRANCHES = ONE + SIX + SEVEN + "4 5 0 5 1 3 5 0 5 2 3"
 
@@ -40,6 +44,19 @@ LISTINGS += [
     ("1 1 31 31 2", ["patterns 1", "p 0 31 1", "equations 1", "0 0 255 0"]),
     # "after 5, ff"
     (ONE + "5 0 3", ["patterns 1", "p 0 5 1", "equations 2", "0 0 4 1", "0 5 5 drop", "0 6 255 1", "1 0 255 1"]),
+    (
+        ROUND,
+        ["patterns 1", "p 0 0 5", "equations 2"]
+        + ["0 0 2 drop", "0 3 29 1", "0 30 31 drop", "0 32 255 1"]
+        + ["1 0 255 1"],
+    ),
+    (
+        ROUND_TWICE,
+        ["patterns 2", "p 0 0 5", "p 1 2 29", "equations 3"]
+        + ["0 0 2 1", "0 3 29 2", "0 30 31 1", "0 32 255 2"]
+        + ["1 0 1 2", "1 2 30 drop", "1 31 255 2"]
+        + ["2 0 255 2"],
+    ),
     (
         BRANCHES,
         ["patterns 3", "p 0 5 1", "p 1 6 1", "p 2 7 1", "equations 3"]
@@ -115,7 +132,8 @@ LISTINGS += [
     ("2 2", ["refused 3 at 1"]),
     (LONG, ["refused 2 at 256"]),
     (ANY + "5 0 " * 64 + "2", ["refused 4 at 132"]),
-    ("1 1 6 5 2", ["refused 5 at 0"]),
+    ("1 1 6 5 2", ["patterns 1", "p 0 0 32", "equations 1", "0 0 255 0"]),
+    ("1 1 6 32 2", ["refused 5 at 0"]),
     ("5 0 2", ["refused 6 at 0"]),
     ("7 0", ["refused 6 at 0"]),
     ("6 7 0", ["refused 7 at 1"]),
@@ -176,6 +194,10 @@ VERDICTS = [
     (REQUESTS, "5 5 101 5 5 101 101 5 5", "0 1 0 0 1 0 0 0 0"),
     (REQUESTS, "101 5 5", "0 0 0"),
     (ONE + "5 0 3", "5 5 6 5", "1 1 0 0"),
+    (ROUND, "31 2 29 0", "1 1 0 0"),
+    (ROUND, "30 0 1 63 31", "1 1 1 0 0"),
+    (ROUND_TWICE, "31 30 2 31 2", "0 1 1 0 0"),
+    (ROUND_TWICE, "2 2 30 29 1 2", "0 1 1 1 0 0"),
     # max of "after 5, max of all: after 6, the outer variable; after 7, the inner one; after 5, ff"
     (ONE + SIX + SEVEN + "6 5 0 6 4 5 1 7 1 4 5 2 7 0 5 0 3", "5 5 7 5 6 5 5", "0 1 0 1 0 0 1"),
 ]
@@ -186,6 +208,8 @@ VIOLATIONS = [
     ("2", [], ["", "5"]),
     (ONE + "5 0 3", ["5", "5 6", "5 5"], ["", "6", "6 5"]),
     (ONE + SIX + "4 5 0 3 5 1 3", ["5", "6"], ["", "7 5"]),
+    (ROUND, ["31", "30", "0", "2", "0 5"], ["", "29", "3", "3 31", "32", "63"]),
+    (ROUND_TWICE, ["31 30", "2 2", "0 29"], ["31", "29 30", "31 31", "30 1", "2 62"]),
     (POOL, ["37 5", "37 128 37 5 9"], ["", "37", "5", "37 6 5", "37 128 5"]),
     (BRANCHES, ["5 6", "5 7"], ["5", "5 5 6", "6", "7"]),
     (REQUESTS, ["5 5", "5 5 101", "5 101 5 5"], ["", "5", "5 101 5", "5 101 101 5 5", "5 6 5 5", "101 5 5"]),

@@ -1,6 +1,6 @@
 """Answers of judging, and refusals of model files, typed by hand from the paper."""
 from known import ANY, ONE, POOL, bytes_of, counted
-from known_equations import BRANCHES, REQUESTS, SIX
+from known_equations import BRANCHES, REQUESTS, ROUND, ROUND_TWICE, SIX
 from known_runs import SECOND
 
 # The paper's model, which breaks the number-pool rule, and one that meets it.
@@ -21,6 +21,9 @@ JUDGED = [
     (POOL, ["16 5 17 0 37 1 17 1 128 2 17 2 38 3 17 3 37 4 17 4 5 0"], []),
     (POOL, ["16 4 17 0 38 1 17 1 37 2 17 2 5 3", "16 4 17 0 37 1 17 1 6 2 17 2 5 3"], []),
     (POOL, [], ["16 5 17 0 37 1 17 1 128 2 17 2 37 3 17 3 5 4", "16 2 17 0 37 1 17 1 128 0 17 1 5 1"]),
+    # slots that go round
+    (ROUND, ["16 1 17 0 29 0", "16 1 17 0 3 0", "16 1 17 0 63 0"], ["16 1 17 0 31 0", "16 1 17 0 30 0", "16 1 17 0 0 0"]),
+    (ROUND_TWICE, ["16 2 17 0 31 1 17 1 1 0", "16 1 17 0 31 0"], ["16 2 17 0 31 1 17 1 2 0", "16 1 17 0 30 0"]),
     # silent steps before the code, after it, and in a loop
     (NEVER, ["16 1 17 0 6 0", "16 2 17 0 6 1 17 1 5 0"], ["16 1 17 0 5 0"]),
     (NEVER, [], ["16 2 18 0 1 17 1 5 0", "16 3 18 0 1 18 1 2 17 2 5 2", "16 2 18 0 1 18 1 0 17 1 5 1"]),

@@ -1,7 +1,7 @@
 """Why scans are dropped, typed by hand: the lowest ff node, that the scan is kept, or the refusal.
 Nodes are counted from 0 in reading order, and patterns aren't."""
 from known import ANY, ONE, POOL, bytes_of, counted
-from known_equations import BRANCHES, OVERLAPPING, REQUESTS, SIX
+from known_equations import BRANCHES, OVERLAPPING, REQUESTS, ROUND, ROUND_TWICE, SIX
 from known_runs import SECOND
 
 CANCEL = "1 2 5 5 "
@@ -64,6 +64,10 @@ REASONS = [
     (OVERLAPPING + "4 5 0 5 1 3 5 1 3", "", {0: KEPT, 37: 5, 63: 5, 64: KEPT, 68: KEPT, 69: 5}),
     (OVERLAPPING + "4 5 0 5 1 3 5 1 3", "0", {36: KEPT, 37: 3, 63: 3, 69: 3, 95: 3, 96: KEPT}),
     (OVERLAPPING + "4 5 0 5 1 3 5 1 3", "10", {37: KEPT}),
+    # slots that go round: 31 and 2, not 29
+    (ROUND, "", {31: 1, 2: 1, 29: KEPT, 63: KEPT}),
+    (ROUND, "29", {31: KEPT, 0: KEPT}),
+    (ROUND_TWICE, "31", {2: 2, 29: 2, 31: KEPT, 1: KEPT}),
     # equal parts at two places, and a part that tt ends
     (ONE + "4 5 0 3 5 0 3", "", {5: 2}),
     (ONE + "4 5 0 2 5 0 3", "", {5: 4}),
@@ -114,7 +118,7 @@ REFUSED = [
     (ONE + "5 0 8", "5", "refused 2 at 6"),
     (POOL + " 2", "37 5", "refused 3 at 23"),
     (ANY + "5 0 " * 64 + "3", "0 " * 64, "refused 4 at 132"),
-    ("1 1 6 5 5 0 3", "5", "refused 5 at 0"),
+    ("1 1 32 5 5 0 3", "5", "refused 5 at 0"),
     (ONE + "4 5 0 3 5 1 3", "5", "refused 6 at 8"),
     (ONE + CANCEL + "6 4 5 0 3 5 1 6 4 5 0 3 7 0", "5", "refused 7 at 20"),
     ("3", "5", "refused 8 at 0"),

@@ -17,7 +17,7 @@ CODE_STEPS = [(0, 38, 1), (1, 128, 0)] * 256
 BOTH_STEPS = [(0, 38, 1), (1, SILENT, 0)] * 256
 
 # The files of the refused rules, by number; 4 stands for a 65th node. None is about the table.
-REFUSED_RULES = ["", "0", "2 2", ANY + "5 0 " * 64 + "2", "1 1 6 5 2", "7 0", "6 7 0", "3", counted(8)]
+REFUSED_RULES = ["", "0", "2 2", ANY + "5 0 " * 64 + "2", "1 1 6 32 2", "7 0", "6 7 0", "3", counted(8)]
 
 
 def head_files():

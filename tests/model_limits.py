@@ -106,7 +106,7 @@ def last_step_pairs():
 def code_pairs():
     """Every code that a pattern doesn't cover, and one that it does."""
     found = []
-    for mask, first, last in ((170, 3, 20), (128, 31, 31), (1, 0, 0), (127, 0, 31), (254, 0, 31)):
+    for mask, first, last in ((170, 3, 20), (128, 31, 31), (1, 0, 0), (127, 0, 31), (254, 0, 31), (85, 30, 2), (3, 31, 0)):
         rule = pattern(mask, first, last) + after(0) + FALSITY
         covered = sorted(read_rule(rule).patterns[0].codes())
         others = [(0, code, 63) for code in range(256) if code not in covered]

@@ -2,6 +2,7 @@
 from dataclasses import dataclass
 from functools import cache
 
+SLOTS = 32
 MOST_PATTERNS = 32
 MOST_NODES = 64
 
@@ -27,12 +28,23 @@ class Pattern:
     first: int
     last: int
 
+    def slots(self):
+        """The slots from first on until last, in a ring: 0 comes after the highest."""
+        slot = self.first
+        slots = {slot}
+        while slot != self.last:
+            slot = (slot + 1) % SLOTS
+            slots.add(slot)
+        return slots
+
     @cache
     def codes(self):
-        """The codes of every kind in the mask with every slot from first to last."""
+        """The codes of every kind in the mask with every slot."""
         kinds = [kind for kind in range(8) if self.mask & 2**kind]
-        slots = range(self.first, self.last + 1)
-        return frozenset(32 * kind + slot for kind in kinds for slot in slots)
+        return frozenset(SLOTS * kind + slot for kind in kinds for slot in self.slots())
+
+    def goes_round(self):
+        return self.first > self.last
 
     def lowest(self):
         return min(self.codes())
@@ -137,7 +149,7 @@ class Reader:
 
     def pattern(self, record):
         mask, first, last = record.body
-        if mask == 0 or first > 31 or last > 31 or first > last:
+        if mask == 0 or first >= SLOTS or last >= SLOTS:
             raise Refusal(5, record.place)
         return Pattern(mask, first, last)
 

@@ -27,13 +27,22 @@ LONGEST = FULL + after(31) * 64
 
 
 def telling_patterns():
-    """Patterns with every mask, and with every two slots in order."""
-    masks = [pattern(mask, mask % 7, mask % 7 + mask % 25) for mask in range(1, 256)]
-    slots = [pattern(1 << (first + last) % 8, first, last) for first in range(32) for last in range(first, 32)]
+    """Patterns with every mask, some of which go round, and with every two slots."""
+    masks = [pattern(mask, mask % 7, mask % 25) for mask in range(1, 256)]
+    slots = [pattern(1 << (first + last) % 8, first, last) for first in range(32) for last in range(32)]
     return masks + slots
 
 
+def round_pattern(random):
+    """A pattern that goes round: with two slots, with all 32, or with any number."""
+    first = random.choice([31, random.randrange(1, 32), random.randrange(1, 32)])
+    last = random.choice([0, first - 1, random.randrange(first)])
+    return pattern(random.randrange(1, 256), first, last)
+
+
 def random_pattern(random):
+    if random.randrange(5) < 2:
+        return round_pattern(random)
     first = random.choice([0, 31, random.randrange(32)])
     last = random.choice([first, 31, random.randrange(first, 32)])
     return pattern(random.randrange(1, 256), first, last)

@@ -12,7 +12,7 @@ from stream_plays import RATES, play_every_way, play_foreign, play_long, play_ne
 from stream_script import Script
 
 # One file for each refusal of a rule, but for the one that is about the table.
-REFUSED = ["", "0", "2 2", ANY + "5 0 " * 64 + "2", "1 1 6 5 2", "7 0", "6 7 0", "3", counted(8)]
+REFUSED = ["", "0", "2 2", ANY + "5 0 " * 64 + "2", "1 1 32 5 2", "7 0", "6 7 0", "3", counted(8)]
 
 # Counts of the tables of no rule.
 COUNTS = [1] * 8 + [2] * 8 + [3, 4, 5, 7, 8, 16, 31, 64, 127, 128, 128]

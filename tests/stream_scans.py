@@ -1,16 +1,25 @@
 """Scans for a rule, with many or few that are dropped, and ways to split them into calls."""
 from functools import cache
 
+from rules import SLOTS
 from sifting import Sifting, is_violated
+
+
+def ends(random, pattern):
+    """The codes at both edges of a pattern, and those beside them. One that goes round has its edges within a kind."""
+    covered = sorted(pattern.codes())
+    if not pattern.goes_round():
+        return {covered[0], covered[-1], (covered[0] - 1) % 256, (covered[-1] + 1) % 256}
+    kind = random.choice(covered) // SLOTS
+    slots = [pattern.first, pattern.last, pattern.first - 1, (pattern.last + 1) % SLOTS]
+    return {SLOTS * kind + slot for slot in slots}
 
 
 def candidates(random, rule):
     """Codes at the edges of the patterns and beside them, one inside each, and a few of any kind."""
     codes = {random.randrange(256) for _ in range(3)}
     for pattern in rule.patterns:
-        covered = sorted(pattern.codes())
-        codes |= {covered[0], covered[-1], random.choice(covered)}
-        codes |= {(covered[0] - 1) % 256, (covered[-1] + 1) % 256}
+        codes |= ends(random, pattern) | {random.choice(sorted(pattern.codes()))}
     return sorted(codes)
 
 

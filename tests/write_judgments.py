@@ -10,7 +10,7 @@ from collections import Counter
 import compare_models
 import model_cases
 import stream_cases
-from compare import expect
+from compare import check_round, expect
 from compare_models import BY_SILENCE
 from expected import digest, is_check, settle, three_bytes, told
 from judging import judge
@@ -42,17 +42,20 @@ def main():
     checks = is_check(__doc__)
     compared = compare_models.check(stream_cases.rule_files())
     cases = model_cases.cases()
-    lines, tally, latest = [], Counter(), 0
+    lines, judged, tally, latest = [], [], Counter(), 0
     for case, (size, rule, model) in enumerate(cases):
         table = fresh_table(size, case)
         answer = judge(rule, model, table)
         lines.append(f"{reading_of(model)} {answer} {digest(table)}")
         tally[answer.split(" at ")[0]] += 1
+        if answer in ("meets", "breaks"):
+            judged.append(rule)
         drop = compare_models.check_answer(rule, model, answer)
         if drop is not None:
             tally[BY_SILENCE] += compare_models.is_by_silence(rule, model)
             latest = max(latest, drop.place)
     expect(tally[BY_SILENCE] >= LEAST_BY_SILENCE, told(tally))
+    check_round(judged)
     settle("judgments", b"".join(input_of(*case) for case in cases), lines, checks)
     print(f"small models compared: {told(compared)}")
     print(f"{len(cases)} cases: {told(tally)}; the latest break is at pair {latest}")
