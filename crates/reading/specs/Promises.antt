@@ -87,11 +87,12 @@ pub record GoesRound (first last : ℕ) : Type 0 where
   pub to-last : (first + (slotWidth first last - 1)) % 32 ≡ last
   pub once : (0 < slotWidth first last) × (slotWidth first last ≤ 32)
 
--- Of a well-formed pattern: its lowest code is the least that it covers, by the trailing zeros of the mask and the lowest slot, which is 0 where the
--- pattern goes round; and its count is the ones of the mask times the slot width. (That the count is how many codes it covers is its definition.)
+-- Of a well-formed pattern: its lowest code is the least that it covers, and has slot 0 where the pattern goes round; the trailing zeros of the mask and
+-- the lowest slot give it, and the ones of the mask times the slot width give its count. (That the count is how many codes it covers is its definition.)
 pub record MeasuresPattern (p : Pattern) : Type 0 where
   pub covered : covers p (extentOf p .lowest) ≡ true
   pub least : (code : ℕ) → covers p code ≡ true → extentOf p .lowest ≤ code
+  pub round-lowest : p .last < p .first → slotOf (extentOf p .lowest) ≡ 0
   pub by-zeros : extentOf p .lowest ≡ trailingZeros 8 (p .mask) * 32 + lowestSlot (p .first) (p .last)
   pub by-ones : extentOf p .count ≡ ones (p .mask) * slotWidth (p .first) (p .last)
 

@@ -7,7 +7,7 @@ use native.Mathlib.Nat.{lt-of-not-le}
 use native.Mathlib.Decide.{decLe}
 use native.Mathlib.Omega.{arith}
 use lib.Count.{ones, trailingZeros}
-use borrow.Author.Tests.{eqb-true, eq-eqb}
+use borrow.Author.Tests.{eqb-true, eq-eqb, lt-leb}
 use Rattle.reading.specs.Pattern.{kindOf, slotOf, bit, named, covers, least, countBelow, lowestSlot, slotWidth, WellFormedPattern}
 use Rattle.reading.specs.Promises.{CoversMeans, MeasuresPattern}
 use Rattle.reading.specs.declared.Pattern.{Pattern}
@@ -70,6 +70,7 @@ module _ (p : Pattern) (ok : WellFormedPattern p) where
   measures-pattern = record {
     covered = least-holds 256 (covers p) (rw lowest-code lowest-fits);
     least = λ code h. not-below code h (decLe (least 256 (covers p)) code);
+    round-lowest = λ h. let slot : lowestSlot (p .first) (p .last) ≡ 0 = rw (lt-leb (p .first) (p .last) h) in omega (arith, lowest-code);
     by-zeros = lowest-code;
     by-ones = code-count;
   }
