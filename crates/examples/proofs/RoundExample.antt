@@ -21,7 +21,7 @@ use Rattle.synthesis.specs.Table.{entriesOf}
 use Rattle.synthesis.specs.Building.{equationsOf, tableLeft, Builds}
 use Rattle.running.specs.Running.{start, runFrom}
 use Rattle.listing.specs.Text.{decimalIn, decimal}
-use Rattle.enforcement.specs.Model.{Label, silent, code, Walk, stay, silent-first, code-first, Weak, Satisfies}
+use Rattle.enforcement.specs.Model.{Label, code, stay, code-first, Satisfies}
 use Rattle.models.specs.Phone.{StepIn, modelOf, statesOf, phoneOf}
 use Rattle.models.specs.declared.Judged.the-variants.{Meets, Breaks}
 use Rattle.enforcement.proofs.SatisfactionLaws.{satisfies-safe}

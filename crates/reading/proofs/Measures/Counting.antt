@@ -75,6 +75,12 @@ unfolding countBelow
 count-below-split a zero holds = rw (add-zero a) (omega arith)
 count-below-split a (suc m) holds = rw (add-suc a m) (omega (arith, count-below-split a m holds))
 
+-- three parts, one after the other
+pub count-below-parts :
+    (a b c : ℕ) (holds : ℕ → Bool)
+    → countBelow (a + b + c) holds ≡ countBelow a holds + countBelow b (λ i. holds (a + i)) + countBelow c (λ i. holds (a + b + i))
+count-below-parts a b c holds = omega (arith, count-below-split (a + b) c holds, count-below-split a b holds)
+
 -- tests that agree count the same
 pub count-below-same :
     (n : ℕ) (one other : ℕ → Bool) → ((i : ℕ) → i < n → one i ≡ other i) → countBelow n one ≡ countBelow n other

@@ -1,6 +1,6 @@
 -- The slots that first and last name. In order they are one run: misses, hits, misses. Round, they are hits, misses, hits. So the lowest is read off,
 -- and the count is that of the hits. It is done for any number n of slots in place of 32.
-use mathlib.Core.Path.{_≡_, refl}
+use mathlib.Core.Path.{_≡_}
 use mathlib.Core.Logic.{_↔_, _⊎_, inl, inr}
 use mathlib.Core.Bool.{Bool, true, false, cond, _||_, and-eq-true-iff, and-false, or-true}
 use Prim.Native.Nat.{ℕ, suc, _+_, _-_, _%_, _≤_, _<_}
@@ -11,7 +11,7 @@ use lib.Dec.{leb}
 use borrow.Author.Tests.{leb-true, le-leb, lt-leb}
 use Rattle.reading.specs.Pattern.{named, lowestSlot, slotWidth, least, countBelow}
 use Rattle.reading.specs.Promises.{Names, GoesRound}
-use Rattle.reading.proofs.Measures.Counting.{least-is, count-below-split, count-below-none, count-below-all}
+use Rattle.reading.proofs.Measures.Counting.{least-is, count-below-parts, count-below-none, count-below-all}
 
 -- ---- what they are
 
@@ -58,14 +58,14 @@ module _ (n first last : ℕ) (first-slot : first < n) (last-slot : last < n) wh
       let test = named first last in
       let whole : first + width + rest ≡ n = omega arith in
       let on : leb first last ≡ true = le-leb first last h in
-      let all = rw whole at (count-below-split (first + width) rest test) in
+      let all = rw whole at (count-below-parts first width rest test) in
       let misses = count-below-none first test (λ i l. rw (on, lt-leb first i l)) in
       let hits = count-below-all width (λ i. test (first + i))
       (λ i l. rw (on, le-leb first (first + i) (omega arith), le-leb (first + i) last (omega arith))) in
       let more = count-below-none rest (λ i. test (first + width + i))
       (λ i l. rw (on, lt-leb (first + width + i) last (omega arith)) (and-false (leb first (first + width + i)))) in (
         rw on (least-is n first test first-slot (rw (on, le-leb first first (omega arith))) (λ i l. rw (on, lt-leb first i l))),
-        rw on (omega (arith, all, count-below-split first width test, misses, hits, more)),
+        rw on (omega (arith, all, misses, hits, more)),
       )
 
   round : last < first → Measured
@@ -75,13 +75,13 @@ module _ (n first last : ℕ) (first-slot : first < n) (last-slot : last < n) wh
       let test = named first last in
       let whole : suc last + gap + rest ≡ n = omega arith in
       let off : leb first last ≡ false = lt-leb first last h in
-      let all = rw whole at (count-below-split (suc last + gap) rest test) in
+      let all = rw whole at (count-below-parts (suc last) gap rest test) in
       let hits = count-below-all (suc last) test (λ i l. rw (off, lt-leb first i (omega arith), le-leb i last (omega arith))) in
       let misses = count-below-none gap (λ i. test (suc last + i))
       (λ i l. rw (off, lt-leb first (suc last + i) (omega arith), lt-leb (suc last + i) last (omega arith))) in
       let more = count-below-all rest (λ i. test (suc last + gap + i)) (λ i l. rw (off, le-leb first (suc last + gap + i) (omega arith))) in (
         rw off (least-is n 0 test (omega arith) (rw (off, lt-leb first 0 (omega arith), le-leb 0 last (omega arith))) (λ i l. absurd (omega arith))),
-        rw off (omega (arith, all, count-below-split (suc last) gap test, hits, misses, more)),
+        rw off (omega (arith, all, hits, misses, more)),
       )
 
   pub named-extent : Measured
