@@ -14,8 +14,8 @@ static const uint8_t paper_rule[] = {
     5, 1, 5, 0, 5, 0, 5, 0, 5, 0, 5, 0, 5, 0, 5, 0, 2,
 };
 
-/* The hardest rule that a search at random found: 64 nodes, 127 equations of 9 to 46 members. All but one of its necessities are of any code, so that
-   most members of an equation count under each code. The slots of its other pattern go round. */
+/* The hardest rule that a search at random found, but that the slots of its second pattern go round: 64 nodes, 127 equations of 9 to 46 members. All but
+   one of its necessities are of any code, so that most members of an equation count under each code. */
 static const uint8_t hard_rule[] = {
     1, 255, 0, 31, 1, 174, 16, 12,
     6, 4, 5, 0, 7, 0,

@@ -19,7 +19,7 @@ def tiny_files():
 
 
 def pattern_files():
-    """Every mask, every two slots in order, and slots at the edges."""
+    """Every mask, every two slots, and slots at the edges."""
     good = telling_patterns()
     full = [b"".join(good[i : i + 32]) + TRUTH for i in range(0, len(good), 32)]
     edges = [0, 1, 5, 30, 31, 32, 33, 63, 128, 255]

@@ -6,7 +6,7 @@ from random import Random
 import known_equations
 import violation
 from equations import DROPPED_ENTRY, MOST_EQUATIONS, Equations, build, listing, rows_of, said
-from rules import Refusal, read_rule
+from rules import After, Refusal, numbered, read_rule
 
 # Violation goes down a formula once for each code of a list.
 sys.setrecursionlimit(10000)
@@ -21,11 +21,17 @@ def expect(is_right, *where):
         raise Disagreement(*where)
 
 
+def uses_round(rule):
+    """Whether a necessity of the rule has a pattern that goes round."""
+    used = {argument for kind, argument in numbered(rule.formula) if kind == After.kind}
+    return any(rule.patterns[number].goes_round() for number in used)
+
+
 def check_round(files):
-    """At least one in four of the rules that are read has a pattern that goes round."""
+    """At least one in four of the rules that are read has a necessity whose pattern goes round."""
     rules = [rule for rule in map(read_rule, files) if not isinstance(rule, Refusal)]
-    going = sum(any(pattern.goes_round() for pattern in rule.patterns) for rule in rules)
-    expect(4 * going >= len(rules), "patterns that go round", going, len(rules))
+    using = sum(uses_round(rule) for rule in rules)
+    expect(4 * using >= len(rules), "patterns that go round", using, len(rules))
 
 
 def ends_of_classes(equations):

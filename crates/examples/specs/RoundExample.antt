@@ -1,5 +1,5 @@
 -- Slots that go round. The rule is "after an issue of slots 30 to 2, ff"; the paper has no such rule. What a rule means, what is dropped under it and
--- which models meet it are all read with the same patterns, so each is shown here: at 31 and at 29, which differ only if the slots go round.
+-- which models meet it are all read with the same patterns, so each is shown here: at 31, which is one of these slots, and at 29, which isn't.
 use Prim.Native.Nat.{ℕ, suc, _≤_}
 use mathlib.Core.Path.{_≡_}
 use mathlib.Core.List.{List, [], _∷_, _++_}
