@@ -2,10 +2,10 @@
 use Rattle.reading.specs.Promises.{Promises}
 use Rattle.reading.proofs.Accepting.Accepted.{accepts-encodings, one-rule, answers-accepted}
 use Rattle.reading.proofs.Refusing.FaultsRefused.{refuses-at-the-fault, has-one-fault}
+use Rattle.reading.proofs.Refusing.PatternFaults.{refuses-pattern}
 use Rattle.reading.proofs.Numbering.NumberedLaws.{numbers-nodes, numbers-patterns}
 use Rattle.reading.proofs.Settling.Prefix.{settled-by-first-bytes, not-by-fewer}
-use Rattle.reading.proofs.Measures.NamedSlots.{goes-round}
-use Rattle.reading.proofs.Measures.Extents.{covers-means, measures-pattern}
+use Rattle.reading.proofs.Measures.Extents.{covers-means, goes-round, measures-pattern}
 
 pub promises : Promises
 promises = record {
@@ -14,6 +14,7 @@ promises = record {
   answers-accepted = answers-accepted;
   refuses-at-the-fault = refuses-at-the-fault;
   has-one-fault = has-one-fault;
+  refuses-pattern = refuses-pattern;
   numbers-nodes = numbers-nodes;
   numbers-patterns = numbers-patterns;
   settled-by-first-bytes = settled-by-first-bytes;

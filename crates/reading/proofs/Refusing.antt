@@ -9,3 +9,4 @@ pub mod FaultsFound
 pub mod ReachedPlaces
 pub mod OneFault
 pub mod FaultsRefused
+pub mod PatternFaults

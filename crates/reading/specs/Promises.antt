@@ -6,10 +6,10 @@ use mathlib.Core.Bool.{true}
 use mathlib.Core.List.{List, [], map}
 use lib.ListN.{length, getD, take}
 use lib.Count.{ones, trailingZeros}
-use Rattle.reading.specs.Pattern.{kindOf, slotOf, bit, named, covers, extentOf, lowestSlot, slotWidth, WellFormedPattern}
+use Rattle.reading.specs.Pattern.{codeOf, kindOf, slotOf, bit, covers, extentOf, lowestSlot, slotWidth, WellFormedPattern}
 use Rattle.reading.specs.Rule.{Formula, size, WellFormed, Rule, RuleWithinLimits, encode, Bytes}
 use Rattle.reading.specs.File.{accepted, refused, ruleOf}
-use Rattle.reading.specs.Faults.{Fault}
+use Rattle.reading.specs.Faults.{Fault, Unfinished, KindAt, IsPattern}
 use Rattle.reading.specs.Numbered.{kind, argument, numberOf, numbered, noPattern, noExtent, readingOf}
 use Rattle.reading.specs.Nodes.{EnclosingMax, Node, guardsAt, Resolves}
 use Rattle.reading.specs.declared.Pattern.{Pattern}
@@ -42,6 +42,13 @@ pub record OneFault (answer : FileRead) (Holds : (number place : ℕ) → Type 0
 
 abbrev pub HasOneFault : Type 0
 HasOneFault = (s : List ℕ) → Bytes s → OneFault (readingOf (ruleOf s) .answer) (Fault s)
+
+-- 5 in words: where a pattern may come next and a whole record of one stands, the file is refused with 5 there exactly where that record has no kind, or
+-- a slot over 31.
+abbrev pub RefusesPattern : Type 0
+RefusesPattern =
+    (s : List ℕ) → Bytes s → (at n : ℕ) → Unfinished s at n 0 → KindAt s at IsPattern → n < 32 → at + 4 ≤ length s
+    → (readingOf (ruleOf s) .answer ≡ Refused 5 at) ↔ ((getD s (at + 1) 0 ≡ 0) ⊎ ((31 < getD s (at + 2) 0) ⊎ (31 < getD s (at + 3) 0)))
 
 -- 2. The numbered nodes are those of the tree: each number below the size names one node, and the kind and the argument that stand at
 -- that number say its formula, its parts by their numbers, and the max of a variable. Each node is well formed where it stands.
@@ -81,11 +88,13 @@ abbrev pub CoversMeans : Type 0
 CoversMeans =
     (p : Pattern) (code : ℕ) → (covers p code ≡ true) ↔ ((bit (kindOf code) (p .mask) ≡ 1) × Names (p .first) (p .last) (slotOf code))
 
--- The same without the two cases, of slots in a ring, where 0 comes after 31: one counts up from first, and comes to last before any slot comes again.
-pub record GoesRound (first last : ℕ) : Type 0 where
-  pub counted : (slot : ℕ) → slot ≤ 31 → (named first last slot ≡ true) ↔ ((k : ℕ) × (k < slotWidth first last) × ((first + k) % 32 ≡ slot))
-  pub to-last : (first + (slotWidth first last - 1)) % 32 ≡ last
-  pub once : (0 < slotWidth first last) × (slotWidth first last ≤ 32)
+-- The same without the two cases, where both are slots, in a ring in which 0 comes after 31: one counts up from first, and comes to last before any
+-- slot comes again.
+pub record GoesRound (p : Pattern) : Type 0 where
+  pub counted : (kind slot : ℕ) → slot ≤ 31 → (covers p (codeOf kind slot) ≡ true)
+      ↔ ((bit kind (p .mask) ≡ 1) × (k : ℕ) × (k < slotWidth (p .first) (p .last)) × ((p .first + k) % 32 ≡ slot))
+  pub to-last : (p .first + (slotWidth (p .first) (p .last) - 1)) % 32 ≡ p .last
+  pub once : (0 < slotWidth (p .first) (p .last)) × (slotWidth (p .first) (p .last) ≤ 32)
 
 -- Of a well-formed pattern: its lowest code is the least that it covers, and has slot 0 where the pattern goes round; the trailing zeros of the mask and
 -- the lowest slot give it, and the ones of the mask times the slot width give its count. (That the count is how many codes it covers is its definition.)
@@ -105,10 +114,11 @@ pub record Promises : Type 0 where
   pub answers-accepted : AnswersAccepted
   pub refuses-at-the-fault : RefusesAtTheFault
   pub has-one-fault : HasOneFault
+  pub refuses-pattern : RefusesPattern
   pub numbers-nodes : (r : Rule) → NumbersNodes r
   pub numbers-patterns : (r : Rule) → NumbersPatterns r
   pub settled-by-first-bytes : SettledByFirstBytes
   pub not-by-fewer : NotByFewer
   pub covers-means : CoversMeans
-  pub goes-round : (first last : ℕ) → first ≤ 31 → last ≤ 31 → GoesRound first last
+  pub goes-round : (p : Pattern) → p .first ≤ 31 → p .last ≤ 31 → GoesRound p
   pub measures-pattern : (p : Pattern) → WellFormedPattern p → MeasuresPattern p

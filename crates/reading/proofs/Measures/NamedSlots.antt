@@ -10,7 +10,7 @@ use native.Mathlib.Omega.{arith}
 use lib.Dec.{leb}
 use borrow.Author.Tests.{leb-true, le-leb, lt-leb}
 use Rattle.reading.specs.Pattern.{named, lowestSlot, slotWidth, least, countBelow}
-use Rattle.reading.specs.Promises.{Names, GoesRound}
+use Rattle.reading.specs.Promises.{Names}
 use Rattle.reading.proofs.Measures.Counting.{least-is, count-below-parts, count-below-none, count-below-all}
 
 -- ---- what they are
@@ -117,19 +117,20 @@ module _ (first last : ℕ) (first-slot : first ≤ 31) (last-slot : last ≤ 31
       side k few is (yes f) = inl f
       side k few is (no f) = inr (omega (arith, lt-of-not-le f))
 
-  pub goes-round : GoesRound first last
-  goes-round = by (decLe first last)
-    where
-      counted : {width : ℕ} → slotWidth first last ≡ width → Counted width → (slot : ℕ) → slot ≤ 31
-          → (named first last slot ≡ true) ↔ ((k : ℕ) × (k < slotWidth first last) × ((first + k) % 32 ≡ slot))
-      counted e h slot s =
-          rw e (λ n. h slot s .0 (named-means first last slot .0 n), λ x. named-means first last slot .1 (h slot s .1 x))
+  -- The slots that are named are counted; the last of them is last, and there are at most 32.
+  pub record CountedUp : Type 0 where
+    pub counted : (slot : ℕ) → slot ≤ 31 → Names first last slot ↔ ((k : ℕ) × (k < slotWidth first last) × ((first + k) % 32 ≡ slot))
+    pub to-last : (first + (slotWidth first last - 1)) % 32 ≡ last
+    pub once : (0 < slotWidth first last) × (slotWidth first last ≤ 32)
 
-      by : Dec (first ≤ last) → GoesRound first last
+  pub counted-up : CountedUp
+  counted-up = by (decLe first last)
+    where
+      by : Dec (first ≤ last) → CountedUp
       by (yes o) =
           let width : slotWidth first last ≡ last - first + 1 = rw (le-leb first last o) in
-          record { counted = counted width (counted-in-order o); to-last = omega arith; once = (omega arith, omega arith) }
+          record { counted = rw width (counted-in-order o); to-last = omega arith; once = (omega arith, omega arith) }
       by (no o) =
           let over = lt-of-not-le o in
           let width : slotWidth first last ≡ 32 - first + last + 1 = rw (lt-leb first last over) in
-          record { counted = counted width (counted-round over); to-last = omega arith; once = (omega arith, omega arith) }
+          record { counted = rw width (counted-round over); to-last = omega arith; once = (omega arith, omega arith) }

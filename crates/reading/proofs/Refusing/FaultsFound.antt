@@ -25,7 +25,7 @@ use Rattle.reading.proofs.Refusing.Contexts.{guards, parts, done}
 use Rattle.reading.proofs.Refusing.LeftToRight.{dueAt, due-over, headAt}
 use Rattle.reading.proofs.Refusing.ReadTo.{ReadTo, Stands, read-front, read-rule, read-unfinished, next-node, next-pattern, pattern-well-formed}
 use Rattle.reading.proofs.Refusing.ReadTo.{node-allowed, node-bound, bound-begins}
-use Rattle.reading.proofs.Refusing.StandingRecords.{necessity-record-stands, variable-record-stands, pattern-record-stands}
+use Rattle.reading.proofs.Refusing.StandingRecords.{necessity-record-stands, variable-record-stands, patternOfBytes-stands}
 use Rattle.reading.proofs.Refusing.StandingRecords.{patternStands-record, nodeStands-record}
 
 -- ---- a node
@@ -139,15 +139,9 @@ module _ {s : List ℕ} {at n : ℕ} (h : ReadTo s at n 0 ([] ∷ [])) (b : Byte
   abbrev kind : KindAt s at IsPattern
   kind = (b .inside, b .is)
 
-  -- the pattern there, and that it isn't well formed
-  patternOfBytes-stands : at + 3 < length s → Stands s at (at + 4) (pattern (patternOfBytes s at))
-  patternOfBytes-stands whole =
-      pattern-record-stands s at (patternOfBytes s at) b (record { inside = omega arith; is = refl }) (record { inside = omega arith; is = refl })
-      (record { inside = whole; is = refl })
-
   unfit-fault : (few : n < 32) → at + 3 < length s → (WellFormedPattern (patternOfBytes s at) → ⊥) → Fault s 5 at
   unfit-fault few whole unfit =
-      bad-pattern (read-unfinished h) kind few (omega arith) (λ begins. unfit (pattern-well-formed h (patternOfBytes-stands whole) begins))
+      bad-pattern (read-unfinished h) kind few (omega arith) (λ begins. unfit (pattern-well-formed h (patternOfBytes-stands s at b whole) begins))
 
   pattern-fault : {number place : ℕ} → n < 32 → patternAt s at ≡ refused number place → Fault s number place
   pattern-fault few e =

@@ -9,6 +9,7 @@ use Rattle.reading.specs.File.{NodeRecord}
 use Rattle.reading.specs.Faults.{pattern, node}
 use Rattle.reading.specs.declared.Pattern.{Pattern}
 use Rattle.reading.proofs.Basics.Places.{Byte, from-byte, from-place}
+use Rattle.reading.proofs.Accepting.Checks.{patternOfBytes}
 use Rattle.reading.proofs.Accepting.NodeBytes.{NodeStands, bare, of-necessity, of-variable, bare-truth, bare-falsity, bare-both, bare-max}
 use Rattle.reading.proofs.Accepting.PatternBytes.{PatternStands, pattern-bytes}
 use Rattle.reading.proofs.Refusing.Contexts.{guards, Allows}
@@ -25,10 +26,16 @@ module _ (s : List ℕ) (at : ℕ) where
   pub variable-record-stands : Byte s at variableKind → at + 1 < length s → Stands s at (at + 2) (node (Variable (getD s (at + 1) 0)))
   variable-record-stands b h = record { bytes = with-body b h; ends = refl; inside = omega arith }
 
-  pub pattern-record-stands : (p : Pattern) → Byte s at patternKind → Byte s (at + 1) (p .mask) → Byte s (at + 2) (p .first) → Byte s (at + 3) (p .last)
+  pattern-record-stands : (p : Pattern) → Byte s at patternKind → Byte s (at + 1) (p .mask) → Byte s (at + 2) (p .first) → Byte s (at + 3) (p .last)
       → Stands s at (at + 4) (pattern p)
   pattern-record-stands p b mask first last =
       record { bytes = pattern-bytes s at p b mask first last; ends = refl; inside = omega (arith, last .inside) }
+
+  -- the pattern of the bytes there, well formed or not
+  pub patternOfBytes-stands : Byte s at patternKind → at + 3 < length s → Stands s at (at + 4) (pattern (patternOfBytes s at))
+  patternOfBytes-stands b whole =
+      pattern-record-stands (patternOfBytes s at) b (record { inside = omega arith; is = refl }) (record { inside = omega arith; is = refl })
+      (record { inside = whole; is = refl })
 
   pub patternStands-record : {p : Pattern} → Byte s at patternKind → PatternStands s at p → Stands s at (at + 4) (pattern p)
   patternStands-record {p} b h = pattern-record-stands p b (h .mask) (h .first) (h .last)
