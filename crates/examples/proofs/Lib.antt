@@ -15,6 +15,7 @@ pub mod DrawnModel
 pub mod Shortening
 pub mod Distinctions
 pub mod PoolModels
+pub mod PatternMeaning
 pub mod RoundExample
 pub mod FullModel
 pub mod RefusalExamples

@@ -27,7 +27,7 @@ unfolding ruleOf recordsAt formulaOf formulaAt unsatisfiable equationsOf found e
 either-file = reads eitherFile eitherRule refl refl (10 ∷ 0 ∷ []) refl (omega arith)
 
 -- of a file that is counted, by its rule
-by-rule : {s : List ℕ} {n : ℕ} (r : _) → ReadAs s r (Equations n) → (w : List ℕ) (c : ℕ) → reason s w c ≡ reasonOf (openedAfter r w c)
+pub by-rule : {s : List ℕ} {n : ℕ} (r : _) → ReadAs s r (Equations n) → (w : List ℕ) (c : ℕ) → reason s w c ≡ reasonOf (openedAfter r w c)
 by-rule {s} {n} r file w c = ap reasonOf (counted-explanation 128 s r n (file .reading) (file .answers .counting) w c)
 
 met-first : ViolatesAt twoPlacesRule 0 (37 ∷ 5 ∷ []) 7

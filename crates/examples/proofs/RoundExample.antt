@@ -1,7 +1,6 @@
--- The rule whose slots go round: its equations, its lines and the verdicts are computed. The phone that scans 31 breaks it by one step, and the one that
--- scans 29 does nothing else.
-use Prim.Native.Nat.{ℕ, suc, _≤_}
-use mathlib.Core.Path.{_≡_, refl, sym, _∙_, ap}
+-- The rule whose slots go round: its equations, its lines, the verdicts and the reasons are computed. Which phones meet it follows from what its pattern means.
+use Prim.Native.Nat.{ℕ, suc, _≤_, _<_}
+use mathlib.Core.Path.{_≡_, refl, sym, ap}
 use mathlib.Core.Logic.{_⊎_, inl, inr}
 use mathlib.Core.Bool.{true, false, true≢false}
 use mathlib.Core.List.{List, [], _∷_}
@@ -14,26 +13,27 @@ use Rattle.reading.specs.Pattern.{slotOf, bit, named, covers, least, countBelow
 use Rattle.reading.specs.File.{accepted, recordsAt, formulaAt, formulaOf, ruleOf}
 use Rattle.reading.specs.declared.Pattern.{Pattern}
 use Rattle.reading.proofs.Measures.NamedSlots.{named-means}
-use Rattle.synthesis.specs.Violation.{coveredBy, ViolatesRule, by-falsity, by-code}
+use Rattle.synthesis.specs.Violation.{ViolatesRule, by-falsity, by-code}
 use Rattle.synthesis.specs.Answering.{firstOf, answerOf, unsatisfiable}
 use Rattle.synthesis.specs.Search.{explored, found}
+use Rattle.synthesis.specs.Reason.{openedFalsities}
 use Rattle.synthesis.specs.Table.{entriesOf}
 use Rattle.synthesis.specs.Building.{equationsOf, tableLeft, Builds}
 use Rattle.running.specs.Running.{start, runFrom}
 use Rattle.listing.specs.Text.{decimalIn, decimal}
-use Rattle.enforcement.specs.Model.{Label, code, stay, code-first, Satisfies}
-use Rattle.models.specs.Phone.{StepIn, modelOf, statesOf, phoneOf}
-use Rattle.models.specs.declared.Judged.the-variants.{Meets, Breaks}
-use Rattle.enforcement.proofs.SatisfactionLaws.{satisfies-safe}
+use Rattle.enforcement.specs.Model.{Satisfies}
+use Rattle.models.specs.Phone.{modelOf, statesOf, phoneOf}
 use Rattle.examples.specs.Examples.{pattern}
 use Rattle.examples.specs.NumberingExamples.{Numbers}
 use Rattle.examples.specs.RoundExample.{RoundPatterns, roundFile, roundRule, roundSets, roundListing, roundScans, roundRun}
-use Rattle.examples.specs.RoundExample.{repeatingFile, repeatingPhone, JudgedRound, RoundExample}
+use Rattle.examples.specs.RoundExample.{repeatingFile, RoundExample}
+use Rattle.examples.specs.PatternMeaning.{repeatingPhone}
 use Rattle.examples.proofs.FileAnswers.{row-left, reads-builds}
 use Rattle.examples.proofs.Listed.{numbers}
 use Rattle.examples.proofs.RunAnswers.{run-left}
 use Rattle.examples.proofs.ModelAnswers.{judges-met, judges-broken}
-use Rattle.examples.proofs.PhoneSteps.{step-at, every-step}
+use Rattle.examples.proofs.PatternMeaning.{pattern-meaning}
+use Rattle.examples.proofs.ReasonExamples.{by-rule}
 
 -- ---- patterns
 
@@ -87,9 +87,13 @@ round-run table room =
     let row = row-left roundFile roundRule round-read round-satisfiable roundSets round-equations (omega arith) table room in
     rw (row 0 (omega arith), row 1 (omega arith))
 
-violating : ViolatesRule roundRule (31 ∷ [])
+violating-31 : ViolatesRule roundRule (31 ∷ [])
 unfolding bit covers
-violating = by-code refl by-falsity
+violating-31 = by-code refl by-falsity
+
+violating-2 : ViolatesRule roundRule (2 ∷ [])
+unfolding bit covers
+violating-2 = by-code refl by-falsity
 
 not-violating : ViolatesRule roundRule (29 ∷ []) → ⊥
 unfolding bit covers
@@ -97,42 +101,34 @@ not-violating (by-code q x) = true≢false (sym q)
 
 -- ---- models
 
-unsatisfied : Satisfies (modelOf (repeatingPhone 31)) roundRule → ⊥
-unsatisfied sat =
-    satisfies-safe (modelOf (repeatingPhone 31)) roundRule .0 sat (31 ∷ []) 0
-    (code-first (step-at (repeatingPhone 31 .steps) 0 (omega arith)) stay) violating
+-- a phone that scans a code which violates the rule by itself, and one whose code doesn't
+unsatisfied : (c : ℕ) → c < 256 → ViolatesRule roundRule (c ∷ []) → Satisfies (modelOf (repeatingPhone c)) roundRule → ⊥
+unsatisfied c byte h sat = let means = pattern-meaning (pattern 1 30 2) in means .satisfies c byte .0 sat (means .violates c .0 h)
 
--- the only step of the other
-data OnlyStep : ℕ → Label → ℕ → Type 0 where
-  scans : OnlyStep 0 (code 29) 0
-
-only-step : {s t : ℕ} {a : Label} → StepIn (repeatingPhone 29 .steps) s a t → OnlyStep s a t
-only-step = every-step OnlyStep (repeatingPhone 29 .steps) (scans, tt)
-
-not-covered : {s c t : ℕ} → OnlyStep s (code c) t → coveredBy (roundRule .patterns) 0 c ≡ false
-unfolding bit covers
-not-covered scans = refl
-
-satisfied : Satisfies (modelOf (repeatingPhone 29)) roundRule
-satisfied c t q x = absurd (true≢false (sym q ∙ not-covered (only-step (x .step))))
-
-judged-broken : JudgedRound 31 Breaks
-unfolding phoneOf statesOf recordsAt
-judged-broken = record { file = refl; judged = judges-broken round-builds (repeatingFile 31) (repeatingPhone 31) refl unsatisfied }
-
-judged-met : JudgedRound 29 Meets
-unfolding phoneOf statesOf recordsAt
-judged-met = record { file = refl; judged = judges-met round-builds (repeatingFile 29) (repeatingPhone 29) refl satisfied }
+satisfied : (c : ℕ) → c < 256 → (ViolatesRule roundRule (c ∷ []) → ⊥) → Satisfies (modelOf (repeatingPhone c)) roundRule
+satisfied c byte h = let means = pattern-meaning (pattern 1 30 2) in means .satisfies c byte .1 (λ k. h (means .violates c .1 k))
 
 pub round-example : RoundExample
-round-example = record {
-  patterns = round-patterns;
-  numbers = round-numbers;
-  violating = violating;
-  not-violating = not-violating;
-  run = λ table room. run-left (round-builds table room) roundScans roundRun (round-run table room);
-  unsatisfied = unsatisfied;
-  breaks = judged-broken;
-  satisfied = satisfied;
-  meets = judged-met;
-}
+unfolding openedFalsities firstOf answerOf bit covers least phoneOf statesOf recordsAt
+round-example =
+    let file = round-numbers .file in
+    let at-31 = unsatisfied 31 (omega arith) violating-31 in
+    let at-2 = unsatisfied 2 (omega arith) violating-2 in
+    let at-29 = satisfied 29 (omega arith) not-violating in
+    record {
+      patterns = round-patterns;
+      numbers = round-numbers;
+      violating-31 = violating-31;
+      violating-2 = violating-2;
+      not-violating = not-violating;
+      run = λ table room. run-left (round-builds table room) roundScans roundRun (round-run table room);
+      dropped-31 = by-rule roundRule file [] 31;
+      dropped-2 = by-rule roundRule file [] 2;
+      kept-29 = by-rule roundRule file [] 29;
+      unsatisfied-31 = at-31;
+      unsatisfied-2 = at-2;
+      breaks-31 = record { file = refl; judged = judges-broken round-builds (repeatingFile 31) (repeatingPhone 31) refl at-31 };
+      breaks-2 = record { file = refl; judged = judges-broken round-builds (repeatingFile 2) (repeatingPhone 2) refl at-2 };
+      satisfied = at-29;
+      meets = record { file = refl; judged = judges-met round-builds (repeatingFile 29) (repeatingPhone 29) refl at-29 };
+    }

@@ -5,5 +5,6 @@ pub mod NodeExamples
 pub mod OverlapExample
 pub mod ReasonExamples
 pub mod ModelExamples
+pub mod PatternMeaning
 pub mod RoundExample
 pub mod RefusalExamples

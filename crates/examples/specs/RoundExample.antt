@@ -1,23 +1,26 @@
--- Slots that go round. The rule is "after an issue of slots 30 to 2, ff"; the paper has no such rule. What a rule means, what is dropped under it and
--- which models meet it are all read with the same patterns, so each is shown here: at 31, which is one of these slots, and at 29, which isn't.
+-- Slots that go round, by the rule "after an issue of slots 30 to 2, ff". The paper has no such rule. What it means, what is dropped under it, for what
+-- reason, and which models meet it, at 31 and at 2, which are slots of both of its ends, and at 29, which is none.
 use Prim.Native.Nat.{ℕ, suc, _≤_}
 use mathlib.Core.Path.{_≡_}
 use mathlib.Core.List.{List, [], _∷_, _++_}
 use lib.ListN.{length}
 use Rattle.reading.specs.Pattern.{covers, extentOf}
-use Rattle.reading.specs.Rule.{falsity, necessity, Rule}
+use Rattle.reading.specs.Rule.{Rule}
 use Rattle.reading.specs.File.{accepted}
 use Rattle.synthesis.specs.Violation.{ViolatesRule}
 use Rattle.synthesis.specs.Building.{tableLeft}
+use Rattle.synthesis.specs.declared.Reason.the-variants.{Kept, Node}
 use Rattle.running.specs.Running.{start, moved, Run, runOf}
 use Rattle.listing.specs.Text.{text}
 use Rattle.enforcement.specs.Model.{Satisfies}
-use Rattle.models.specs.Phone.{Phone, modelOf, phoneOf}
+use Rattle.models.specs.Phone.{modelOf, phoneOf}
 use Rattle.models.specs.declared.Judged.{Judged}
 use Rattle.models.specs.declared.Judged.the-variants.{Meets, Breaks}
-use Rattle.examples.specs.Examples.{pattern, extent, rule}
+use Rattle.examples.specs.Examples.{pattern, extent}
 use Rattle.examples.specs.NumberingExamples.{Numbers}
-use Rattle.examples.specs.ModelExamples.{step, Judges}
+use Rattle.examples.specs.PatternMeaning.{never, repeatingPhone}
+use Rattle.examples.specs.ReasonExamples.{reason}
+use Rattle.examples.specs.ModelExamples.{Judges}
 
 -- ---- patterns
 
@@ -38,7 +41,7 @@ abbrev pub roundFile : List ℕ
 roundFile = 1 ∷ 1 ∷ 30 ∷ 2 ∷ 5 ∷ 0 ∷ 3 ∷ []
 
 abbrev pub roundRule : Rule
-roundRule = rule (pattern 1 30 2 ∷ []) (necessity 0 falsity)
+roundRule = never (pattern 1 30 2)
 
 -- {0} and the empty set
 abbrev pub roundSets : List ℕ
@@ -64,12 +67,9 @@ roundRun = record { state = moved start 1; kept = 29 ∷ 0 ∷ []; verdicts = 1 
 
 -- ---- models
 
--- a phone of one state that scans a code again and again, and its file
+-- the file of a phone that scans a code again and again
 abbrev pub repeatingFile : (code : ℕ) → List ℕ
 repeatingFile c = 16 ∷ 1 ∷ 17 ∷ 0 ∷ c ∷ 0 ∷ []
-
-abbrev pub repeatingPhone : (code : ℕ) → Phone
-repeatingPhone c = record { states = 1; steps = step 0 c 0 ∷ [] }
 
 -- judging has one answer to it under the rule
 pub record JudgedRound (code : ℕ) (answer : Judged) : Type 0 where
@@ -79,11 +79,18 @@ pub record JudgedRound (code : ℕ) (answer : Judged) : Type 0 where
 pub record RoundExample : Type 1 where
   pub patterns : RoundPatterns
   pub numbers : Numbers roundFile roundRule roundSets roundListing
-  pub violating : ViolatesRule roundRule (31 ∷ [])
+  pub violating-31 : ViolatesRule roundRule (31 ∷ [])
+  pub violating-2 : ViolatesRule roundRule (2 ∷ [])
   pub not-violating : ViolatesRule roundRule (29 ∷ []) → ⊥
   pub run : (table : List ℕ) → 32768 ≤ length table → (output verdicts : ℕ) → 4 ≤ output → 4 ≤ verdicts
       → runOf 128 255 (tableLeft 128 255 roundFile table) 2 start roundScans output verdicts ≡ accepted roundRun
-  pub unsatisfied : Satisfies (modelOf (repeatingPhone 31)) roundRule → ⊥
-  pub breaks : JudgedRound 31 Breaks
+  -- node 1 is the ff
+  pub dropped-31 : reason roundFile [] 31 ≡ Node 1
+  pub dropped-2 : reason roundFile [] 2 ≡ Node 1
+  pub kept-29 : reason roundFile [] 29 ≡ Kept
+  pub unsatisfied-31 : Satisfies (modelOf (repeatingPhone 31)) roundRule → ⊥
+  pub unsatisfied-2 : Satisfies (modelOf (repeatingPhone 2)) roundRule → ⊥
+  pub breaks-31 : JudgedRound 31 Breaks
+  pub breaks-2 : JudgedRound 2 Breaks
   pub satisfied : Satisfies (modelOf (repeatingPhone 29)) roundRule
   pub meets : JudgedRound 29 Meets

@@ -12,7 +12,7 @@ use borrow.Author.Tests.{ltb-true, ltb-false, leb-true, leb-false, eqb-true, eqb
 use Rattle.reading.specs.Pattern.{WellFormedPattern}
 use Rattle.reading.specs.Rule.{Guards, Bytes, patternKind, necessityKind, variableKind}
 use Rattle.reading.specs.File.{refused, andThen, patternAt, isPattern, necessityAt, variableAt, nodeAt}
-use Rattle.reading.specs.Faults.{pattern, Unfinished, KindAt, IsPattern, HasBody, NoKind, Fault, file-ended, pattern-cut, node-cut, no-kind, after-rule}
+use Rattle.reading.specs.Faults.{Unfinished, KindAt, IsPattern, HasBody, NoKind, Fault, file-ended, pattern-cut, node-cut, no-kind, after-rule}
 use Rattle.reading.specs.Faults.{late-pattern, pattern-33, node-65, bad-pattern, names-nothing, unguarded}
 use Rattle.reading.proofs.Basics.ByteLaws.{byte-at}
 use Rattle.reading.proofs.Basics.Outcomes.{or-eq-false, refuse-refused, never-refused, andThen-refused}
@@ -23,7 +23,7 @@ use Rattle.reading.proofs.Accepting.NodeBytes.{node-kind, ofKind, node-
 use Rattle.reading.proofs.Accepting.PatternBytes.{pattern-stands, pattern-kind}
 use Rattle.reading.proofs.Refusing.Contexts.{guards, parts, done}
 use Rattle.reading.proofs.Refusing.LeftToRight.{dueAt, due-over, headAt}
-use Rattle.reading.proofs.Refusing.ReadTo.{ReadTo, Stands, read-front, read-rule, read-unfinished, next-node, next-pattern, pattern-well-formed}
+use Rattle.reading.proofs.Refusing.ReadTo.{ReadTo, read-front, read-rule, read-unfinished, next-node, next-pattern, pattern-well-formed}
 use Rattle.reading.proofs.Refusing.ReadTo.{node-allowed, node-bound, bound-begins}
 use Rattle.reading.proofs.Refusing.StandingRecords.{necessity-record-stands, variable-record-stands, patternOfBytes-stands}
 use Rattle.reading.proofs.Refusing.StandingRecords.{patternStands-record, nodeStands-record}
