@@ -1,15 +1,17 @@
 -- A code by itself violates the rule exactly where the pattern covers it, and `covers-means` says that in words. What is dropped first is what violates the
 -- rule by itself; a phone whose only step scans the code satisfies the rule exactly where that step doesn't count.
 use Prim.Native.Nat.{ℕ, _<_}
-use mathlib.Core.Path.{_≡_, refl, sym, _∙_}
+use mathlib.Core.Path.{_≡_}
 use mathlib.Core.Logic.{_↔_}
+use mathlib.Core.Bool.{true}
 use mathlib.Core.List.{List, [], _∷_}
 use native.Mathlib.Omega.{arith}
 use lib.ListN.{length, getD}
 use borrow.Author.Tests.{ne-eqb}
+use Rattle.reading.specs.Numbered.{noPattern}
 use Rattle.reading.specs.declared.Pattern.{Pattern}
 use Rattle.reading.proofs.Measures.Extents.{covers-means}
-use Rattle.synthesis.specs.Violation.{ViolatesRule, by-falsity, by-code}
+use Rattle.synthesis.specs.Violation.{coveredBy, ViolatesRule, by-falsity, by-code}
 use Rattle.synthesis.specs.Building.{Builds}
 use Rattle.running.specs.Calls.{History, Calls, OnTableOrRefused, withVerdict}
 use Rattle.running.proofs.DemandTwo.{drops-exactly}
@@ -18,21 +20,24 @@ use Rattle.models.specs.Phone.{labelOf, StepIn, modelOf}
 use Rattle.examples.specs.PatternMeaning.{never, Covered, repeatingPhone, PatternMeaning}
 use Rattle.examples.proofs.PhoneSteps.{step-at, every-step}
 
-module _ (p : Pattern) where
-  violates : (c : ℕ) → ViolatesRule (never p) (c ∷ []) ↔ Covered p c
-  violates c = (forth, λ h. by-code (covers-means p c .1 h) by-falsity)
-    where
-      forth : ViolatesRule (never p) (c ∷ []) → Covered p c
-      forth (by-code q x) = covers-means p c .0 q
+module _ (ps : List Pattern) (i : ℕ) where
+  means : (c : ℕ) → (coveredBy ps i c ≡ true) ↔ Covered ps i c
+  means = covers-means (getD ps i noPattern)
 
-  drops : (s table : List ℕ) (n : ℕ) (left : List ℕ) → Builds 128 255 s table (never p) n left
+  violates : (c : ℕ) → ViolatesRule (never ps i) (c ∷ []) ↔ Covered ps i c
+  violates c = (forth, λ h. by-code (means c .1 h) by-falsity)
+    where
+      forth : ViolatesRule (never ps i) (c ∷ []) → Covered ps i c
+      forth (by-code q x) = means c .0 q
+
+  drops : (s table : List ℕ) (n : ℕ) (left : List ℕ) → Builds 128 255 s table (never ps i) n left
       → (h : History) → Calls 128 255 (OnTableOrRefused 128 255 left n) h → 0 < length (h .scans)
-      → (getD (h .verdicts) 0 0 ≡ 1) ↔ Covered p (getD (h .scans) 0 0)
+      → (getD (h .verdicts) 0 0 ≡ 1) ↔ Covered ps i (getD (h .scans) 0 0)
   unfolding withVerdict
   drops s table n left b h calls some =
-      let first = drops-exactly 128 255 s table (never p) n left b h calls .drops 0 some in
-      let means = violates (getD (h .scans) 0 0) in
-      (λ e. means .0 (first .0 e), λ c. first .1 (means .1 c))
+      let first = drops-exactly 128 255 s table (never ps i) n left b h calls .drops 0 some in
+      let alone = violates (getD (h .scans) 0 0) in
+      (λ e. alone .0 (first .0 e), λ c. first .1 (alone .1 c))
 
   -- ---- a phone that scans a code
 
@@ -43,11 +48,11 @@ module _ (p : Pattern) where
     only-step : {s t : ℕ} {a : Label} → StepIn (repeatingPhone c .steps) s a t → a ≡ code c
     only-step = every-step (λ s a t. a ≡ code c) (repeatingPhone c .steps) (is-code, tt)
 
-    satisfies : Satisfies (modelOf (repeatingPhone c)) (never p) ↔ (Covered p c → ⊥)
-    satisfies = (broken, λ uncovered c′ t q x. let e = only-step (x .step) in let same : c′ ≡ c = cc in absurd (uncovered (covers-means p c .0 (rw same at q))))
+    satisfies : Satisfies (modelOf (repeatingPhone c)) (never ps i) ↔ (Covered ps i c → ⊥)
+    satisfies = (broken, λ uncovered c′ t q x. let e = only-step (x .step) in let same : c′ ≡ c = cc in absurd (uncovered (means c .0 (rw same at q))))
       where
-        broken : Satisfies (modelOf (repeatingPhone c)) (never p) → Covered p c → ⊥
-        broken sat h = sat c 0 (covers-means p c .1 h) (record {
+        broken : Satisfies (modelOf (repeatingPhone c)) (never ps i) → Covered ps i c → ⊥
+        broken sat h = sat c 0 (means c .1 h) (record {
           before = 0;
           after = 0;
           silent-before = stay;
@@ -55,5 +60,5 @@ module _ (p : Pattern) where
           silent-after = stay;
         }) .lower
 
-pub pattern-meaning : (p : Pattern) → PatternMeaning p
-pattern-meaning p = record { violates = violates p; drops = drops p; satisfies = satisfies p }
+pub pattern-meaning : (ps : List Pattern) (i : ℕ) → PatternMeaning ps i
+pattern-meaning ps i = record { violates = violates ps i; drops = drops ps i; satisfies = satisfies ps i }

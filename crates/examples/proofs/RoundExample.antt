@@ -103,10 +103,10 @@ not-violating (by-code q x) = true≢false (sym q)
 
 -- a phone that scans a code which violates the rule by itself, and one whose code doesn't
 unsatisfied : (c : ℕ) → c < 256 → ViolatesRule roundRule (c ∷ []) → Satisfies (modelOf (repeatingPhone c)) roundRule → ⊥
-unsatisfied c byte h sat = let means = pattern-meaning (pattern 1 30 2) in means .satisfies c byte .0 sat (means .violates c .0 h)
+unsatisfied c byte h sat = let means = pattern-meaning (pattern 1 30 2 ∷ []) 0 in means .satisfies c byte .0 sat (means .violates c .0 h)
 
 satisfied : (c : ℕ) → c < 256 → (ViolatesRule roundRule (c ∷ []) → ⊥) → Satisfies (modelOf (repeatingPhone c)) roundRule
-satisfied c byte h = let means = pattern-meaning (pattern 1 30 2) in means .satisfies c byte .1 (λ k. h (means .violates c .1 k))
+satisfied c byte h = let means = pattern-meaning (pattern 1 30 2 ∷ []) 0 in means .satisfies c byte .1 (λ k. h (means .violates c .1 k))
 
 pub round-example : RoundExample
 unfolding openedFalsities firstOf answerOf bit covers least phoneOf statesOf recordsAt

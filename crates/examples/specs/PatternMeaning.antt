@@ -1,5 +1,6 @@
--- What a pattern means above the reader, for every pattern: the rule "after a code of the pattern, ff" is violated, drops and is broken by exactly the codes
--- that the pattern covers, in words of kinds and slots. So what a rule means, what is dropped and which models meet it are read with the same patterns.
+-- What a pattern means above the reader, for every pattern of every list: the rule "after a code of the pattern, ff" is violated, drops and is broken by
+-- exactly the codes that the pattern covers, in words of kinds and slots. So what a rule means, what is dropped and which models meet it are read with the
+-- same patterns.
 use Prim.Native.Nat.{ℕ, _<_}
 use mathlib.Core.Path.{_≡_}
 use mathlib.Core.Logic.{_↔_}
@@ -7,6 +8,7 @@ use mathlib.Core.List.{List, [], _∷_}
 use lib.ListN.{length, getD}
 use Rattle.reading.specs.Pattern.{kindOf, slotOf, bit}
 use Rattle.reading.specs.Rule.{falsity, necessity, Rule}
+use Rattle.reading.specs.Numbered.{noPattern}
 use Rattle.reading.specs.Promises.{Names}
 use Rattle.reading.specs.declared.Pattern.{Pattern}
 use Rattle.synthesis.specs.Violation.{ViolatesRule}
@@ -17,24 +19,24 @@ use Rattle.models.specs.Phone.{Phone, modelOf}
 use Rattle.examples.specs.Examples.{rule}
 use Rattle.examples.specs.ModelExamples.{step}
 
--- "after a code of the pattern, ff"
-abbrev pub never : Pattern → Rule
-never p = rule (p ∷ []) (necessity 0 falsity)
+-- "after a code of pattern i, ff"
+abbrev pub never : List Pattern → (i : ℕ) → Rule
+never ps i = rule ps (necessity i falsity)
 
--- the code is of a kind in the mask, with a slot that first and last name
-abbrev pub Covered : Pattern → (code : ℕ) → Type 0
-Covered p c = (bit (kindOf c) (p .mask) ≡ 1) × Names (p .first) (p .last) (slotOf c)
+-- the code is of a kind in the mask of pattern i, with a slot that its first and last name
+abbrev pub Covered : List Pattern → (i code : ℕ) → Type 0
+Covered ps i c = let p = getD ps i noPattern in (bit (kindOf c) (p .mask) ≡ 1) × Names (p .first) (p .last) (slotOf c)
 
 -- a phone of one state that scans a code again and again
 abbrev pub repeatingPhone : (code : ℕ) → Phone
 repeatingPhone c = record { states = 1; steps = step 0 c 0 ∷ [] }
 
-pub record PatternMeaning (p : Pattern) : Type 1 where
+pub record PatternMeaning (ps : List Pattern) (i : ℕ) : Type 1 where
   -- a code by itself violates the rule
-  pub violates : (c : ℕ) → ViolatesRule (never p) (c ∷ []) ↔ Covered p c
+  pub violates : (c : ℕ) → ViolatesRule (never ps i) (c ∷ []) ↔ Covered ps i c
   -- the first scan of a run is dropped
-  pub drops : (s table : List ℕ) (n : ℕ) (left : List ℕ) → Builds 128 255 s table (never p) n left
+  pub drops : (s table : List ℕ) (n : ℕ) (left : List ℕ) → Builds 128 255 s table (never ps i) n left
       → (h : History) → Calls 128 255 (OnTableOrRefused 128 255 left n) h → 0 < length (h .scans)
-      → (getD (h .verdicts) 0 0 ≡ 1) ↔ Covered p (getD (h .scans) 0 0)
+      → (getD (h .verdicts) 0 0 ≡ 1) ↔ Covered ps i (getD (h .scans) 0 0)
   -- a phone that scans the code meets the rule
-  pub satisfies : (c : ℕ) → c < 256 → Satisfies (modelOf (repeatingPhone c)) (never p) ↔ (Covered p c → ⊥)
+  pub satisfies : (c : ℕ) → c < 256 → Satisfies (modelOf (repeatingPhone c)) (never ps i) ↔ (Covered ps i c → ⊥)

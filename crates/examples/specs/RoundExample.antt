@@ -41,7 +41,7 @@ abbrev pub roundFile : List ℕ
 roundFile = 1 ∷ 1 ∷ 30 ∷ 2 ∷ 5 ∷ 0 ∷ 3 ∷ []
 
 abbrev pub roundRule : Rule
-roundRule = never (pattern 1 30 2)
+roundRule = never (pattern 1 30 2 ∷ []) 0
 
 -- {0} and the empty set
 abbrev pub roundSets : List ℕ
