@@ -19,3 +19,4 @@ pub mod PatternMeaning
 pub mod RoundExample
 pub mod FullModel
 pub mod RefusalExamples
+pub mod Promises

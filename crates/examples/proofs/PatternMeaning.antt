@@ -17,22 +17,22 @@ use Rattle.running.specs.Calls.{History, Calls, OnTableOrRefused, withVerdict}
 use Rattle.running.proofs.DemandTwo.{drops-exactly}
 use Rattle.enforcement.specs.Model.{Label, code, stay, Satisfies}
 use Rattle.models.specs.Phone.{labelOf, StepIn, modelOf}
-use Rattle.examples.specs.PatternMeaning.{never, Covered, repeatingPhone, PatternMeaning}
+use Rattle.examples.specs.PatternMeaning.{never, CoveredIn, repeatingPhone, PatternMeaning}
 use Rattle.examples.proofs.PhoneSteps.{step-at, every-step}
 
 module _ (ps : List Pattern) (i : ℕ) where
-  means : (c : ℕ) → (coveredBy ps i c ≡ true) ↔ Covered ps i c
+  means : (c : ℕ) → (coveredBy ps i c ≡ true) ↔ CoveredIn ps i c
   means = covers-means (getD ps i noPattern)
 
-  violates : (c : ℕ) → ViolatesRule (never ps i) (c ∷ []) ↔ Covered ps i c
+  violates : (c : ℕ) → ViolatesRule (never ps i) (c ∷ []) ↔ CoveredIn ps i c
   violates c = (forth, λ h. by-code (means c .1 h) by-falsity)
     where
-      forth : ViolatesRule (never ps i) (c ∷ []) → Covered ps i c
+      forth : ViolatesRule (never ps i) (c ∷ []) → CoveredIn ps i c
       forth (by-code q x) = means c .0 q
 
   drops : (s table : List ℕ) (n : ℕ) (left : List ℕ) → Builds 128 255 s table (never ps i) n left
       → (h : History) → Calls 128 255 (OnTableOrRefused 128 255 left n) h → 0 < length (h .scans)
-      → (getD (h .verdicts) 0 0 ≡ 1) ↔ Covered ps i (getD (h .scans) 0 0)
+      → (getD (h .verdicts) 0 0 ≡ 1) ↔ CoveredIn ps i (getD (h .scans) 0 0)
   unfolding withVerdict
   drops s table n left b h calls some =
       let first = drops-exactly 128 255 s table (never ps i) n left b h calls .drops 0 some in
@@ -48,10 +48,10 @@ module _ (ps : List Pattern) (i : ℕ) where
     only-step : {s t : ℕ} {a : Label} → StepIn (repeatingPhone c .steps) s a t → a ≡ code c
     only-step = every-step (λ s a t. a ≡ code c) (repeatingPhone c .steps) (is-code, tt)
 
-    satisfies : Satisfies (modelOf (repeatingPhone c)) (never ps i) ↔ (Covered ps i c → ⊥)
+    satisfies : Satisfies (modelOf (repeatingPhone c)) (never ps i) ↔ (CoveredIn ps i c → ⊥)
     satisfies = (broken, λ uncovered c′ t q x. let e = only-step (x .step) in let same : c′ ≡ c = cc in absurd (uncovered (means c .0 (rw same at q))))
       where
-        broken : Satisfies (modelOf (repeatingPhone c)) (never ps i) → Covered ps i c → ⊥
+        broken : Satisfies (modelOf (repeatingPhone c)) (never ps i) → CoveredIn ps i c → ⊥
         broken sat h = sat c 0 (means c .1 h) (record {
           before = 0;
           after = 0;

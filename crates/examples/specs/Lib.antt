@@ -8,3 +8,4 @@ pub mod ModelExamples
 pub mod PatternMeaning
 pub mod RoundExample
 pub mod RefusalExamples
+pub mod Promises

@@ -6,10 +6,9 @@ use mathlib.Core.Path.{_≡_}
 use mathlib.Core.Logic.{_↔_}
 use mathlib.Core.List.{List, [], _∷_}
 use lib.ListN.{length, getD}
-use Rattle.reading.specs.Pattern.{kindOf, slotOf, bit}
 use Rattle.reading.specs.Rule.{falsity, necessity, Rule}
 use Rattle.reading.specs.Numbered.{noPattern}
-use Rattle.reading.specs.Promises.{Names}
+use Rattle.reading.specs.Promises.{Covered}
 use Rattle.reading.specs.declared.Pattern.{Pattern}
 use Rattle.synthesis.specs.Violation.{ViolatesRule}
 use Rattle.synthesis.specs.Building.{Builds}
@@ -23,9 +22,9 @@ use Rattle.examples.specs.ModelExamples.{step}
 abbrev pub never : List Pattern → (i : ℕ) → Rule
 never ps i = rule ps (necessity i falsity)
 
--- the code is of a kind in the mask of pattern i, with a slot that its first and last name
-abbrev pub Covered : List Pattern → (i code : ℕ) → Type 0
-Covered ps i c = let p = getD ps i noPattern in (bit (kindOf c) (p .mask) ≡ 1) × Names (p .first) (p .last) (slotOf c)
+-- pattern i covers the code, in words
+abbrev pub CoveredIn : List Pattern → (i code : ℕ) → Type 0
+CoveredIn ps i c = Covered (getD ps i noPattern) c
 
 -- a phone of one state that scans a code again and again
 abbrev pub repeatingPhone : (code : ℕ) → Phone
@@ -33,10 +32,10 @@ repeatingPhone c = record { states = 1; steps = step 0 c 0 ∷ [] }
 
 pub record PatternMeaning (ps : List Pattern) (i : ℕ) : Type 1 where
   -- a code by itself violates the rule
-  pub violates : (c : ℕ) → ViolatesRule (never ps i) (c ∷ []) ↔ Covered ps i c
+  pub violates : (c : ℕ) → ViolatesRule (never ps i) (c ∷ []) ↔ CoveredIn ps i c
   -- the first scan of a run is dropped
   pub drops : (s table : List ℕ) (n : ℕ) (left : List ℕ) → Builds 128 255 s table (never ps i) n left
       → (h : History) → Calls 128 255 (OnTableOrRefused 128 255 left n) h → 0 < length (h .scans)
-      → (getD (h .verdicts) 0 0 ≡ 1) ↔ Covered ps i (getD (h .scans) 0 0)
+      → (getD (h .verdicts) 0 0 ≡ 1) ↔ CoveredIn ps i (getD (h .scans) 0 0)
   -- a phone that scans the code meets the rule
-  pub satisfies : (c : ℕ) → c < 256 → Satisfies (modelOf (repeatingPhone c)) (never ps i) ↔ (Covered ps i c → ⊥)
+  pub satisfies : (c : ℕ) → c < 256 → Satisfies (modelOf (repeatingPhone c)) (never ps i) ↔ (CoveredIn ps i c → ⊥)

@@ -1,5 +1,5 @@
 -- Slots that go round, by the rule "after an issue of slots 30 to 2, ff". The paper has no such rule. What it means, what is dropped under it, for what
--- reason, and which models meet it, at 31 and at 2, which are slots of both of its ends, and at 29, which is none.
+-- reason, and which models meet it: at 31, a slot from first on, at 2, a slot up to last, and at 29, which is neither.
 use Prim.Native.Nat.{ℕ, suc, _≤_}
 use mathlib.Core.Path.{_≡_}
 use mathlib.Core.List.{List, [], _∷_, _++_}

@@ -5,3 +5,4 @@ pub mod NamedSlots
 pub mod Bits
 pub mod Products
 pub mod Extents
+pub mod Rings

@@ -5,7 +5,8 @@ use Rattle.reading.proofs.Refusing.FaultsRefused.{refuses-at-the-fault,
 use Rattle.reading.proofs.Refusing.PatternFaults.{refuses-pattern}
 use Rattle.reading.proofs.Numbering.NumberedLaws.{numbers-nodes, numbers-patterns}
 use Rattle.reading.proofs.Settling.Prefix.{settled-by-first-bytes, not-by-fewer}
-use Rattle.reading.proofs.Measures.Extents.{covers-means, goes-round, measures-pattern}
+use Rattle.reading.proofs.Measures.Extents.{covers-means, measures-pattern}
+use Rattle.reading.proofs.Measures.Rings.{goes-round}
 
 pub promises : Promises
 promises = record {

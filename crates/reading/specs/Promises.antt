@@ -84,9 +84,11 @@ NotByFewer = (s : List ℕ) × Bytes s × (ruleOf (take 256 s) ≡ refused 1 256
 abbrev pub Names : (first last slot : ℕ) → Type 0
 Names first last slot = ((first ≤ last) × (first ≤ slot) × (slot ≤ last)) ⊎ ((last < first) × ((first ≤ slot) ⊎ (slot ≤ last)))
 
+abbrev pub Covered : Pattern → (code : ℕ) → Type 0
+Covered p code = (bit (kindOf code) (p .mask) ≡ 1) × Names (p .first) (p .last) (slotOf code)
+
 abbrev pub CoversMeans : Type 0
-CoversMeans =
-    (p : Pattern) (code : ℕ) → (covers p code ≡ true) ↔ ((bit (kindOf code) (p .mask) ≡ 1) × Names (p .first) (p .last) (slotOf code))
+CoversMeans = (p : Pattern) (code : ℕ) → (covers p code ≡ true) ↔ Covered p code
 
 -- The same without the two cases, where both are slots, in a ring in which 0 comes after 31: one counts up from first, and comes to last before any
 -- slot comes again.

@@ -8,13 +8,12 @@ use native.Mathlib.Decide.{decLe}
 use native.Mathlib.Omega.{arith}
 use lib.Count.{ones, trailingZeros}
 use borrow.Author.Tests.{eqb-true, eq-eqb, lt-leb}
-use Rattle.reading.specs.Pattern.{codeOf, kindOf, slotOf, bit, named, covers, least, countBelow, lowestSlot, slotWidth, WellFormedPattern}
-use Rattle.reading.specs.Promises.{CoversMeans, GoesRound, MeasuresPattern}
+use Rattle.reading.specs.Pattern.{kindOf, slotOf, bit, named, covers, least, countBelow, lowestSlot, slotWidth, WellFormedPattern}
+use Rattle.reading.specs.Promises.{CoversMeans, MeasuresPattern}
 use Rattle.reading.specs.declared.Pattern.{Pattern}
-use Rattle.reading.proofs.Measures.Codes.{kind-of-code, slot-of-code}
 use Rattle.reading.proofs.Measures.Bits.{isSet, trailing-is-least, trailing-lt, ones-is-count}
 use Rattle.reading.proofs.Measures.Counting.{least-holds, least-below, count-below-le}
-use Rattle.reading.proofs.Measures.NamedSlots.{named-means, named-extent, lowest-slot-lt, counted-up}
+use Rattle.reading.proofs.Measures.NamedSlots.{named-means, named-extent, lowest-slot-lt}
 use Rattle.reading.proofs.Measures.Products.{ofBoth, least-of-both, count-below-of-both}
 
 -- ---- what a pattern covers
@@ -27,19 +26,6 @@ covers-means p code = (
       (eqb-true (bit (kindOf code) (p .mask)) 1 (parts .0), named-means (p .first) (p .last) (slotOf code) .0 (parts .1)),
   λ (k, n). rw (eq-eqb _ _ k) (named-means (p .first) (p .last) (slotOf code) .1 n),
 )
-
-pub goes-round : (p : Pattern) → p .first ≤ 31 → p .last ≤ 31 → GoesRound p
-goes-round p f l =
-    let up = counted-up (p .first) (p .last) f l in
-    record {
-      counted = λ kind slot h.
-          let means = rw (kind-of-code kind slot (omega arith), slot-of-code kind slot (omega arith)) at (covers-means p (codeOf kind slot)) in (
-            λ e. let (set, n) = means .0 e in let (k, few, is) = up .counted slot h .0 n in (set, k, few, is),
-            λ (set, k, few, is). means .1 (set, up .counted slot h .1 (k, few, is)),
-          );
-      to-last = up .to-last;
-      once = up .once;
-    }
 
 -- a test of the kind and a test of the slot
 covers-both : (p : Pattern) → covers p ≡ ofBoth (isSet (p .mask)) (named (p .first) (p .last))
@@ -54,7 +40,7 @@ module _ (p : Pattern) (ok : WellFormedPattern p) where
 
   slots : (least 32 (named (p .first) (p .last)) ≡ lowestSlot (p .first) (p .last))
       × (countBelow 32 (named (p .first) (p .last)) ≡ slotWidth (p .first) (p .last))
-  slots = named-extent 32 (p .first) (p .last) (omega (arith, ok .first-slot)) (omega (arith, ok .last-slot))
+  slots = named-extent (p .first) (p .last) (omega (arith, ok .first-slot)) (omega (arith, ok .last-slot))
 
   slot-inside : lowestSlot (p .first) (p .last) < 32
   slot-inside = lowest-slot-lt 32 (p .first) (p .last) (omega (arith, ok .first-slot))

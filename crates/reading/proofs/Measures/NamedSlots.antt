@@ -3,7 +3,7 @@
 use mathlib.Core.Path.{_≡_}
 use mathlib.Core.Logic.{_↔_, _⊎_, inl, inr}
 use mathlib.Core.Bool.{Bool, true, false, cond, _||_, and-eq-true-iff, and-false, or-true}
-use Prim.Native.Nat.{ℕ, suc, _+_, _-_, _%_, _≤_, _<_}
+use Prim.Native.Nat.{ℕ, suc, _+_, _-_, _≤_, _<_}
 use native.Mathlib.Nat.{lt-of-not-le}
 use native.Mathlib.Decide.{decLe}
 use native.Mathlib.Omega.{arith}
@@ -44,14 +44,11 @@ lowest-slot-lt n first last h = on (leb first last)
     on false = omega arith
 
 -- among n slots
-abbrev widthAmong : (n first last : ℕ) → ℕ
-widthAmong n first last = cond (leb first last) (last - first + 1) (n - first + last + 1)
+abbrev Measured : (n first last lowest width : ℕ) → Type 0
+Measured n first last lowest width = (least n (named first last) ≡ lowest) × (countBelow n (named first last) ≡ width)
 
 module _ (n first last : ℕ) (first-slot : first < n) (last-slot : last < n) where
-  abbrev Measured : Type 0
-  Measured = (least n (named first last) ≡ lowestSlot first last) × (countBelow n (named first last) ≡ widthAmong n first last)
-
-  in-order : first ≤ last → Measured
+  in-order : first ≤ last → Measured n first last first (last - first + 1)
   in-order h =
       let width = last - first + 1 in
       let rest = n - last - 1 in
@@ -64,11 +61,11 @@ module _ (n first last : ℕ) (first-slot : first < n) (last-slot : last < n) wh
       (λ i l. rw (on, le-leb first (first + i) (omega arith), le-leb (first + i) last (omega arith))) in
       let more = count-below-none rest (λ i. test (first + width + i))
       (λ i l. rw (on, lt-leb (first + width + i) last (omega arith)) (and-false (leb first (first + width + i)))) in (
-        rw on (least-is n first test first-slot (rw (on, le-leb first first (omega arith))) (λ i l. rw (on, lt-leb first i l))),
-        rw on (omega (arith, all, misses, hits, more)),
+        least-is n first test first-slot (rw (on, le-leb first first (omega arith))) (λ i l. rw (on, lt-leb first i l)),
+        omega (arith, all, misses, hits, more),
       )
 
-  round : last < first → Measured
+  round : last < first → Measured n first last 0 (n - first + last + 1)
   round h =
       let gap = first - suc last in
       let rest = n - first in
@@ -80,57 +77,14 @@ module _ (n first last : ℕ) (first-slot : first < n) (last-slot : last < n) wh
       let misses = count-below-none gap (λ i. test (suc last + i))
       (λ i l. rw (off, lt-leb first (suc last + i) (omega arith), lt-leb (suc last + i) last (omega arith))) in
       let more = count-below-all rest (λ i. test (suc last + gap + i)) (λ i l. rw (off, le-leb first (suc last + gap + i) (omega arith))) in (
-        rw off (least-is n 0 test (omega arith) (rw (off, lt-leb first 0 (omega arith), le-leb 0 last (omega arith))) (λ i l. absurd (omega arith))),
-        rw off (omega (arith, all, hits, misses, more)),
+        least-is n 0 test (omega arith) (rw (off, lt-leb first 0 (omega arith), le-leb 0 last (omega arith))) (λ i l. absurd (omega arith)),
+        omega (arith, all, hits, misses, more),
       )
 
-  pub named-extent : Measured
-  named-extent = by (decLe first last)
-    where
-      by : Dec (first ≤ last) → Measured
-      by (yes h) = in-order h
-      by (no h) = round (lt-of-not-le h)
-
--- ---- counted up from first
-
--- Less than 32 steps lead to a slot as they are, or less 32.
-module _ (first last : ℕ) (first-slot : first ≤ 31) (last-slot : last ≤ 31) where
-  abbrev Counted : (width : ℕ) → Type 0
-  Counted width = (slot : ℕ) → slot ≤ 31 → Names first last slot ↔ ((k : ℕ) × (k < width) × ((first + k) % 32 ≡ slot))
-
-  counted-in-order : first ≤ last → Counted (last - first + 1)
-  counted-in-order o slot s = (forth, λ (k, few, is). inl (o, omega arith, omega arith))
-    where
-      forth : Names first last slot → (k : ℕ) × (k < last - first + 1) × ((first + k) % 32 ≡ slot)
-      forth (inl (p, above, below)) = (slot - first, omega arith, omega arith)
-      forth (inr (p, x)) = absurd (omega arith)
-
-  counted-round : last < first → Counted (32 - first + last + 1)
-  counted-round o slot s = (forth, λ (k, few, is). inr (o, side k few is (decLe first slot)))
-    where
-      forth : Names first last slot → (k : ℕ) × (k < 32 - first + last + 1) × ((first + k) % 32 ≡ slot)
-      forth (inl (p, x, y)) = absurd (omega arith)
-      forth (inr (p, inl above)) = (slot - first, omega arith, omega arith)
-      forth (inr (p, inr below)) = (32 - first + slot, omega arith, omega arith)
-
-      side : (k : ℕ) → k < 32 - first + last + 1 → (first + k) % 32 ≡ slot → Dec (first ≤ slot) → (first ≤ slot) ⊎ (slot ≤ last)
-      side k few is (yes f) = inl f
-      side k few is (no f) = inr (omega (arith, lt-of-not-le f))
-
-  -- The slots that are named are counted; the last of them is last, and there are at most 32.
-  pub record CountedUp : Type 0 where
-    pub counted : (slot : ℕ) → slot ≤ 31 → Names first last slot ↔ ((k : ℕ) × (k < slotWidth first last) × ((first + k) % 32 ≡ slot))
-    pub to-last : (first + (slotWidth first last - 1)) % 32 ≡ last
-    pub once : (0 < slotWidth first last) × (slotWidth first last ≤ 32)
-
-  pub counted-up : CountedUp
-  counted-up = by (decLe first last)
-    where
-      by : Dec (first ≤ last) → CountedUp
-      by (yes o) =
-          let width : slotWidth first last ≡ last - first + 1 = rw (le-leb first last o) in
-          record { counted = rw width (counted-in-order o); to-last = omega arith; once = (omega arith, omega arith) }
-      by (no o) =
-          let over = lt-of-not-le o in
-          let width : slotWidth first last ≡ 32 - first + last + 1 = rw (lt-leb first last over) in
-          record { counted = rw width (counted-round over); to-last = omega arith; once = (omega arith, omega arith) }
+-- among 32, in either case
+pub named-extent : (first last : ℕ) → first < 32 → last < 32 → Measured 32 first last (lowestSlot first last) (slotWidth first last)
+named-extent first last f l = by (decLe first last)
+  where
+    by : Dec (first ≤ last) → Measured 32 first last (lowestSlot first last) (slotWidth first last)
+    by (yes h) = let on = le-leb first last h in let (low, many) = in-order 32 first last f l h in (rw on low, rw on many)
+    by (no h) = let off = lt-leb first last (lt-of-not-le h) in let (low, many) = round 32 first last f l (lt-of-not-le h) in (rw off low, rw off many)

@@ -1,0 +1,24 @@
+-- Each statement of this crate, by its theorem.
+use Rattle.examples.specs.Promises.{Promises}
+use Rattle.examples.proofs.PaperExamples.{paper-examples}
+use Rattle.examples.proofs.NumberingExamples.{numbering-examples}
+use Rattle.examples.proofs.NodeExamples.{node-examples}
+use Rattle.examples.proofs.OverlapExample.{overlap-example}
+use Rattle.examples.proofs.ReasonExamples.{reason-examples}
+use Rattle.examples.proofs.PoolModels.{model-examples}
+use Rattle.examples.proofs.PatternMeaning.{pattern-meaning}
+use Rattle.examples.proofs.RoundExample.{round-example}
+use Rattle.examples.proofs.RefusalExamples.{refusal-examples}
+
+pub promises : Promises
+promises = record {
+  paper-examples = paper-examples;
+  numbering-examples = numbering-examples;
+  node-examples = node-examples;
+  overlap-example = overlap-example;
+  reason-examples = reason-examples;
+  model-examples = model-examples;
+  pattern-meaning = pattern-meaning;
+  round-example = round-example;
+  refusal-examples = refusal-examples;
+}

@@ -1,0 +1,24 @@
+-- All statements of this crate. The theorem `promises` has this type, so that each of them has its proof.
+use Prim.Native.Nat.{ℕ}
+use mathlib.Core.List.{List}
+use Rattle.reading.specs.declared.Pattern.{Pattern}
+use Rattle.examples.specs.Examples.{PaperExamples}
+use Rattle.examples.specs.NumberingExamples.{NumberingExamples}
+use Rattle.examples.specs.NodeExamples.{NodeExamples}
+use Rattle.examples.specs.OverlapExample.{OverlapExample}
+use Rattle.examples.specs.ReasonExamples.{ReasonExamples}
+use Rattle.examples.specs.ModelExamples.{ModelExamples}
+use Rattle.examples.specs.PatternMeaning.{PatternMeaning}
+use Rattle.examples.specs.RoundExample.{RoundExample}
+use Rattle.examples.specs.RefusalExamples.{RefusalExamples}
+
+pub record Promises : Type 1 where
+  pub paper-examples : PaperExamples
+  pub numbering-examples : NumberingExamples
+  pub node-examples : NodeExamples
+  pub overlap-example : OverlapExample
+  pub reason-examples : ReasonExamples
+  pub model-examples : ModelExamples
+  pub pattern-meaning : (ps : List Pattern) (i : ℕ) → PatternMeaning ps i
+  pub round-example : RoundExample
+  pub refusal-examples : RefusalExamples
