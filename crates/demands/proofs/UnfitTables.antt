@@ -12,12 +12,12 @@ use lib.Dec.{eqb, ltb}
 use lib.ListN.{length, getD}
 use borrow.Author.Tests.{eqb-false, ltb-false}
 use Rattle.reading.proofs.Basics.Outcomes.{or-eq-false}
+use Rattle.reading.proofs.Measures.BoundedTests.{every, every-fails, every-is}
 use Rattle.synthesis.specs.Table.{InRange, WellFormedTable}
 use Rattle.synthesis.proofs.Tables.WellFormedTables.{well-formed-room, well-formed-entry, well-formed-by-bytes}
 use Rattle.running.specs.Running.{inRange}
 use Rattle.running.specs.declared.State.{State}
 use Rattle.running.proofs.Tables.{in-range}
-use Rattle.models.proofs.Phones.BoundedTests.{every, every-fails, every-is}
 use Rattle.demands.specs.Refusals.{Unfit, no-equations, many-equations, no-such-equation, short-rows, bad-entry}
 
 -- ---- what is unfit isn't fit

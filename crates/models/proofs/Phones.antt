@@ -1,6 +1,5 @@
 -- Phone models as models: finite, with byte codes, and with decided sets.
 pub mod PhoneCodes
-pub mod BoundedTests
 pub mod GreatestSets
 pub mod PhoneStates
 pub mod LeadingSteps

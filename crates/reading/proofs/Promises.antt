@@ -7,6 +7,9 @@ use Rattle.reading.proofs.Numbering.NumberedLaws.{numbers-nodes, number
 use Rattle.reading.proofs.Settling.Prefix.{settled-by-first-bytes, not-by-fewer}
 use Rattle.reading.proofs.Measures.Extents.{covers-means, measures-pattern}
 use Rattle.reading.proofs.Measures.Rings.{goes-round}
+use Rattle.reading.proofs.Measures.SlotSets.{measures-slots}
+use Rattle.reading.proofs.Measures.SlotTable.{words-of-slots}
+use Rattle.reading.proofs.Measures.TwoEnds.{sets-of-slots}
 
 pub promises : Promises
 promises = record {
@@ -23,4 +26,7 @@ promises = record {
   covers-means = covers-means;
   goes-round = goes-round;
   measures-pattern = measures-pattern;
+  words-of-slots = words-of-slots;
+  sets-of-slots = sets-of-slots;
+  measures-slots = measures-slots;
 }

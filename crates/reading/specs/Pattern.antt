@@ -1,6 +1,7 @@
 -- Scans and patterns. A scan is its code, made of its kind, 0 to 7, and its slot, 0 to 31. A pattern is a set of codes: the mask says for each
 -- kind whether it belongs, first and last name the slots. `Pattern` and `Extent` are the structs of src/lib.rt.
 use Prim.Native.Nat.{ℕ, _+_, _-_, _*_, _/_, _%_, zero, suc, _^_, _≤_, _<_}
+use mathlib.Core.Path.{_≡_}
 use mathlib.Core.Bool.{Bool, cond, _&&_, _||_}
 use lib.Dec.{leb, eqb}
 use Rattle.reading.specs.declared.Pattern.{Pattern}
@@ -51,6 +52,11 @@ bit i n = n / 2 ^ i % 2
 -- The slots that first and last name: from first to last, and where first is over last, from first on and from 0 to last.
 abbrev pub named : (first last slot : ℕ) → Bool
 named first last slot = cond (leb first last) (leb first slot && leb slot last) (leb first slot || leb slot last)
+
+-- A word is the set of the slots that a test holds of: slot s is a member where bit s is 1, and there are no bits but those of the 32 slots.
+pub record IsSlotSet (holds : ℕ → Bool) (word : ℕ) : Type 0 where
+  pub has : (slot : ℕ) → slot < 32 → bit slot word ≡ cond (holds slot) 1 0
+  pub few : word < 2 ^ 32
 
 unfoldable pub covers : Pattern → ℕ → Bool
 covers p code = eqb (bit (kindOf code) (p .mask)) 1 && named (p .first) (p .last) (slotOf code)

@@ -1,12 +1,14 @@
 -- What this crate promises, as statements over the definitions; proofs/ has a theorem of each of these types.
-use Prim.Native.Nat.{ℕ, _+_, _-_, _*_, _%_, _≤_, _<_}
+use Prim.Native.Nat.{ℕ, _+_, _-_, _*_, _%_, _^_, _≤_, _<_, min}
 use mathlib.Core.Path.{_≡_}
 use mathlib.Core.Logic.{_↔_, _⊎_}
-use mathlib.Core.Bool.{true}
+use mathlib.Core.Bool.{Bool, true}
 use mathlib.Core.List.{List, [], map}
 use lib.ListN.{length, getD, take}
 use lib.Count.{ones, trailingZeros}
-use Rattle.reading.specs.Pattern.{codeOf, kindOf, slotOf, bit, covers, extentOf, lowestSlot, slotWidth, WellFormedPattern}
+use lib.Dec.{ltb}
+use Rattle.reading.specs.Pattern.{codeOf, kindOf, slotOf, bit, named, IsSlotSet, covers, least, countBelow, extentOf}
+use Rattle.reading.specs.Pattern.{lowestSlot, slotWidth, WellFormedPattern}
 use Rattle.reading.specs.Rule.{Formula, size, WellFormed, Rule, RuleWithinLimits, encode, Bytes}
 use Rattle.reading.specs.File.{accepted, refused, ruleOf}
 use Rattle.reading.specs.Faults.{Fault, Unfinished, KindAt, IsPattern}
@@ -107,6 +109,26 @@ pub record MeasuresPattern (p : Pattern) : Type 0 where
   pub by-zeros : extentOf p .lowest ≡ trailingZeros 8 (p .mask) * 32 + lowestSlot (p .first) (p .last)
   pub by-ones : extentOf p .count ≡ ones (p .mask) * slotWidth (p .first) (p .last)
 
+-- 5. Words as sets of slots. `slots_under` and `slot_set` ensure `IsSlotSet`, the one of the slots under a width and the other of those that first and
+-- last name. In words:
+abbrev pub HasExactly : (word : ℕ) (Member : ℕ → Type 0) → Type 0
+HasExactly word Member = (slot : ℕ) → (bit slot word ≡ 1) ↔ ((slot ≤ 31) × Member slot)
+
+-- The word of a width has exactly the slots under it, and is 0, 1, 3, 7 and so on up to that of 32, which is the word of every width over 32.
+pub record WordsOfSlots : Type 0 where
+  pub members : (width word : ℕ) → IsSlotSet (λ slot. ltb slot width) word ↔ HasExactly word (λ slot. slot < width)
+  pub power : (width word : ℕ) → IsSlotSet (λ slot. ltb slot width) word ↔ (word ≡ 2 ^ min width 32 - 1)
+
+-- The set of any first and last, round the ring too, has exactly the slots that these name.
+abbrev pub SetsOfSlots : Type 0
+SetsOfSlots = (first last word : ℕ) → IsSlotSet (named first last) word ↔ HasExactly word (Names first last)
+
+-- The word of a set, whatever test its members pass: there is no other; its trailing zeros are the least member, and its ones are how many there are.
+pub record MeasuresSlots (holds : ℕ → Bool) (word : ℕ) : Type 0 where
+  pub only : (other : ℕ) → IsSlotSet holds other → other ≡ word
+  pub by-zeros : trailingZeros 32 word ≡ least 32 holds
+  pub by-ones : ones word ≡ countBelow 32 holds
+
 -- ---- all of these
 
 -- The theorem `promises` has this type, so that each promise has its proof.
@@ -124,3 +146,6 @@ pub record Promises : Type 0 where
   pub covers-means : CoversMeans
   pub goes-round : (p : Pattern) → p .first ≤ 31 → p .last ≤ 31 → GoesRound p
   pub measures-pattern : (p : Pattern) → WellFormedPattern p → MeasuresPattern p
+  pub words-of-slots : WordsOfSlots
+  pub sets-of-slots : SetsOfSlots
+  pub measures-slots : (holds : ℕ → Bool) (word : ℕ) → IsSlotSet holds word → MeasuresSlots holds word

@@ -2,7 +2,7 @@
 mod formulas;
 pub mod kinds;
 mod patterns;
-mod slots;
+pub mod slots;
 
 ghost use mathlib.Core.Path.{_≡_};
 ghost use Rattle.reading.specs.Pattern.{covers};
@@ -54,7 +54,7 @@ pub fn covers(p: Pattern, code: u8) -> bool
     if (p.mask >> kind) % 2 == 0 {
         return false;
     }
-    slots::has_slot(p.first, p.last, slot)
+    (slots::slot_set(p.first, p.last) >> slot) % 2 == 1
 }
 
 // The rule of a refused file.

@@ -4,8 +4,7 @@ use crate::FileRead;
 use crate::Pattern;
 use crate::blank_rule;
 use crate::kinds::PATTERN;
-use crate::slots::lowest_slot;
-use crate::slots::slot_width;
+use crate::slots::slot_set;
 ghost use mathlib.Core.Path.{_≡_};
 ghost use Prim.Native.Nat.{_<_};
 ghost use lib.ListN.{length};
@@ -28,15 +27,14 @@ pub(crate) struct Head {
     pub(crate) extents: [Extent; 32],
 }
 
-// The lowest code and the count of codes of a pattern: by the trailing zeros of the mask, and by its ones times the slot width.
+// The lowest code and the count of codes of a pattern: by the trailing zeros of the mask and of the set of slots, and by their ones.
 fn extent(p: Pattern) -> Extent
     requires { ⌜ WellFormedPattern p ⌝ }
     ensures { λ r. ⌜ r ≡ extentOf p ⌝ }
 {
-    let kind = u8::trailing_zeros(p.mask);
-    let lowest = kind * 32 + (lowest_slot(p.first, p.last) as u32);
-    let kinds = u8::count_ones(p.mask);
-    let count = kinds * (slot_width(p.first, p.last) as u32);
+    let slots = slot_set(p.first, p.last);
+    let lowest = u8::trailing_zeros(p.mask) * 32 + u32::trailing_zeros(slots);
+    let count = u8::count_ones(p.mask) * u32::count_ones(slots);
     Extent {
         lowest: lowest as u8,
         count: count as u16,

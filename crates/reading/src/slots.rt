@@ -1,42 +1,62 @@
-// The slots that the first and the last slot of a pattern name. They go round: where first is over last, they are those from first to 31 and from 0 to last.
-ghost use mathlib.Core.Path.{_≡_};
-ghost use Prim.Native.Nat.{_≤_};
-ghost use Rattle.reading.specs.Pattern.{named, lowestSlot, slotWidth};
+// Sets of slots as words, from a table: slot s is a member where bit s is 1.
+ghost use lib.Dec.{ltb};
+ghost use Rattle.reading.specs.Pattern.{named, IsSlotSet};
 
-// Whether a slot is one of them.
-pub(crate) fn has_slot(first: u8, last: u8, slot: u8) -> bool
-    ensures { λ r. ⌜ r ≡ named first last slot ⌝ }
+// Word w has the slots under w. That of 32 can't be had by a shift, since a word has no more than 32 bits.
+const SLOTS_UNDER: [u32; 33] = [
+    0,
+    1,
+    3,
+    7,
+    15,
+    31,
+    63,
+    127,
+    255,
+    511,
+    1023,
+    2047,
+    4095,
+    8191,
+    16383,
+    32767,
+    65535,
+    131071,
+    262143,
+    524287,
+    1048575,
+    2097151,
+    4194303,
+    8388607,
+    16777215,
+    33554431,
+    67108863,
+    134217727,
+    268435455,
+    536870911,
+    1073741823,
+    2147483647,
+    4294967295,
+];
+
+// The slots under a width. There are 32, so a width over 32 has the word of 32.
+pub fn slots_under(width: usize) -> u32
+    ensures { λ r. ⌜ IsSlotSet (λ slot. ltb slot width) r ⌝ }
 {
-    if first <= last {
-        if slot < first {
-            return false;
-        }
-        return slot <= last;
+    if 32 < width {
+        return SLOTS_UNDER[32];
     }
-    if first <= slot {
-        return true;
-    }
-    slot <= last
+    SLOTS_UNDER[width]
 }
 
-// The lowest of them.
-pub(crate) fn lowest_slot(first: u8, last: u8) -> u8
-    ensures { λ r. ⌜ r ≡ lowestSlot first last ⌝ }
+// The slots that first and last name. A slot lies between the two ends when it is under one of them and not under the other; where first is over last,
+// the others are named.
+pub fn slot_set(first: u8, last: u8) -> u32
+    ensures { λ r. ⌜ IsSlotSet (named first last) r ⌝ }
 {
+    let between = slots_under(last as usize + 1) ^ slots_under(first as usize);
     if first <= last {
-        return first;
+        return between;
     }
-    0
-}
-
-// How many they are.
-pub(crate) fn slot_width(first: u8, last: u8) -> u8
-    requires { ⌜ first ≤ 31 ⌝ }
-    requires { ⌜ last ≤ 31 ⌝ }
-    ensures { λ r. ⌜ r ≡ slotWidth first last ⌝ }
-{
-    if first <= last {
-        return last - first + 1;
-    }
-    32 - first + last + 1
+    between ^ slots_under(32)
 }

@@ -7,10 +7,10 @@ use mathlib.Core.List.{List}
 use lib.Dec.{eqb}
 use lib.ListN.{length, getD}
 use borrow.Author.Tests.{eq-eqb, eqb-true}
+use Rattle.reading.proofs.Measures.BoundedTests.{every, every-is}
 use Rattle.enforcement.specs.Model.{Label}
 use Rattle.models.specs.Phone.{StepIn, labelOf, noStep}
 use Rattle.models.specs.declared.Step.{Step}
-use Rattle.models.proofs.Phones.BoundedTests.{every, every-is}
 
 cond-and-true : (a b c : Bool) → (cond (a && b) c true ≡ true) ↔ (a ≡ true → b ≡ true → c ≡ true)
 cond-and-true true true c = (λ h p q. h, λ h. h refl refl)

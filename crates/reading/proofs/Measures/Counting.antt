@@ -40,6 +40,13 @@ least-below (suc n) holds i h = on (holds zero) refl i h (least-below n (λ j. h
     on false e zero h rest = e
     on false e (suc i) h rest = rest i (omega arith)
 
+-- tests that agree have the same least
+pub least-same : (n : ℕ) (one other : ℕ → Bool) → ((i : ℕ) → i < n → one i ≡ other i) → least n one ≡ least n other
+unfolding least
+least-same zero one other h = refl
+least-same (suc n) one other h =
+    rw (h zero (omega arith), least-same n (λ i. one (suc i)) (λ i. other (suc i)) (λ i l. h (suc i) (omega arith)))
+
 -- ---- how many
 
 -- the two equations of the definition, where it doesn't unfold

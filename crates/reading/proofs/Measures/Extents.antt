@@ -8,12 +8,14 @@ use native.Mathlib.Decide.{decLe}
 use native.Mathlib.Omega.{arith}
 use lib.Count.{ones, trailingZeros}
 use borrow.Author.Tests.{eqb-true, eq-eqb, lt-leb}
-use Rattle.reading.specs.Pattern.{kindOf, slotOf, bit, named, covers, least, countBelow, lowestSlot, slotWidth, WellFormedPattern}
+use Rattle.reading.specs.Pattern.{kindOf, slotOf, bit, named, IsSlotSet, covers, least, countBelow, lowestSlot, slotWidth}
+use Rattle.reading.specs.Pattern.{WellFormedPattern}
 use Rattle.reading.specs.Promises.{CoversMeans, MeasuresPattern}
 use Rattle.reading.specs.declared.Pattern.{Pattern}
 use Rattle.reading.proofs.Measures.Bits.{isSet, trailing-is-least, trailing-lt, ones-is-count}
 use Rattle.reading.proofs.Measures.Counting.{least-holds, least-below, count-below-le}
 use Rattle.reading.proofs.Measures.NamedSlots.{named-means, named-extent, lowest-slot-lt}
+use Rattle.reading.proofs.Measures.SlotSets.{measures-slots}
 use Rattle.reading.proofs.Measures.Products.{ofBoth, least-of-both, count-below-of-both}
 
 -- ---- what a pattern covers
@@ -58,6 +60,14 @@ module _ (p : Pattern) (ok : WellFormedPattern p) where
   code-count =
       rw (covers-both, ones-is-count 8 (p .mask) (omega arith), ← slots .1)
       (count-below-of-both (isSet (p .mask)) (named (p .first) (p .last)) 8)
+
+  -- both by the word of the set of slots
+  module _ (word : ℕ) (set : IsSlotSet (named (p .first) (p .last)) word) where
+    pub slot-zeros : trailingZeros 32 word ≡ lowestSlot (p .first) (p .last)
+    slot-zeros = measures-slots (named (p .first) (p .last)) word set .by-zeros ∙ slots .0
+
+    pub slot-ones : ones word ≡ slotWidth (p .first) (p .last)
+    slot-ones = measures-slots (named (p .first) (p .last)) word set .by-ones ∙ slots .1
 
   -- neither is past the 256 codes
   pub lowest-fits : trailingZeros 8 (p .mask) * 32 + lowestSlot (p .first) (p .last) < 256

@@ -3,39 +3,22 @@ use Prim.Native.Nat.{ℕ, zero, suc, _+_, _-_, _*_, _/_, _%_, _^_, _≤_, _<_, m
 use mathlib.Core.Path.{_≡_, refl, sym, _∙_, ap}
 use mathlib.Core.Logic.{_↔_, _⊎_, inl, inr}
 use mathlib.Core.Bool.{true}
-use native.Mathlib.Nat.{mod-lt, mod-eq-of-lt, one-mul, mul-div-mul-right, pow-suc, one-le-pow, zero-lt-suc}
+use native.Mathlib.Nat.{mod-eq-of-lt, one-mul, mul-div-mul-right, pow-suc, one-le-pow, zero-lt-suc}
 use native.Mathlib.Nat.{div-one, div-eq-of-lt, div-lt-iff-lt-mul, div-self, zero-div}
 use native.Mathlib.Omega.{arith}
-use lib.Bits.{bitAnd, bitOr, bitXor, differ, or-shr, or-step, and-self, and-shr, and-step, xor-shr, xor-step, xor-zero-r, xor-add-and}
+use lib.Bits.{bitAnd, bitOr, bitXor, differ, or-shr, or-step, and-self, and-shr, and-step, xor-step, xor-zero-r, xor-add-and}
 use lib.Count.{trailingZeros, under}
 use lib.Pow.{pow-lt}
 use borrow.Author.Tests.{eq-eqb, eqb-true}
 use Rattle.reading.specs.Pattern.{bit}
-use Rattle.reading.proofs.Measures.Bits.{bit-zero, bit-suc}
+use Rattle.reading.proofs.Measures.Bits.{bit-zero, bit-suc, bit-small, bits-same, bit-wise, bit-xor}
 use Rattle.synthesis.specs.NodeSet.{Has, has, emptySet, singleton, union, intersection}
 use Rattle.synthesis.specs.Promises.{SameMembersSameSet}
 
 -- ---- bits
 
-bit-small : (i n : ℕ) → bit i n < 2
-unfolding bit
-bit-small i n = mod-lt (n / 2 ^ i) (omega arith)
-
 no-bit : (x : ℕ) → x ≡ 0 → x % 2 ≡ 1 → ⊥
 no-bit x e h = omega arith
-
-low-digit : (z u v : ℕ) → z ≡ u * 2 + v → v < 2 → z % 2 ≡ v
-low-digit z u v e h = omega arith
-
--- an operation that goes digit by digit
-module _ (op digit : ℕ → ℕ → ℕ) (shift : (a b i : ℕ) → op a b / 2 ^ i ≡ op (a / 2 ^ i) (b / 2 ^ i))
-    (step : (a b : ℕ) → op a b ≡ op (a / 2) (b / 2) * 2 + digit (a % 2) (b % 2))
-    (small : (x y : ℕ) → x < 2 → y < 2 → digit x y < 2) where
-  bit-wise : (a b i : ℕ) → bit i (op a b) ≡ digit (bit i a) (bit i b)
-  unfolding bit
-  bit-wise a b i =
-      rw (shift a b i)
-      (low-digit _ _ _ (step (a / 2 ^ i) (b / 2 ^ i)) (small _ _ (mod-lt _ (omega arith)) (mod-lt _ (omega arith))))
 
 bit-union : (a b i : ℕ) → bit i (union a b) ≡ max (bit i a) (bit i b)
 bit-union = bit-wise bitOr max or-shr or-step (λ x y h k. omega arith)
@@ -111,15 +94,8 @@ digits-same zero zero p q h = refl
 digits-same zero (suc y) p q h = omega (arith, h .1 (omega arith))
 digits-same (suc x) y p q h = omega (arith, h .0 (omega arith))
 
-has-ext-below : (k a b : ℕ) → a ≤ k → b ≤ k → ((n : ℕ) → Has a n ↔ Has b n) → a ≡ b
-has-ext-below zero a b p q h = omega arith
-has-ext-below (suc k) a b p q h =
-    let high : a / 2 ≡ b / 2 = has-ext-below k (a / 2) (b / 2) (omega arith) (omega arith) (λ n. rw (← bit-suc n a, ← bit-suc n b) (h (suc n))) in
-    let l : a % 2 ≡ b % 2 = digits-same (a % 2) (b % 2) (omega arith) (omega arith) (rw (bit-zero a, bit-zero b) at (h 0)) in
-    omega arith
-
 pub same-members-same-set : SameMembersSameSet
-same-members-same-set a b h = has-ext-below (a + b) a b (omega arith) (omega arith) h
+same-members-same-set a b h = bits-same a b (λ n. digits-same (bit n a) (bit n b) (bit-small n a) (bit-small n b) (h n))
 
 -- a set without members is none
 pub no-member-empty : (e : ℕ) → ((n : ℕ) → Has e n → ⊥) → e ≡ emptySet
@@ -143,14 +119,8 @@ nonempty-member e h = nonempty-member-below e e (omega arith) h
 abbrev pub toggled : ℕ → ℕ → ℕ
 toggled e k = bitXor e (singleton k)
 
-differ-small : (x y : ℕ) → x < 2 → y < 2 → differ x y < 2
-differ-small zero y h k = k
-differ-small (suc zero) zero h k = h
-differ-small (suc zero) (suc y) h k = omega arith
-differ-small (suc (suc x)) y h k = absurd (omega arith)
-
 bit-toggled : (e k n : ℕ) → bit n (toggled e k) ≡ differ (bit n e) (bit n (singleton k))
-bit-toggled e k = bit-wise bitXor differ xor-shr xor-step differ-small e (singleton k)
+bit-toggled e k = bit-xor e (singleton k)
 
 differ-none : (x y : ℕ) → y < 2 → (y ≡ 1 → ⊥) → differ x y ≡ x
 differ-none zero zero h n = refl
