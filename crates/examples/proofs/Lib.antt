@@ -17,6 +17,7 @@ pub mod Distinctions
 pub mod PoolModels
 pub mod PatternMeaning
 pub mod RoundExample
+pub mod SlotExamples
 pub mod FullModel
 pub mod RefusalExamples
 pub mod Promises

@@ -8,6 +8,7 @@ use Rattle.examples.proofs.ReasonExamples.{reason-examples}
 use Rattle.examples.proofs.PoolModels.{model-examples}
 use Rattle.examples.proofs.PatternMeaning.{pattern-meaning}
 use Rattle.examples.proofs.RoundExample.{round-example}
+use Rattle.examples.proofs.SlotExamples.{slot-examples}
 use Rattle.examples.proofs.RefusalExamples.{refusal-examples}
 
 pub promises : Promises
@@ -20,5 +21,6 @@ promises = record {
   model-examples = model-examples;
   pattern-meaning = pattern-meaning;
   round-example = round-example;
+  slot-examples = slot-examples;
   refusal-examples = refusal-examples;
 }

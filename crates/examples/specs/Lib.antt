@@ -7,5 +7,6 @@ pub mod ReasonExamples
 pub mod ModelExamples
 pub mod PatternMeaning
 pub mod RoundExample
+pub mod SlotExamples
 pub mod RefusalExamples
 pub mod Promises

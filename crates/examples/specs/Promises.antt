@@ -10,6 +10,7 @@ use Rattle.examples.specs.ReasonExamples.{ReasonExamples}
 use Rattle.examples.specs.ModelExamples.{ModelExamples}
 use Rattle.examples.specs.PatternMeaning.{PatternMeaning}
 use Rattle.examples.specs.RoundExample.{RoundExample}
+use Rattle.examples.specs.SlotExamples.{SlotExamples}
 use Rattle.examples.specs.RefusalExamples.{RefusalExamples}
 
 pub record Promises : Type 1 where
@@ -21,4 +22,5 @@ pub record Promises : Type 1 where
   pub model-examples : ModelExamples
   pub pattern-meaning : (ps : List Pattern) (i : ℕ) → PatternMeaning ps i
   pub round-example : RoundExample
+  pub slot-examples : SlotExamples
   pub refusal-examples : RefusalExamples

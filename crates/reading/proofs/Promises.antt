@@ -5,7 +5,7 @@ use Rattle.reading.proofs.Refusing.FaultsRefused.{refuses-at-the-fault,
 use Rattle.reading.proofs.Refusing.PatternFaults.{refuses-pattern}
 use Rattle.reading.proofs.Numbering.NumberedLaws.{numbers-nodes, numbers-patterns}
 use Rattle.reading.proofs.Settling.Prefix.{settled-by-first-bytes, not-by-fewer}
-use Rattle.reading.proofs.Measures.Extents.{covers-means, measures-pattern}
+use Rattle.reading.proofs.Measures.Extents.{covers-means, measures-pattern, told-by-set}
 use Rattle.reading.proofs.Measures.Rings.{goes-round}
 use Rattle.reading.proofs.Measures.SlotSets.{measures-slots}
 use Rattle.reading.proofs.Measures.SlotTable.{words-of-slots}
@@ -29,4 +29,5 @@ promises = record {
   words-of-slots = words-of-slots;
   sets-of-slots = sets-of-slots;
   measures-slots = measures-slots;
+  told-by-set = told-by-set;
 }

@@ -129,6 +129,13 @@ pub record MeasuresSlots (holds : ℕ → Bool) (word : ℕ) : Type 0 where
   pub by-zeros : trailingZeros 32 word ≡ least 32 holds
   pub by-ones : ones word ≡ countBelow 32 holds
 
+-- So the card tells what a pattern covers: its kinds with the members of the set of its first and last slot. Of a well-formed pattern, the trailing zeros
+-- of the two words, of the mask and of that set, give the lowest code, and the ones of the two give the count.
+pub record ToldBySet (p : Pattern) (word : ℕ) : Type 0 where
+  pub covered : (code : ℕ) → (covers p code ≡ true) ↔ ((bit (kindOf code) (p .mask) ≡ 1) × (bit (slotOf code) word ≡ 1))
+  pub lowest : WellFormedPattern p → extentOf p .lowest ≡ trailingZeros 8 (p .mask) * 32 + trailingZeros 32 word
+  pub count : WellFormedPattern p → extentOf p .count ≡ ones (p .mask) * ones word
+
 -- ---- all of these
 
 -- The theorem `promises` has this type, so that each promise has its proof.
@@ -149,3 +156,4 @@ pub record Promises : Type 0 where
   pub words-of-slots : WordsOfSlots
   pub sets-of-slots : SetsOfSlots
   pub measures-slots : (holds : ℕ → Bool) (word : ℕ) → IsSlotSet holds word → MeasuresSlots holds word
+  pub told-by-set : (p : Pattern) (word : ℕ) → IsSlotSet (named (p .first) (p .last)) word → ToldBySet p word

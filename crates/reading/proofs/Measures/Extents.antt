@@ -10,12 +10,13 @@ use lib.Count.{ones, trailingZeros}
 use borrow.Author.Tests.{eqb-true, eq-eqb, lt-leb}
 use Rattle.reading.specs.Pattern.{kindOf, slotOf, bit, named, IsSlotSet, covers, least, countBelow, lowestSlot, slotWidth}
 use Rattle.reading.specs.Pattern.{WellFormedPattern}
-use Rattle.reading.specs.Promises.{CoversMeans, MeasuresPattern}
+use Rattle.reading.specs.Promises.{CoversMeans, MeasuresPattern, ToldBySet}
 use Rattle.reading.specs.declared.Pattern.{Pattern}
 use Rattle.reading.proofs.Measures.Bits.{isSet, trailing-is-least, trailing-lt, ones-is-count}
 use Rattle.reading.proofs.Measures.Counting.{least-holds, least-below, count-below-le}
 use Rattle.reading.proofs.Measures.NamedSlots.{named-means, named-extent, lowest-slot-lt}
 use Rattle.reading.proofs.Measures.SlotSets.{measures-slots}
+use Rattle.reading.proofs.Measures.TwoEnds.{sets-of-slots}
 use Rattle.reading.proofs.Measures.Products.{ofBoth, least-of-both, count-below-of-both}
 
 -- ---- what a pattern covers
@@ -61,24 +62,16 @@ module _ (p : Pattern) (ok : WellFormedPattern p) where
       rw (covers-both, ones-is-count 8 (p .mask) (omega arith), ← slots .1)
       (count-below-of-both (isSet (p .mask)) (named (p .first) (p .last)) 8)
 
-  -- both by the word of the set of slots
-  module _ (word : ℕ) (set : IsSlotSet (named (p .first) (p .last)) word) where
-    pub slot-zeros : trailingZeros 32 word ≡ lowestSlot (p .first) (p .last)
-    slot-zeros = measures-slots (named (p .first) (p .last)) word set .by-zeros ∙ slots .0
-
-    pub slot-ones : ones word ≡ slotWidth (p .first) (p .last)
-    slot-ones = measures-slots (named (p .first) (p .last)) word set .by-ones ∙ slots .1
-
   -- neither is past the 256 codes
-  pub lowest-fits : trailingZeros 8 (p .mask) * 32 + lowestSlot (p .first) (p .last) < 256
-  lowest-fits = omega (arith, lowest-kind, slot-inside)
+  pub lowest-fits : least 256 (covers p) < 256
+  lowest-fits = rw lowest-code (omega (arith, lowest-kind, slot-inside))
 
-  pub count-fits : ones (p .mask) * slotWidth (p .first) (p .last) ≤ 256
-  count-fits = rw code-count at (count-below-le 256 (covers p))
+  pub count-fits : countBelow 256 (covers p) ≤ 256
+  count-fits = count-below-le 256 (covers p)
 
   pub measures-pattern : MeasuresPattern p
   measures-pattern = record {
-    covered = least-holds 256 (covers p) (rw lowest-code lowest-fits);
+    covered = least-holds 256 (covers p) lowest-fits;
     least = λ code h. not-below code h (decLe (least 256 (covers p)) code);
     round-lowest = λ h. let slot : lowestSlot (p .first) (p .last) ≡ 0 = rw (lt-leb (p .first) (p .last) h) in omega (arith, lowest-code);
     by-zeros = lowest-code;
@@ -88,3 +81,24 @@ module _ (p : Pattern) (ok : WellFormedPattern p) where
       not-below : (code : ℕ) → covers p code ≡ true → Dec (least 256 (covers p) ≤ code) → least 256 (covers p) ≤ code
       not-below code h (yes y) = y
       not-below code h (no m) = absurd (true≢false (sym h ∙ least-below 256 (covers p) code (lt-of-not-le m)))
+
+-- ---- both by the word of the set of slots
+
+module _ (p : Pattern) (word : ℕ) (set : IsSlotSet (named (p .first) (p .last)) word) where
+  lowest-by-set : WellFormedPattern p → least 256 (covers p) ≡ trailingZeros 8 (p .mask) * 32 + trailingZeros 32 word
+  lowest-by-set ok = omega (arith, lowest-code p ok, slots p ok .0, measures-slots (named (p .first) (p .last)) word set .by-zeros)
+
+  count-by-set : WellFormedPattern p → countBelow 256 (covers p) ≡ ones (p .mask) * ones word
+  count-by-set ok = rw (measures-slots (named (p .first) (p .last)) word set .by-ones, slots p ok .1) (code-count p ok)
+
+  pub told-by-set : ToldBySet p word
+  told-by-set = record {
+    covered = λ code.
+        let means = covers-means p code in
+        let exactly = sets-of-slots (p .first) (p .last) word .0 set (slotOf code) in (
+          λ h. let (kind, slot) = means .0 h in (kind, exactly .1 (omega arith, slot)),
+          λ (kind, slot). means .1 (kind, exactly .0 slot .1),
+        );
+    lowest = lowest-by-set;
+    count = count-by-set;
+  }
