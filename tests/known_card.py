@@ -1,4 +1,4 @@
-"""Words of slot sets, typed by hand: the first and the last of the 33 widths and some over 32; sets of one slot, in order, round the ring, and with
+"""Words of slot sets, typed by hand: the first, the last and two others of the 33 widths, and some over 32; sets of one slot, in order, round the ring, and with
 slots over 31, which name no slot of their own."""
 
 WIDTHS = {

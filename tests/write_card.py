@@ -28,12 +28,23 @@ def check_patterns():
             expect(Pattern(1, first, last).slots() == named(first, last), "the slots of", first, last)
 
 
+def check_ends(ends):
+    """Slot by slot the ends tell the same, and the slots under a width are those from 0 to the last one under it."""
+    for first, last in ends:
+        for slot in range(SLOTS):
+            inside = first <= slot <= last if first <= last else slot >= first or slot <= last
+            expect((slot in named(first, last)) == inside, "slot", slot, "of", first, last)
+    for last in range(MOST):
+        expect(under(last + 1) == named(0, last), "the slots under", last + 1)
+
+
 def main():
     checks = is_check(__doc__)
     check_typed_words()
     check_patterns()
     widths = [*range(MOST), *FAR_WIDTHS]
     ends = [(first, last) for first in range(MOST) for last in range(MOST)] + FAR_ENDS
+    check_ends(ends)
     lines = [f"under {width} {word(under(width))}" for width in widths]
     lines += [f"set {first} {last} {word(named(first, last))}" for first, last in ends]
     settle("card", b"", lines, checks)

@@ -3,7 +3,7 @@ use mathlib.Core.Path.{refl}
 use native.Mathlib.Omega.{arith}
 use Rattle.reading.specs.Pattern.{bit, least}
 use Rattle.reading.proofs.Measures.SlotSets.{slot-set-is, measures-slots}
-use Rattle.examples.specs.SlotExamples.{Under, Set, SlotExamples}
+use Rattle.examples.specs.SlotExamples.{SlotsUnder, SlotsNamed, SlotExamples}
 
 pub slot-examples : SlotExamples
 unfolding bit least
@@ -24,8 +24,8 @@ slot-examples = record {
   round-over = slot-set-is _ 4294967295 refl;
 }
   where
-    three : Under 3 7
+    three : SlotsUnder 3 7
     three = slot-set-is _ 7 refl
 
-    round : Set 30 2 3221225479
+    round : SlotsNamed 30 2 3221225479
     round = slot-set-is _ 3221225479 refl

@@ -2,7 +2,7 @@
 ghost use lib.Dec.{ltb};
 ghost use Rattle.reading.specs.Pattern.{named, IsSlotSet};
 
-// Word w has the slots under w. That of 32 can't be had by a shift, since a word has no more than 32 bits.
+// The card: word w has the slots under w.
 const SLOTS_UNDER: [u32; 33] = [
     0,
     1,
