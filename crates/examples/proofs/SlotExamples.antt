@@ -1,4 +1,4 @@
--- Each word is found by computing its 32 bits; a word with one slot less isn't the set, since the set has no other word.
+-- Each word is found by computing its 32 bits; another word isn't the set, since a set has one word.
 use mathlib.Core.Path.{refl}
 use native.Mathlib.Omega.{arith}
 use Rattle.reading.specs.Pattern.{bit, least}
@@ -12,7 +12,9 @@ slot-examples = record {
   three = three;
   all = slot-set-is _ 4294967295 refl;
   no-more = slot-set-is _ 4294967295 refl;
-  not-the-third = λ h. omega (arith, measures-slots _ 7 three .only 3 h);
+  not-3 = λ h. omega (arith, measures-slots _ 7 three .only 3 h);
+  not-15 = λ h. omega (arith, measures-slots _ 7 three .only 15 h);
+  not-bit-32 = λ h. omega (arith, measures-slots _ 7 three .only 4294967303 h);
   one = slot-set-is _ 32 refl;
   eight = slot-set-is _ 65280 refl;
   round = round;

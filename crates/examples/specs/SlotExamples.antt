@@ -14,7 +14,10 @@ pub record SlotExamples : Type 0 where
   pub three : SlotsUnder 3 7
   pub all : SlotsUnder 32 4294967295
   pub no-more : SlotsUnder 33 4294967295
-  pub not-the-third : SlotsUnder 3 3 → ⊥
+  -- not with a slot less, a slot more, or a bit that is no slot's
+  pub not-3 : SlotsUnder 3 3 → ⊥
+  pub not-15 : SlotsUnder 3 15 → ⊥
+  pub not-bit-32 : SlotsUnder 3 4294967303 → ⊥
   -- slot 5; slots 8 to 15
   pub one : SlotsNamed 5 5 32
   pub eight : SlotsNamed 8 15 65280

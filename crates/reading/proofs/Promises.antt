@@ -5,6 +5,7 @@ use Rattle.reading.proofs.Refusing.FaultsRefused.{refuses-at-the-fault,
 use Rattle.reading.proofs.Refusing.PatternFaults.{refuses-pattern}
 use Rattle.reading.proofs.Numbering.NumberedLaws.{numbers-nodes, numbers-patterns}
 use Rattle.reading.proofs.Settling.Prefix.{settled-by-first-bytes, not-by-fewer}
+use Rattle.reading.proofs.Measures.Bits.{binary-digits}
 use Rattle.reading.proofs.Measures.Extents.{covers-means, measures-pattern, told-by-set}
 use Rattle.reading.proofs.Measures.Rings.{goes-round}
 use Rattle.reading.proofs.Measures.SlotSets.{measures-slots}
@@ -23,6 +24,7 @@ promises = record {
   numbers-patterns = numbers-patterns;
   settled-by-first-bytes = settled-by-first-bytes;
   not-by-fewer = not-by-fewer;
+  binary-digits = binary-digits;
   covers-means = covers-means;
   goes-round = goes-round;
   measures-pattern = measures-pattern;

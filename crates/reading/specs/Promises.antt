@@ -1,5 +1,5 @@
 -- What this crate promises, as statements over the definitions; proofs/ has a theorem of each of these types.
-use Prim.Native.Nat.{ℕ, _+_, _-_, _*_, _%_, _^_, _≤_, _<_, min}
+use Prim.Native.Nat.{ℕ, suc, _+_, _-_, _*_, _/_, _%_, _^_, _≤_, _<_, min}
 use mathlib.Core.Path.{_≡_}
 use mathlib.Core.Logic.{_↔_, _⊎_}
 use mathlib.Core.Bool.{Bool, true}
@@ -81,7 +81,12 @@ SettledByFirstBytes = (s : List ℕ) (n : ℕ) → 257 ≤ n → ruleOf (take n 
 abbrev pub NotByFewer : Type 0
 NotByFewer = (s : List ℕ) × Bytes s × (ruleOf (take 256 s) ≡ refused 1 256) × (ruleOf s ≡ refused 4 256)
 
--- 4. What a pattern covers: the codes of its kinds with the slots from first to last, or, where first is over last, with those from first on and with
+-- 4. The bits of a number are its binary digits: the lowest is the number modulo 2, and those above are the bits of its half.
+pub record BinaryDigits : Type 0 where
+  pub lowest : (n : ℕ) → bit 0 n ≡ n % 2
+  pub above : (i n : ℕ) → bit (suc i) n ≡ bit i (n / 2)
+
+-- 5. What a pattern covers: the codes of its kinds with the slots from first to last, or, where first is over last, with those from first on and with
 -- those up to last.
 abbrev pub Names : (first last slot : ℕ) → Type 0
 Names first last slot = ((first ≤ last) × (first ≤ slot) × (slot ≤ last)) ⊎ ((last < first) × ((first ≤ slot) ⊎ (slot ≤ last)))
@@ -109,8 +114,8 @@ pub record MeasuresPattern (p : Pattern) : Type 0 where
   pub by-zeros : extentOf p .lowest ≡ trailingZeros 8 (p .mask) * 32 + lowestSlot (p .first) (p .last)
   pub by-ones : extentOf p .count ≡ ones (p .mask) * slotWidth (p .first) (p .last)
 
--- 5. Words as sets of slots. `slots_under` and `slot_set` ensure `IsSlotSet`, the one of the slots under a width and the other of those that first and
--- last name. In words:
+-- 6. Words as sets of slots. `slots_under` and `slot_set` ensure `IsSlotSet`, the one of the slots under a width and the other of those that first and
+-- last name. In words, a slot is a member where its bit is 1, and there are slots up to 31 only:
 abbrev pub HasExactly : (word : ℕ) (Member : ℕ → Type 0) → Type 0
 HasExactly word Member = (slot : ℕ) → (bit slot word ≡ 1) ↔ ((slot ≤ 31) × Member slot)
 
@@ -119,9 +124,10 @@ pub record WordsOfSlots : Type 0 where
   pub members : (width word : ℕ) → IsSlotSet (λ slot. ltb slot width) word ↔ HasExactly word (λ slot. slot < width)
   pub power : (width word : ℕ) → IsSlotSet (λ slot. ltb slot width) word ↔ (word ≡ 2 ^ min width 32 - 1)
 
--- The set of any first and last, round the ring too, has exactly the slots that these name.
-abbrev pub SetsOfSlots : Type 0
-SetsOfSlots = (first last word : ℕ) → IsSlotSet (named first last) word ↔ HasExactly word (Names first last)
+-- Any first and last have a set, round the ring too, and it has exactly the slots that these name.
+pub record SetsOfSlots : Type 0 where
+  pub exists : (first last : ℕ) → (word : ℕ) × IsSlotSet (named first last) word
+  pub members : (first last word : ℕ) → IsSlotSet (named first last) word ↔ HasExactly word (Names first last)
 
 -- The word of a set, whatever test its members pass: there is no other; its trailing zeros are the least member, and its ones are how many there are.
 pub record MeasuresSlots (holds : ℕ → Bool) (word : ℕ) : Type 0 where
@@ -129,8 +135,8 @@ pub record MeasuresSlots (holds : ℕ → Bool) (word : ℕ) : Type 0 where
   pub by-zeros : trailingZeros 32 word ≡ least 32 holds
   pub by-ones : ones word ≡ countBelow 32 holds
 
--- So the card tells what a pattern covers: its kinds with the members of the set of its first and last slot. Of a well-formed pattern, the trailing zeros
--- of the two words, of the mask and of that set, give the lowest code, and the ones of the two give the count.
+-- So the set of a pattern's first and last slot tells what it covers: the codes of its kinds with the members of the set. Of a well-formed pattern, the
+-- trailing zeros of the mask and of the set give the lowest code, and the ones of the two give the count.
 pub record ToldBySet (p : Pattern) (word : ℕ) : Type 0 where
   pub covered : (code : ℕ) → (covers p code ≡ true) ↔ ((bit (kindOf code) (p .mask) ≡ 1) × (bit (slotOf code) word ≡ 1))
   pub lowest : WellFormedPattern p → extentOf p .lowest ≡ trailingZeros 8 (p .mask) * 32 + trailingZeros 32 word
@@ -150,6 +156,7 @@ pub record Promises : Type 0 where
   pub numbers-patterns : (r : Rule) → NumbersPatterns r
   pub settled-by-first-bytes : SettledByFirstBytes
   pub not-by-fewer : NotByFewer
+  pub binary-digits : BinaryDigits
   pub covers-means : CoversMeans
   pub goes-round : (p : Pattern) → p .first ≤ 31 → p .last ≤ 31 → GoesRound p
   pub measures-pattern : (p : Pattern) → WellFormedPattern p → MeasuresPattern p

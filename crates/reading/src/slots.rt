@@ -49,8 +49,8 @@ pub fn slots_under(width: usize) -> u32
     SLOTS_UNDER[width]
 }
 
-// The slots that first and last name. A slot lies between the two ends when it is under one of them and not under the other; where first is over last,
-// the others are named.
+// The slots that first and last name. Between first and last + 1 lie the slots that are under one of the two and not under the other. Where first isn't
+// over last these are named, and else all others.
 pub fn slot_set(first: u8, last: u8) -> u32
     ensures { λ r. ⌜ IsSlotSet (named first last) r ⌝ }
 {

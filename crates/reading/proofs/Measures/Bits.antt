@@ -9,6 +9,7 @@ use lib.Bits.{bitXor, differ, xor-shr, xor-step}
 use lib.Dec.{eqb}
 use lib.Count.{ones, trailingZeros, under, ones-step}
 use Rattle.reading.specs.Pattern.{bit, least, countBelow}
+use Rattle.reading.specs.Promises.{BinaryDigits}
 use Rattle.reading.proofs.Measures.Counting.{count-below-first}
 
 -- ---- the lowest bit, and the bits above it
@@ -20,6 +21,9 @@ bit-zero n = rw (div-one n)
 pub bit-suc : (i n : ℕ) → bit (suc i) n ≡ bit i (n / 2)
 unfolding bit
 bit-suc i n = rw (pow-suc 2 i, mul-comm (2 ^ i) 2, ← div-div-eq-div-mul n 2 (2 ^ i))
+
+pub binary-digits : BinaryDigits
+binary-digits = record { lowest = bit-zero; above = bit-suc }
 
 pub bit-small : (i n : ℕ) → bit i n < 2
 unfolding bit

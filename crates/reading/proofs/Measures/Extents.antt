@@ -1,5 +1,5 @@
--- What a pattern covers: the trailing zeros of its mask give the lowest code, and the ones how many codes. A pattern tests the kind of a code and its
--- slot, each by itself; so the lowest code has the lowest kind and the lowest slot, and the count is a product.
+-- What a pattern covers: the trailing zeros of its mask and of its set of slots give the lowest code, and their ones how many codes. A pattern tests the
+-- kind of a code and its slot, each by itself; so the lowest code has the lowest kind and the lowest slot, and the count is a product.
 use mathlib.Core.Path.{_≡_, refl, sym, _∙_}
 use mathlib.Core.Bool.{true, true≢false, and-eq-true-iff}
 use Prim.Native.Nat.{ℕ, _+_, _*_, _≤_, _<_}
@@ -62,16 +62,12 @@ module _ (p : Pattern) (ok : WellFormedPattern p) where
       rw (covers-both, ones-is-count 8 (p .mask) (omega arith), ← slots .1)
       (count-below-of-both (isSet (p .mask)) (named (p .first) (p .last)) 8)
 
-  -- neither is past the 256 codes
-  pub lowest-fits : least 256 (covers p) < 256
-  lowest-fits = rw lowest-code (omega (arith, lowest-kind, slot-inside))
-
-  pub count-fits : countBelow 256 (covers p) ≤ 256
-  count-fits = count-below-le 256 (covers p)
+  lowest-lt : least 256 (covers p) < 256
+  lowest-lt = rw lowest-code (omega (arith, lowest-kind, slot-inside))
 
   pub measures-pattern : MeasuresPattern p
   measures-pattern = record {
-    covered = least-holds 256 (covers p) lowest-fits;
+    covered = least-holds 256 (covers p) lowest-lt;
     least = λ code h. not-below code h (decLe (least 256 (covers p)) code);
     round-lowest = λ h. let slot : lowestSlot (p .first) (p .last) ≡ 0 = rw (lt-leb (p .first) (p .last) h) in omega (arith, lowest-code);
     by-zeros = lowest-code;
@@ -95,10 +91,17 @@ module _ (p : Pattern) (word : ℕ) (set : IsSlotSet (named (p .first) (p .last)
   told-by-set = record {
     covered = λ code.
         let means = covers-means p code in
-        let exactly = sets-of-slots (p .first) (p .last) word .0 set (slotOf code) in (
+        let exactly = sets-of-slots .members (p .first) (p .last) word .0 set (slotOf code) in (
           λ h. let (kind, slot) = means .0 h in (kind, exactly .1 (omega arith, slot)),
           λ (kind, slot). means .1 (kind, exactly .0 slot .1),
         );
     lowest = lowest-by-set;
     count = count-by-set;
   }
+
+  -- neither is past the 256 codes
+  pub lowest-fits : WellFormedPattern p → trailingZeros 8 (p .mask) * 32 + trailingZeros 32 word < 256
+  lowest-fits ok = omega (arith, lowest-lt p ok, lowest-by-set ok)
+
+  pub count-fits : WellFormedPattern p → ones (p .mask) * ones word ≤ 256
+  count-fits ok = rw (count-by-set ok) at (count-below-le 256 (covers p))

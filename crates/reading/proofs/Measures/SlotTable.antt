@@ -20,13 +20,13 @@ table =
     0 ∷ 1 ∷ 3 ∷ 7 ∷ 15 ∷ 31 ∷ 63 ∷ 127 ∷ 255 ∷ 511 ∷ 1023 ∷ 2047 ∷ 4095 ∷ 8191 ∷ 16383 ∷ 32767 ∷ 65535 ∷ 131071 ∷ 262143 ∷ 524287 ∷ 1048575 ∷ 2097151
     ∷ 4194303 ∷ 8388607 ∷ 16777215 ∷ 33554431 ∷ 67108863 ∷ 134217727 ∷ 268435455 ∷ 536870911 ∷ 1073741823 ∷ 2147483647 ∷ 4294967295 ∷ []
 
-abbrev pub under : (width slot : ℕ) → Bool
-under width slot = ltb slot width
+abbrev pub isUnder : (width slot : ℕ) → Bool
+isUnder width slot = ltb slot width
 
 -- ---- the test
 
 right : (width : ℕ) → Bool
-right width = isSlotSet (under width) (getD table width 0) && eqb (getD table width 0) (2 ^ width - 1)
+right width = isSlotSet (isUnder width) (getD table width 0) && eqb (getD table width 0) (2 ^ width - 1)
 
 all-right : every 33 right ≡ true
 unfolding right table bit least
@@ -34,26 +34,26 @@ all-right = refl
 
 -- ---- the rule at each width
 
-right-at : (width : ℕ) → width < 33 → IsSlotSet (under width) (getD table width 0) × (getD table width 0 ≡ 2 ^ width - 1)
+right-at : (width : ℕ) → width < 33 → IsSlotSet (isUnder width) (getD table width 0) × (getD table width 0 ≡ 2 ^ width - 1)
 unfolding right
 right-at width h =
-    let (set, power) = and-eq-true-iff (isSlotSet (under width) (getD table width 0)) (eqb (getD table width 0) (2 ^ width - 1)) .0
+    let (set, power) = and-eq-true-iff (isSlotSet (isUnder width) (getD table width 0)) (eqb (getD table width 0) (2 ^ width - 1)) .0
     (every-is 33 right .0 all-right width h) in
-    (slot-set-is (under width) (getD table width 0) set, eqb-true _ _ power)
+    (slot-set-is (isUnder width) (getD table width 0) set, eqb-true _ _ power)
 
-pub word-slots : (width : ℕ) → width ≤ 32 → IsSlotSet (under width) (getD table width 0)
+pub word-slots : (width : ℕ) → width ≤ 32 → IsSlotSet (isUnder width) (getD table width 0)
 word-slots width h = right-at width (omega arith) .0
 
 -- over 32 there are no more slots
-pub all-slots : (width word : ℕ) → 32 ≤ width → IsSlotSet (under 32) word → IsSlotSet (under width) word
-all-slots width word h = same-slots (under 32) (under width) word (λ slot l. rw (lt-ltb slot 32 l, lt-ltb slot width (omega arith)))
+pub all-slots : (width word : ℕ) → 32 ≤ width → IsSlotSet (isUnder 32) word → IsSlotSet (isUnder width) word
+all-slots width word h = same-slots (isUnder 32) (isUnder width) word (λ slot l. rw (lt-ltb slot 32 l, lt-ltb slot width (omega arith)))
 
 -- ---- the words
 
-power : (width : ℕ) → IsSlotSet (under width) (2 ^ min width 32 - 1)
+pub power : (width : ℕ) → IsSlotSet (isUnder width) (2 ^ min width 32 - 1)
 power width = by (decLe width 32)
   where
-    by : Dec (width ≤ 32) → IsSlotSet (under width) (2 ^ min width 32 - 1)
+    by : Dec (width ≤ 32) → IsSlotSet (isUnder width) (2 ^ min width 32 - 1)
     by (yes h) = let e : min width 32 ≡ width = omega arith in rw e (let (set, power) = right-at width (omega arith) in rw power at set)
     by (no h) =
         let over = lt-of-not-le h in
@@ -62,6 +62,6 @@ power width = by (decLe width 32)
 
 pub words-of-slots : WordsOfSlots
 words-of-slots = record {
-  members = λ width. in-words (under width) (λ slot. slot < width) (λ slot. (ltb-true slot width, lt-ltb slot width));
-  power = λ width word. (λ set. measures-slots (under width) (2 ^ min width 32 - 1) (power width) .only word set, λ e. rw e (power width));
+  members = λ width. in-words (isUnder width) (λ slot. slot < width) (λ slot. (ltb-true slot width, lt-ltb slot width));
+  power = λ width word. (λ set. measures-slots (isUnder width) (2 ^ min width 32 - 1) (power width) .only word set, λ e. rw e (power width));
 }

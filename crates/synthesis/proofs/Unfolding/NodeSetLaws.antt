@@ -119,9 +119,6 @@ nonempty-member e h = nonempty-member-below e e (omega arith) h
 abbrev pub toggled : ℕ → ℕ → ℕ
 toggled e k = bitXor e (singleton k)
 
-bit-toggled : (e k n : ℕ) → bit n (toggled e k) ≡ differ (bit n e) (bit n (singleton k))
-bit-toggled e k = bit-xor e (singleton k)
-
 differ-none : (x y : ℕ) → y < 2 → (y ≡ 1 → ⊥) → differ x y ≡ x
 differ-none zero zero h n = refl
 differ-none (suc x) zero h n = refl
@@ -133,7 +130,7 @@ pub toggled-other : (e k n : ℕ) → (k ≡ n → ⊥) → Has (toggled e k) n 
 toggled-other e k n d = (λ h. sym bit-same ∙ h, λ h. bit-same ∙ h)
   where
     bit-same : bit n (toggled e k) ≡ bit n e
-    bit-same = bit-toggled e k n ∙ differ-none (bit n e) (bit n (singleton k)) (bit-small n (singleton k)) (λ h. d (singleton-has k n h))
+    bit-same = bit-xor e (singleton k) n ∙ differ-none (bit n e) (bit n (singleton k)) (bit-small n (singleton k)) (λ h. d (singleton-has k n h))
 
 pub toggled-lt : (e k : ℕ) → Has e k → toggled e k < e
 toggled-lt e k h =

@@ -9,29 +9,19 @@ slot-set-requires : tie.Need-slot-set-requires
 slot-set-requires c κs = search needs
 
 mul-lowest : tie.Need-mul-lowest
-mul-lowest c =
-    let ok = c .before .before .pre in
-    omega (arith, lowest-fits _ ok, told-by-set _ _ (c .before .slot-set .ensures) .lowest ok)
+mul-lowest c = omega (arith, lowest-fits _ _ (c .before .slot-set .ensures) (c .before .before .pre))
 
 add-lowest : tie.Need-add-lowest
-add-lowest c =
-    let ok = c .before .before .pre in
-    omega (arith, lowest-fits _ ok, told-by-set _ _ (c .before .slot-set .ensures) .lowest ok)
+add-lowest c = omega (arith, lowest-fits _ _ (c .before .slot-set .ensures) (c .before .before .pre))
 
 mul-count : tie.Need-mul-count
-mul-count c =
-    let ok = c .before .before .before .pre in
-    rw (← told-by-set _ _ (c .before .before .slot-set .ensures) .count ok) (omega (arith, count-fits _ ok))
+mul-count c = omega (arith, count-fits _ _ (c .before .before .slot-set .ensures) (c .before .before .before .pre))
 
 cast-t8 : tie.Need-cast-t8
-cast-t8 c =
-    let ok = c .before .before .before .pre in
-    omega (arith, lowest-fits _ ok, told-by-set _ _ (c .before .before .slot-set .ensures) .lowest ok)
+cast-t8 c = omega (arith, lowest-fits _ _ (c .before .before .slot-set .ensures) (c .before .before .before .pre))
 
 cast-t9 : tie.Need-cast-t9
-cast-t9 c =
-    let ok = c .before .before .before .pre in
-    rw (← told-by-set _ _ (c .before .before .slot-set .ensures) .count ok) (omega (arith, count-fits _ ok))
+cast-t9 c = omega (arith, count-fits _ _ (c .before .before .slot-set .ensures) (c .before .before .before .pre))
 
 returns : tie.Need-returns
 returns c =
