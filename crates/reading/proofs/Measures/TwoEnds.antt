@@ -1,4 +1,4 @@
--- The set of two ends. Of the slots under last + 1 and those isUnder first, the exclusive or has those that lie between the ends, and these are named where
+-- The set of two ends. Of the slots under last + 1 and those under first, the exclusive or has those that lie between the ends, and these are named where
 -- first isn't over last. Where it is, they are the ones that aren't named, and the exclusive or with all slots has the rest.
 use mathlib.Core.Path.{_≡_}
 use mathlib.Core.Bool.{xor}
