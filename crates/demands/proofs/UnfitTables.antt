@@ -12,7 +12,8 @@ use lib.Dec.{eqb, ltb}
 use lib.ListN.{length, getD}
 use borrow.Author.Tests.{eqb-false, ltb-false}
 use Rattle.reading.proofs.Basics.Outcomes.{or-eq-false}
-use Rattle.reading.proofs.Measures.BoundedTests.{every, every-fails, every-is}
+use Rattle.reading.specs.Pattern.{every}
+use Rattle.reading.proofs.Measures.BoundedTests.{every-fails, every-is}
 use Rattle.synthesis.specs.Table.{InRange, WellFormedTable}
 use Rattle.synthesis.proofs.Tables.WellFormedTables.{well-formed-room, well-formed-entry, well-formed-by-bytes}
 use Rattle.running.specs.Running.{inRange}

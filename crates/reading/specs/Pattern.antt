@@ -2,7 +2,7 @@
 -- kind whether it belongs, first and last name the slots. `Pattern` and `Extent` are the structs of src/lib.rt.
 use Prim.Native.Nat.{ℕ, _+_, _-_, _*_, _/_, _%_, zero, suc, _^_, _≤_, _<_}
 use mathlib.Core.Path.{_≡_}
-use mathlib.Core.Bool.{Bool, cond, _&&_, _||_}
+use mathlib.Core.Bool.{Bool, cond, not, _&&_, _||_}
 use lib.Dec.{leb, eqb}
 use Rattle.reading.specs.declared.Pattern.{Pattern}
 use Rattle.reading.specs.declared.Extent.{Extent}
@@ -65,6 +65,10 @@ covers p code = eqb (bit (kindOf code) (p .mask)) 1 && named (p .first) (p .last
 unfoldable pub least : ℕ → (ℕ → Bool) → ℕ
 least zero holds = zero
 least (suc n) holds = cond (holds zero) zero (suc (least n (λ i. holds (suc i))))
+
+-- a test holds of every number below n
+abbrev pub every : ℕ → (ℕ → Bool) → Bool
+every n holds = leb n (least n (λ i. not (holds i)))
 
 -- how many numbers below n a test holds of
 unfoldable pub countBelow : ℕ → (ℕ → Bool) → ℕ

@@ -3,6 +3,7 @@ pub mod Unfolding
 pub mod Monitors
 pub mod Numberings
 pub mod Tables
+pub mod Quotients
 pub mod Reasons
 pub mod Functions
 pub mod Promises

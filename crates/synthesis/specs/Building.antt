@@ -1,15 +1,17 @@
--- What counting and building answer, and what building leaves in the table that it is lent. The limit on equations and the mark for
--- dropped are any; the paper's are 128 and 255.
+-- What counting and the two builds answer, and what the builds leave in the table that they are lent. The limit on equations and the mark for
+-- dropped are any; the paper's are `most` and `mark`.
 use Prim.Native.Nat.{ℕ, _*_, _≤_}
 use mathlib.Core.Path.{_≡_}
 use mathlib.Core.List.{List}
 use lib.Dec.{ltb}
-use lib.ListN.{length}
+use lib.ListN.{length, getD}
 use Rattle.reading.specs.Rule.{Rule, Bytes}
 use Rattle.reading.specs.File.{Outcome, accepted, refused, refuse, andThen, ruleOf}
+use Rattle.synthesis.specs.Monitor.{Answer, dropped, next, cases}
 use Rattle.synthesis.specs.Answering.{firstOf, answerOf, unsatisfiable}
-use Rattle.synthesis.specs.Search.{found}
+use Rattle.synthesis.specs.Search.{indexOf, found}
 use Rattle.synthesis.specs.Table.{filled}
+use Rattle.synthesis.specs.Merging.{rounds, firsts, merged}
 use Rattle.synthesis.specs.declared.Counted.{Counted}
 use Rattle.synthesis.specs.declared.Counted.the-variants.{Equations, Refused}
 
@@ -17,14 +19,15 @@ use Rattle.synthesis.specs.declared.Counted.the-variants.{Equations, Ref
 unfoldable pub equationsOf : (limit : ℕ) → Rule → List ℕ
 equationsOf limit r = found 256 (answerOf r) limit (firstOf r)
 
--- a rule and its equations
+-- a rule, its equations, and what each of these answers to a code
 pub record Synthesis : Type 0 where
   pub rule : Rule
   pub equations : List ℕ
+  pub answer : (e c : ℕ) → Answer ℕ
 
 -- a rule with the equations that the search finds
 abbrev pub withEquations : (limit : ℕ) → Rule → Synthesis
-withEquations limit r = record { rule = r; equations = equationsOf limit r }
+withEquations limit r = record { rule = r; equations = equationsOf limit r; answer = answerOf r }
 
 -- The outcome of a rule: 8 where opening node 0 gives ff, 9 where the equations are over the limit.
 abbrev pub synthesisOfRule : (limit : ℕ) → Rule → Outcome Synthesis
@@ -48,17 +51,51 @@ countedOf (refused number place) = Refused number place
 
 -- What each outcome leaves in a table, with a mark for dropped: the rows of the equations, or no change.
 abbrev pub tableAfter : (mark : ℕ) → Outcome Synthesis → List ℕ → List ℕ
-tableAfter mark (accepted y) table = filled mark (answerOf (y .rule)) (y .equations) 256 table
+tableAfter mark (accepted y) table = filled mark (y .answer) (y .equations) 256 table
 tableAfter mark (refused number place) table = table
 
 -- what building leaves in a table
 abbrev pub tableLeft : (limit mark : ℕ) → (s table : List ℕ) → List ℕ
 tableLeft limit mark s table = tableAfter mark (buildingOf limit s (length table)) table
 
--- Building accepts the file s as the rule r, answers n equations and leaves `left` in the table. The mark is no equation's number.
-pub record Builds (limit mark : ℕ) (s table : List ℕ) (r : Rule) (n : ℕ) (left : List ℕ) : Type 0 where
+-- ---- the short build
+
+-- what equation k, by its number, answers to a code, with the number of an equation for the equation
+abbrev pub numberedAnswer : Synthesis → (k c : ℕ) → Answer ℕ
+numberedAnswer y k c = cases (y .answer (getD (y .equations) k 0) c) dropped (λ e. next (indexOf e (y .equations)))
+
+-- The classes of the equations, by their numbers. As many rounds as there are equations are enough.
+abbrev pub classesOf : Synthesis → List ℕ
+classesOf y = rounds 256 (numberedAnswer y) (length (y .equations)) (length (y .equations))
+
+-- the same rule with the first equation of each class for its equations
+unfoldable pub shortened : Synthesis → Synthesis
+shortened y = record {
+  rule = y .rule;
+  equations = firsts (classesOf y) (length (y .equations));
+  answer = merged (classesOf y) (numberedAnswer y);
+}
+
+-- The outcome of the short build: that of building, and then its equations are merged. So 9 counts them before.
+unfoldable pub shortBuildingOf : (limit : ℕ) → List ℕ → (capacity : ℕ) → Outcome Synthesis
+shortBuildingOf limit s capacity = andThen (buildingOf limit s capacity) (λ y. accepted (shortened y))
+
+-- ---- what builds
+
+-- By a build with these outcomes, the file s is accepted as the rule r, n equations are answered, and `left` is left in the table. The mark is no
+-- equation's number.
+pub record BuildsBy (outcomeOf : (limit : ℕ) → List ℕ → (capacity : ℕ) → Outcome Synthesis) (limit mark : ℕ) (s table : List ℕ) (r : Rule) (n : ℕ)
+    (left : List ℕ) : Type 0 where
   pub below : limit ≤ mark
   pub bytes : Bytes s
   pub read : ruleOf s ≡ accepted r
-  pub counted : countedOf (buildingOf limit s (length table)) ≡ Equations n
-  pub left-is : left ≡ tableLeft limit mark s table
+  pub counted : countedOf (outcomeOf limit s (length table)) ≡ Equations n
+  pub left-is : left ≡ tableAfter mark (outcomeOf limit s (length table)) table
+
+-- by the first build
+abbrev pub Builds : (limit mark : ℕ) → (s table : List ℕ) → Rule → (n : ℕ) → (left : List ℕ) → Type 0
+Builds limit mark s table r n left = BuildsBy buildingOf limit mark s table r n left
+
+-- by the short one
+abbrev pub BuildsShort : (limit mark : ℕ) → (s table : List ℕ) → Rule → (n : ℕ) → (left : List ℕ) → Type 0
+BuildsShort limit mark s table r n left = BuildsBy shortBuildingOf limit mark s table r n left

@@ -6,9 +6,11 @@ pub mod Opening
 pub mod Answering
 pub mod Search
 pub mod Table
+pub mod Merging
 pub mod Building
 pub mod Reason
 pub mod ReasonPromises
 pub mod Promises
+pub mod ShortPromises
 pub mod Arrays
 pub mod Plans

@@ -1,6 +1,6 @@
 -- Monitors that suppress: their runs over lists of codes, tables as monitors, and what it is to monitor a rule. The states of a monitor are of any
 -- type; the paper calls them equations, and its sets of nodes and the numbers of a table's rows are two such types. The number of codes and the mark
--- for dropped are any; the paper's are 256 and 255.
+-- for dropped are any; the paper's are 256 and `mark`.
 use Prim.Native.Nat.{ℕ, _+_, _*_}
 use mathlib.Core.Path.{_≡_}
 use mathlib.Core.Logic.{_↔_}
@@ -10,6 +10,16 @@ use lib.Dec.{eqb, leb}
 use lib.ListN.{length, getD, take, drop}
 use Rattle.reading.specs.Rule.{Rule, Bytes}
 use Rattle.synthesis.specs.Violation.{ViolatesRule}
+
+-- ---- the paper's numbers
+
+-- the mark for dropped
+abbrev pub mark : ℕ
+mark = 255
+
+-- the most equations that a table has
+abbrev pub most : ℕ
+most = 128
 
 -- ---- runs
 

@@ -5,6 +5,8 @@ use lib.ListN.{length, take}
 use Rattle.reading.specs.File.{Outcome, accepted, refused, byCase}
 use Rattle.reading.specs.declared.FileRead.{FileRead}
 use Rattle.reading.specs.declared.FileRead.the-variants.{Accepted, Refused}
+use Rattle.synthesis.specs.Monitor.{most}
+use Rattle.synthesis.specs.Answering.{answerOf}
 use Rattle.synthesis.specs.Building.{Synthesis, countedOf}
 use Rattle.synthesis.specs.Arrays.{IsGraph}
 use Rattle.synthesis.specs.declared.Counted.{Counted}
@@ -23,9 +25,10 @@ refusalOf (Refused number place) = counted.Refused number place
 -- what a plan has to fill the rows of a synthesis from
 pub record Fills (y : Synthesis) (p : Plan) : Type 0 where
   pub graph-is : IsGraph (y .rule) (p .graph)
+  pub answer-is : y .answer ≡ answerOf (y .rule)
   pub found-is : take (length (y .equations)) (p .found) ≡ y .equations
-  pub few : length (y .equations) ≤ 128
-  pub found-length : length (p .found) ≡ 128
+  pub few : length (y .equations) ≤ most
+  pub found-length : length (p .found) ≡ most
 
 abbrev pub CanFill : Outcome Synthesis → Plan → Type 0
 CanFill (accepted y) p = Fills y p

@@ -5,14 +5,15 @@ use crate::search::reached;
 ghost use mathlib.Core.Path.{_≡_};
 ghost use Prim.Native.Nat.{_*_, _≤_, _<_};
 ghost use lib.ListN.{length, take};
+ghost use Rattle.synthesis.specs.Monitor.{mark, most};
 ghost use Rattle.synthesis.specs.Answering.{answerFrom};
 ghost use Rattle.synthesis.specs.Table.{entryOf, entriesOf, filled};
 ghost use Rattle.synthesis.specs.Arrays.{answerBy};
 
 // The entry for a set of reached nodes: dropped where it has an ff node, else its index among the n equations.
 fn entry(found: &[u64], n: usize, falsities: u64, reached: u64) -> u8
-    requires { ⌜ (n ≤ 128) × (n ≤ length (now found)) ⌝ }
-    ensures { λ r. ⌜ r ≡ entryOf 255 (take n (now (found .entry))) (answerFrom falsities reached) ⌝ }
+    requires { ⌜ (n ≤ most) × (n ≤ length (now found)) ⌝ }
+    ensures { λ r. ⌜ r ≡ entryOf mark (take n (now (found .entry))) (answerFrom falsities reached) ⌝ }
 {
     if reached & falsities != 0 {
         return DROPPED;
@@ -30,9 +31,9 @@ fn fill_row(
     e: u64,
     row: &mut [u8],
 )
-    requires { ⌜ (length (now after) ≡ 64) × (length (now enabled) ≡ 256) × (n ≤ 128) × (n ≤ length (now found)) × (length (now row) ≡ 256) ⌝ }
+    requires { ⌜ (length (now after) ≡ 64) × (length (now enabled) ≡ 256) × (n ≤ most) × (n ≤ length (now found)) × (length (now row) ≡ 256) ⌝ }
     ensures { λ _. ⌜ now (row .exit)
-        ≡ entriesOf 255 (answerBy (now (after .entry)) (now (enabled .entry)) falsities) (take n (now (found .entry))) e 256 ⌝ }
+        ≡ entriesOf mark (answerBy (now (after .entry)) (now (enabled .entry)) falsities) (take n (now (found .entry))) e 256 ⌝ }
 {
     let mut c: usize = 0;
     while c < 256 {
@@ -51,9 +52,9 @@ pub(crate) fn fill(
     n: usize,
     table: &mut [u8],
 )
-    requires { ⌜ (length (now after) ≡ 64) × (length (now enabled) ≡ 256) × (n ≤ 128) × (n ≤ length (now found)) × (256 * n ≤ length (now table)) ⌝ }
+    requires { ⌜ (length (now after) ≡ 64) × (length (now enabled) ≡ 256) × (n ≤ most) × (n ≤ length (now found)) × (256 * n ≤ length (now table)) ⌝ }
     ensures { λ _. ⌜ now (table .exit)
-        ≡ filled 255 (answerBy (now (after .entry)) (now (enabled .entry)) falsities) (take n (now (found .entry))) 256 (now (table .entry)) ⌝ }
+        ≡ filled mark (answerBy (now (after .entry)) (now (enabled .entry)) falsities) (take n (now (found .entry))) 256 (now (table .entry)) ⌝ }
 {
     let mut k: usize = 0;
     while k < n {

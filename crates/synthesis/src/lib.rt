@@ -9,7 +9,7 @@ use graph::Graph;
 use reading::FileRead;
 ghost use mathlib.Core.Path.{_≡_};
 ghost use lib.ListN.{length};
-ghost use Rattle.synthesis.specs.Monitor.{rowOf};
+ghost use Rattle.synthesis.specs.Monitor.{mark, most, rowOf};
 ghost use Rattle.synthesis.specs.Building.{synthesisOf, buildingOf, countedOf, tableAfter};
 ghost use Rattle.synthesis.specs.Reason.{explanationOf, reasonOf};
 ghost use Rattle.synthesis.specs.Plans.{refusalOf, IsPlan};
@@ -62,7 +62,7 @@ fn no_plan(answer: Counted) -> Plan
 
 // Reads a rule file and finds the equations of its rule.
 fn plan_of(rule: &[u8]) -> Plan
-    ensures { λ r. ⌜ IsPlan (synthesisOf 128 (now (rule .entry))) r ⌝ }
+    ensures { λ r. ⌜ IsPlan (synthesisOf most (now (rule .entry))) r ⌝ }
 {
     let reading = reading::read_rule(rule);
     let answer = reading.answer;
@@ -89,15 +89,15 @@ fn plan_of(rule: &[u8]) -> Plan
 
 // Answers how many equations the rule of a file has, or a refusal of 1 to 9.
 pub fn count(rule: &[u8]) -> Counted
-    ensures { λ r. ⌜ r ≡ countedOf (synthesisOf 128 (now (rule .entry))) ⌝ }
+    ensures { λ r. ⌜ r ≡ countedOf (synthesisOf most (now (rule .entry))) ⌝ }
 {
     plan_of(rule).answer
 }
 
 // Fills a table with a row for each equation of the rule of a file, and answers how many there are. A refused call leaves the table as it was.
 pub fn build(rule: &[u8], table: &mut [u8]) -> Counted
-    ensures { λ r. ⌜ r ≡ countedOf (buildingOf 128 (now (rule .entry)) (length (now (table .entry)))) ⌝ }
-    ensures { λ _. ⌜ now (table .exit) ≡ tableAfter 255 (buildingOf 128 (now (rule .entry)) (length (now (table .entry)))) (now (table .entry)) ⌝ }
+    ensures { λ r. ⌜ r ≡ countedOf (buildingOf most (now (rule .entry)) (length (now (table .entry)))) ⌝ }
+    ensures { λ _. ⌜ now (table .exit) ≡ tableAfter mark (buildingOf most (now (rule .entry)) (length (now (table .entry)))) (now (table .entry)) ⌝ }
 {
     if table.len() < 32768 {
         return Counted::Refused(10, 0);
@@ -130,7 +130,7 @@ pub fn row(table: &[u8], k: usize) -> &[u8]
 // Answers why a scan is dropped after the scans kept so far, by the lowest ff node that it opens, or that it is kept. A refusal of 1 to 9, or 17 where
 // the kept scans violate the rule themselves.
 pub fn explain(rule: &[u8], kept: &[u8], scan: u8) -> Reason
-    ensures { λ r. ⌜ r ≡ reasonOf (explanationOf 128 (now (rule .entry)) (now (kept .entry)) scan) ⌝ }
+    ensures { λ r. ⌜ r ≡ reasonOf (explanationOf most (now (rule .entry)) (now (kept .entry)) scan) ⌝ }
 {
     let plan = plan_of(rule);
     let answer = plan.answer;

@@ -3,7 +3,7 @@ ghost use mathlib.Core.Path.{_≡_};
 ghost use Prim.Native.Nat.{ℕ, _≤_, _<_};
 ghost use mathlib.Core.List.{List};
 ghost use lib.ListN.{length, getD, take};
-ghost use Rattle.synthesis.specs.Monitor.{cases};
+ghost use Rattle.synthesis.specs.Monitor.{most, cases};
 ghost use Rattle.synthesis.specs.NodeSet.{intersection};
 ghost use Rattle.synthesis.specs.Answering.{answerFrom};
 ghost use Rattle.synthesis.specs.Search.{indexOf, insert, explored, expanded, found};
@@ -50,8 +50,8 @@ pub(crate) fn find(list: &[u64], n: usize, e: u64) -> usize
 
 // Puts a set after the first n of the list if it is new. 129 says that there was no room for it.
 fn insert(list: &mut [u64], n: usize, e: u64) -> usize
-    requires { ⌜ length (now list) ≡ 128 ⌝ }
-    ensures { λ r. ⌜ ((l : List ℕ) → Holds 128 (now (list .entry)) n l → Holds 128 (now (list .exit)) r (insert l e)) ⌝ }
+    requires { ⌜ length (now list) ≡ most ⌝ }
+    ensures { λ r. ⌜ ((l : List ℕ) → Holds most (now (list .entry)) n l → Holds most (now (list .exit)) r (insert l e)) ⌝ }
 {
     if 128 < n {
         return n;
@@ -69,9 +69,9 @@ fn insert(list: &mut [u64], n: usize, e: u64) -> usize
 
 // Inserts the next equation, unless the set of reached nodes has an ff node.
 fn insert_answer(list: &mut [u64], n: usize, falsities: u64, reached: u64) -> usize
-    requires { ⌜ length (now list) ≡ 128 ⌝ }
-    ensures { λ r. ⌜ ((l : List ℕ) → Holds 128 (now (list .entry)) n l
-        → Holds 128 (now (list .exit)) r (cases (answerFrom falsities reached) l (insert l))) ⌝ }
+    requires { ⌜ length (now list) ≡ most ⌝ }
+    ensures { λ r. ⌜ ((l : List ℕ) → Holds most (now (list .entry)) n l
+        → Holds most (now (list .exit)) r (cases (answerFrom falsities reached) l (insert l))) ⌝ }
 {
     if reached & falsities != 0 {
         return n;
@@ -88,9 +88,9 @@ fn explore(
     n: usize,
     e: u64,
 ) -> usize
-    requires { ⌜ (length (now after) ≡ 64) × (length (now enabled) ≡ 256) × (length (now list) ≡ 128) ⌝ }
-    ensures { λ r. ⌜ ((l : List ℕ) → Holds 128 (now (list .entry)) n l
-        → Holds 128 (now (list .exit)) r (explored 256 (answerBy (now (after .entry)) (now (enabled .entry)) falsities) e 256 l)) ⌝ }
+    requires { ⌜ (length (now after) ≡ 64) × (length (now enabled) ≡ 256) × (length (now list) ≡ most) ⌝ }
+    ensures { λ r. ⌜ ((l : List ℕ) → Holds most (now (list .entry)) n l
+        → Holds most (now (list .exit)) r (explored 256 (answerBy (now (after .entry)) (now (enabled .entry)) falsities) e 256 l)) ⌝ }
 {
     let mut m = n;
     let mut c: usize = 0;
@@ -111,9 +111,9 @@ fn expand(
     n: usize,
     k: usize,
 ) -> usize
-    requires { ⌜ (length (now after) ≡ 64) × (length (now enabled) ≡ 256) × (length (now list) ≡ 128) × (k < 128) ⌝ }
-    ensures { λ r. ⌜ ((l : List ℕ) → Holds 128 (now (list .entry)) n l
-        → Holds 128 (now (list .exit)) r (expanded 256 (answerBy (now (after .entry)) (now (enabled .entry)) falsities) k l)) ⌝ }
+    requires { ⌜ (length (now after) ≡ 64) × (length (now enabled) ≡ 256) × (length (now list) ≡ most) × (k < most) ⌝ }
+    ensures { λ r. ⌜ ((l : List ℕ) → Holds most (now (list .entry)) n l
+        → Holds most (now (list .exit)) r (expanded 256 (answerBy (now (after .entry)) (now (enabled .entry)) falsities) k l)) ⌝ }
 {
     if 128 < n {
         return n;
@@ -133,8 +133,8 @@ pub(crate) fn search(
     first: u64,
     list: &mut [u64],
 ) -> usize
-    requires { ⌜ (length (now after) ≡ 64) × (length (now enabled) ≡ 256) × (length (now list) ≡ 128) ⌝ }
-    ensures { λ r. ⌜ Holds 128 (now (list .exit)) r (found 256 (answerBy (now (after .entry)) (now (enabled .entry)) falsities) 128 first) ⌝ }
+    requires { ⌜ (length (now after) ≡ 64) × (length (now enabled) ≡ 256) × (length (now list) ≡ most) ⌝ }
+    ensures { λ r. ⌜ Holds most (now (list .exit)) r (found 256 (answerBy (now (after .entry)) (now (enabled .entry)) falsities) most first) ⌝ }
 {
     list[0] = first;
     let mut n: usize = 1;

@@ -8,7 +8,8 @@ use native.Mathlib.Omega.{arith}
 use lib.Dec.{ltb}
 use lib.ListN.{length, getD}
 use borrow.Author.Tests.{ltb-true, lt-ltb}
-use Rattle.reading.proofs.Measures.BoundedTests.{every, every-is, every-fails}
+use Rattle.reading.specs.Pattern.{every}
+use Rattle.reading.proofs.Measures.BoundedTests.{every-is, every-fails}
 use Rattle.synthesis.specs.Search.{indexOf}
 use Rattle.synthesis.proofs.Numberings.Indices.{Member, index-is, member-at, without, without-length, without-member}
 

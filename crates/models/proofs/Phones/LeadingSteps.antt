@@ -7,7 +7,8 @@ use mathlib.Core.List.{List}
 use lib.Dec.{eqb}
 use lib.ListN.{length, getD}
 use borrow.Author.Tests.{eq-eqb, eqb-true}
-use Rattle.reading.proofs.Measures.BoundedTests.{every, every-is}
+use Rattle.reading.specs.Pattern.{every}
+use Rattle.reading.proofs.Measures.BoundedTests.{every-is}
 use Rattle.enforcement.specs.Model.{Label}
 use Rattle.models.specs.Phone.{StepIn, labelOf, noStep}
 use Rattle.models.specs.declared.Step.{Step}

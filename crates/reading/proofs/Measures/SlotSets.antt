@@ -10,10 +10,10 @@ use native.Mathlib.Omega.{arith}
 use lib.Bits.{bitXor, differ, xor-lt}
 use lib.Dec.{eqb, ltb}
 use borrow.Author.Tests.{eqb-true, eq-eqb, ltb-true}
-use Rattle.reading.specs.Pattern.{bit, IsSlotSet}
+use Rattle.reading.specs.Pattern.{bit, IsSlotSet, every}
 use Rattle.reading.specs.Promises.{HasExactly, MeasuresSlots}
 use Rattle.reading.proofs.Measures.Bits.{bit-not-set, bit-over, bits-under, bits-same, bit-xor, isSet, trailing-is-least, ones-is-count}
-use Rattle.reading.proofs.Measures.BoundedTests.{every, every-is}
+use Rattle.reading.proofs.Measures.BoundedTests.{every-is}
 use Rattle.reading.proofs.Measures.Counting.{least-same, count-below-same}
 
 -- ---- found by computing

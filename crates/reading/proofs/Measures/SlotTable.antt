@@ -10,9 +10,9 @@ use native.Mathlib.Omega.{arith}
 use lib.Dec.{eqb, ltb}
 use lib.ListN.{getD}
 use borrow.Author.Tests.{eqb-true, ltb-true, lt-ltb}
-use Rattle.reading.specs.Pattern.{bit, IsSlotSet, least}
+use Rattle.reading.specs.Pattern.{bit, IsSlotSet, least, every}
 use Rattle.reading.specs.Promises.{WordsOfSlots}
-use Rattle.reading.proofs.Measures.BoundedTests.{every, every-is}
+use Rattle.reading.proofs.Measures.BoundedTests.{every-is}
 use Rattle.reading.proofs.Measures.SlotSets.{isSlotSet, slot-set-is, same-slots, measures-slots, in-words}
 
 unfoldable pub table : List ℕ

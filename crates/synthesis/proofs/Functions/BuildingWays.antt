@@ -5,6 +5,7 @@ use mathlib.Core.List.{List}
 use native.Mathlib.Omega.{arith}
 use lib.ListN.{length, take}
 use Rattle.reading.specs.File.{Outcome, accepted, refused}
+use Rattle.synthesis.specs.Monitor.{mark, most, Answer}
 use Rattle.synthesis.specs.Answering.{answerOf}
 use Rattle.synthesis.specs.Table.{filled}
 use Rattle.synthesis.specs.Building.{Synthesis, synthesisOf, buildingOf, countedOf, tableAfter}
@@ -22,23 +23,23 @@ use Rattle.synthesis.proofs.Functions.GraphLaws.{graph-answers}
 -- the answer and the table after a call
 abbrev BuildLeaves : (s table : List ℕ) → (answer : Counted) → (after : List ℕ) → Type 0
 BuildLeaves s table answer after =
-    (answer ≡ countedOf (buildingOf 128 s (length table))) × (after ≡ tableAfter 255 (buildingOf 128 s (length table)) table)
+    (answer ≡ countedOf (buildingOf most s (length table))) × (after ≡ tableAfter mark (buildingOf most s (length table)) table)
 
 pub short-leaves : (s table : List ℕ) → length table < 32768 → BuildLeaves s table (Refused 10 0) table
-short-leaves s table h = rw (building-short 128 s (length table) h) (refl, refl)
+short-leaves s table h = rw (building-short most s (length table) h) (refl, refl)
 
 -- ---- a plan that is refused
 
 refused-leaves : (o : Outcome Synthesis) (table : List ℕ) (number place : ℕ) → countedOf o ≡ Refused number place
-    → table ≡ tableAfter 255 o table
+    → table ≡ tableAfter mark o table
 refused-leaves (accepted y) table number place e = let z : _≡_ {A = ℕ} 0 1 = cc in absurd (omega arith)
 refused-leaves (refused number′ place′) table number place e = refl
 
-pub refused-plan-leaves : (s table : List ℕ) (p : Plan) → IsPlan (synthesisOf 128 s) p → {number place : ℕ} → p .answer ≡ Refused number place
+pub refused-plan-leaves : (s table : List ℕ) (p : Plan) → IsPlan (synthesisOf most s) p → {number place : ℕ} → p .answer ≡ Refused number place
     → 32768 ≤ length table → BuildLeaves s table (p .answer) table
 refused-plan-leaves s table p is e h =
-    rw (building-enough 128 s (length table) h)
-    (is .answer-is, refused-leaves (synthesisOf 128 s) table _ _ (sym (is .answer-is) ∙ e))
+    rw (building-enough most s (length table) h)
+    (is .answer-is, refused-leaves (synthesisOf most s) table _ _ (sym (is .answer-is) ∙ e))
 
 -- ---- a plan with a count
 
@@ -56,15 +57,16 @@ outcome-counted (refused number place) p n e f = let z : _≡_ {A = ℕ} 0 1 = c
 pub plan-counted : {o : Outcome Synthesis} (p : Plan) (n : ℕ) → IsPlan o p → p .answer ≡ Equations n → CountedPlan o p n
 plan-counted {o} p n is e = outcome-counted o p n (sym e ∙ is .answer-is) (is .fills)
 
-pub filled-leaves : (s table after : List ℕ) (p : Plan) (n : ℕ) → CountedPlan (synthesisOf 128 s) p n → 32768 ≤ length table
-    → after ≡ filled 255 (answerBy (p .graph .after) (p .graph .enabled) (p .graph .falsities)) (take n (p .found)) 256 table
+pub filled-leaves : (s table after : List ℕ) (p : Plan) (n : ℕ) → CountedPlan (synthesisOf most s) p n → 32768 ≤ length table
+    → after ≡ filled mark (answerBy (p .graph .after) (p .graph .enabled) (p .graph .falsities)) (take n (p .found)) 256 table
     → BuildLeaves s table (Equations n) after
 filled-leaves s table after p n c h e =
     let answers = answerBy (p .graph .after) (p .graph .enabled) (p .graph .falsities) in
     let agree = graph-answers (p .graph) (c .fills .graph-is) in
     let same : take n (p .found) ≡ c .synthesis .equations = ap (λ (k : ℕ). take k (p .found)) (c .count-is) ∙ c .fills .found-is in
-    rw (building-enough 128 s (length table) h, c .is) (
+    rw (building-enough most s (length table) h, c .is) (
       ap Equations (c .count-is),
-      e ∙ ap (λ (l : List ℕ). filled 255 answers l 256 table) same
-          ∙ filled-cong 255 256 answers (answerOf (c .synthesis .rule)) agree (c .synthesis .equations) table,
+      e ∙ ap (λ (l : List ℕ). filled mark answers l 256 table) same
+          ∙ filled-cong mark 256 answers (answerOf (c .synthesis .rule)) agree (c .synthesis .equations) table
+          ∙ ap (λ (a : ℕ → ℕ → Answer ℕ). filled mark a (c .synthesis .equations) 256 table) (sym (c .fills .answer-is)),
     )

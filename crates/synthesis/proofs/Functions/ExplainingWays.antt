@@ -9,6 +9,7 @@ use lib.ListN.{getD}
 use Rattle.reading.specs.Rule.{Bytes}
 use Rattle.reading.specs.File.{Outcome, accepted, refused}
 use Rattle.reading.proofs.Basics.Outcomes.{Distinct, byCase-value, byCase-refused}
+use Rattle.synthesis.specs.Monitor.{most}
 use Rattle.synthesis.specs.NodeSet.{intersection}
 use Rattle.synthesis.specs.Answering.{firstOf, answerOf}
 use Rattle.synthesis.specs.Building.{synthesisOf}
@@ -28,11 +29,11 @@ use Rattle.synthesis.proofs.Functions.BuildingWays.{CountedPlan}
 
 -- ---- a plan that is refused
 
-pub refused-plan-reason : (s w : List ℕ) (c : ℕ) (p : Plan) → IsPlan (synthesisOf 128 s) p → {number place : ℕ}
-    → p .answer ≡ Counted.Refused number place → (reason : Reason) → reason ≡ unexplainedOf (p .answer) → reason ≡ reasonOf (explanationOf 128 s w c)
+pub refused-plan-reason : (s w : List ℕ) (c : ℕ) (p : Plan) → IsPlan (synthesisOf most s) p → {number place : ℕ}
+    → p .answer ≡ Counted.Refused number place → (reason : Reason) → reason ≡ unexplainedOf (p .answer) → reason ≡ reasonOf (explanationOf most s w c)
 unfolding explanationOf
 refused-plan-reason s w c p is {number} {place} e reason said =
-    rw (counted-refuses (synthesisOf 128 s) number place (sym (is .answer-is) ∙ e), said, e)
+    rw (counted-refuses (synthesisOf most s) number place (sym (is .answer-is) ∙ e), said, e)
 
 -- ---- a plan with a count
 
@@ -43,7 +44,7 @@ followed-cases = record {
   disjoint = λ e number place q. let z : _≡_ {A = ℕ} 0 1 = cc in absurd (omega arith);
 }
 
-module _ (s w : List ℕ) (bytes : Bytes w) (c : ℕ) {n : ℕ} (p : Plan) (counted : CountedPlan (synthesisOf 128 s) p n) (f : Followed)
+module _ (s w : List ℕ) (bytes : Bytes w) (c : ℕ) {n : ℕ} (p : Plan) (counted : CountedPlan (synthesisOf most s) p n) (f : Followed)
     (is : f ≡ followedOf (followed (answerBy (p .graph .after) (p .graph .enabled) (p .graph .falsities)) (p .graph .first) 0 w)) where
   -- where the scans lead
   abbrev leads : Outcome ℕ
@@ -58,7 +59,7 @@ module _ (s w : List ℕ) (bytes : Bytes w) (c : ℕ) {n : ℕ} (p : Plan) (coun
       ∙ ap (λ (e : ℕ). followed (answerOf (counted .synthesis .rule)) e 0 w) (graph .first-is))
 
   -- one of the scans is dropped
-  pub dropped-reason : (number place : ℕ) → f ≡ Followed′.Refused number place → Refused number place ≡ reasonOf (explanationOf 128 s w c)
+  pub dropped-reason : (number place : ℕ) → f ≡ Followed′.Refused number place → Refused number place ≡ reasonOf (explanationOf most s w c)
   unfolding explanationOf
   dropped-reason number place e =
       let to : leads ≡ refused number place = byCase-refused followed-cases (λ x. x) leads number place (sym e ∙ leads-is) in
@@ -67,7 +68,7 @@ module _ (s w : List ℕ) (bytes : Bytes w) (c : ℕ) {n : ℕ} (p : Plan) (coun
   -- none is, and they lead to the equation e
   pub kept-reason : (e : ℕ) → f ≡ Followed′.Equation e → c < 256 → (set : ℕ)
       → set ≡ gathered (p .graph .after) (intersection e (getD (p .graph .enabled) c 0))
-      → lowestOf (bitAnd set (p .graph .falsities)) ≡ reasonOf (explanationOf 128 s w c)
+      → lowestOf (bitAnd set (p .graph .falsities)) ≡ reasonOf (explanationOf most s w c)
   unfolding explanationOf
   kept-reason e q code set reached =
       let to : leads ≡ accepted e = byCase-value followed-cases leads e (sym q ∙ leads-is) in

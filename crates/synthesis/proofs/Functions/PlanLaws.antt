@@ -17,6 +17,7 @@ use Rattle.reading.specs.declared.Reading.{Reading}
 use Rattle.reading.specs.declared.NumberedRule.{NumberedRule}
 use Rattle.reading.proofs.Accepting.Accepted.{accepts-encodings}
 use Rattle.reading.proofs.Numbering.Listings.{size-positive}
+use Rattle.synthesis.specs.Monitor.{most}
 use Rattle.synthesis.specs.NodeSet.{emptySet, intersection}
 use Rattle.synthesis.specs.Answering.{answerOf, unsatisfiable}
 use Rattle.synthesis.specs.Search.{found}
@@ -94,9 +95,9 @@ module _ {s : List ℕ} {n : NumberedRule} (d : Read s n) (g : Graph) (is : (r :
   unsatisfiable-test = rw (graph .first-is, graph .falsities-are)
 
   pub unsatisfiable-plan : (bitAnd (g .first) (g .falsities) ≡ 0 → ⊥) → {p : Plan} → p .answer ≡ counted.Refused 8 0
-      → IsPlan (synthesisOf 128 s) p
+      → IsPlan (synthesisOf most s) p
   unsatisfiable-plan h e =
-      refused-plan 128 s 8 0 (refuses-eight 128 s (d .rule) (d .is) (rw (unsatisfiable-test, ne-eqb (intersection (g .first) (g .falsities)) emptySet h))) e
+      refused-plan most s 8 0 (refuses-eight most s (d .rule) (d .is) (rw (unsatisfiable-test, ne-eqb (intersection (g .first) (g .falsities)) emptySet h))) e
 
   satisfiable-test : bitAnd (g .first) (g .falsities) ≡ 0 → unsatisfiable (d .rule) ≡ false
   satisfiable-test h = rw (unsatisfiable-test, eq-eqb (intersection (g .first) (g .falsities)) emptySet h)
@@ -104,31 +105,31 @@ module _ {s : List ℕ} {n : NumberedRule} (d : Read s n) (g : Graph) (is : (r :
   -- ---- refusal 9
 
   module _ (calm : bitAnd (g .first) (g .falsities) ≡ 0) (list : List ℕ) (count : ℕ)
-      (holds : Holds 128 list count (found 256 (answerBy (g .after) (g .enabled) (g .falsities)) 128 (g .first))) where
+      (holds : Holds most list count (found 256 (answerBy (g .after) (g .enabled) (g .falsities)) most (g .first))) where
     -- what the search over the graph finds is what the definition finds
-    equations-found : found 256 (answerBy (g .after) (g .enabled) (g .falsities)) 128 (g .first) ≡ equationsOf 128 (d .rule)
+    equations-found : found 256 (answerBy (g .after) (g .enabled) (g .falsities)) most (g .first) ≡ equationsOf most (d .rule)
     unfolding equationsOf
     equations-found =
-        found-cong 256 (answerBy (g .after) (g .enabled) (g .falsities)) (answerOf (d .rule)) (graph-answers g graph) 128 (g .first)
-        ∙ ap (found 256 (answerOf (d .rule)) 128) (graph .first-is)
+        found-cong 256 (answerBy (g .after) (g .enabled) (g .falsities)) (answerOf (d .rule)) (graph-answers g graph) most (g .first)
+        ∙ ap (found 256 (answerOf (d .rule)) most) (graph .first-is)
 
-    equations-held : Holds 128 list count (equationsOf 128 (d .rule))
+    equations-held : Holds most list count (equationsOf most (d .rule))
     equations-held = rw equations-found at holds
 
-    pub many-plan : 128 < count → {p : Plan} → p .answer ≡ counted.Refused 9 0 → IsPlan (synthesisOf 128 s) p
+    pub many-plan : most < count → {p : Plan} → p .answer ≡ counted.Refused 9 0 → IsPlan (synthesisOf most s) p
     many-plan h e =
-        refused-plan 128 s 9 0
-        (refuses-nine 128 s (d .rule) (d .is) (satisfiable-test calm) (held-many 128 list count (equationsOf 128 (d .rule)) equations-held h)) e
+        refused-plan most s 9 0
+        (refuses-nine most s (d .rule) (d .is) (satisfiable-test calm) (held-many most list count (equationsOf most (d .rule)) equations-held h)) e
 
     -- ---- the count
 
-    pub counted-plan : count ≤ 128 → length list ≡ 128
-        → IsPlan (synthesisOf 128 s) (record { answer = counted.Equations count; graph = g; found = list })
+    pub counted-plan : count ≤ most → length list ≡ most
+        → IsPlan (synthesisOf most s) (record { answer = counted.Equations count; graph = g; found = list })
     counted-plan h k =
-        let es : take count list ≡ equationsOf 128 (d .rule) = held-few 128 list count (equationsOf 128 (d .rule)) equations-held h in
-        let n : count ≡ length (equationsOf 128 (d .rule)) = sym (length-take-le count list (omega (arith, h, k))) ∙ ap length es in
-        rw (accepts-with-equations 128 s (d .rule) (d .is) (satisfiable-test calm) (omega (arith, n, h)))
+        let es : take count list ≡ equationsOf most (d .rule) = held-few most list count (equationsOf most (d .rule)) equations-held h in
+        let n : count ≡ length (equationsOf most (d .rule)) = sym (length-take-le count list (omega (arith, h, k))) ∙ ap length es in
+        rw (accepts-with-equations most s (d .rule) (d .is) (satisfiable-test calm) (omega (arith, n, h)))
         (record {
           answer-is = ap counted.Equations n;
-          fills = record { graph-is = graph; found-is = rw (← n) es; few = omega (arith, n, h); found-length = k };
+          fills = record { graph-is = graph; answer-is = refl; found-is = rw (← n) es; few = omega (arith, n, h); found-length = k };
         })

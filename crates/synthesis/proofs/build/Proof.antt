@@ -1,6 +1,7 @@
 -- `build` meets its contract: each return is a row of what building answers and leaves.
 use native.Mathlib.Omega.{arith}
 use borrow.Author.Needs.{needs}
+use Rattle.synthesis.specs.Monitor.{most}
 use Rattle.synthesis.specs.Building.{synthesisOf}
 use Rattle.synthesis.proofs.Functions.BuildingWays.{short-leaves, refused-plan-leaves, CountedPlan, plan-counted, filled-leaves}
 use Rattle.synthesis.proofs.build.Statement.{statement}
@@ -8,7 +9,7 @@ use Rattle.synthesis.proofs.build.Tie as tie
 
 -- the plan of a rule that has a count
 counted : (c : tie.After-answer) → let p = c .before .before in
-    CountedPlan (synthesisOf 128 (p .before .before .before .before .args .rule .now)) (p .plan-of .result) (c .answer .given .0 .0)
+    CountedPlan (synthesisOf most (p .before .before .before .before .args .rule .now)) (p .plan-of .result) (c .answer .given .0 .0)
 counted c = plan-counted _ _ (c .before .before .plan-of .ensures) (c .answer .given .1)
 
 returns : tie.Need-returns

@@ -3,6 +3,7 @@ use mathlib.Core.Path.{_∙_}
 use borrow.Author.Needs.{needs}
 use Rattle.reading.proofs.Basics.ByteLaws.{slice-bytes}
 use Rattle.reading.specs.Rule.{Bytes}
+use Rattle.synthesis.specs.Monitor.{most}
 use Rattle.synthesis.specs.Building.{synthesisOf}
 use Rattle.synthesis.specs.declared.Plan.{Plan}
 use Rattle.synthesis.proofs.Functions.BuildingWays.{CountedPlan, plan-counted}
@@ -18,7 +19,7 @@ module _ (c : tie.After-follow) where
   abbrev plan : Plan
   plan = c .before .before .before .before .before .before .before .before .plan-of .result
 
-  counted : CountedPlan (synthesisOf 128 (start .args .rule .now)) plan (c .before .before .before .before .before .before .enum-told .given .0 .0)
+  counted : CountedPlan (synthesisOf most (start .args .rule .now)) plan (c .before .before .before .before .before .before .enum-told .given .0 .0)
   counted =
       let told = c .before .before .before .before .before .before in
       plan-counted _ _ (told .before .before .plan-of .ensures) (told .enum-told .given .1)

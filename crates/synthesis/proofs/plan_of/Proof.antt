@@ -1,6 +1,7 @@
 -- `plan_of` meets its contract: each return is the plan of what is made of the file.
 use borrow.Author.Needs.{needs}
 use Rattle.reading.proofs.Basics.ByteLaws.{slice-bytes}
+use Rattle.synthesis.specs.Monitor.{most}
 use Rattle.synthesis.proofs.Functions.PlanLaws.{Read, unread-plan, reading-read, read-some-numbered, unsatisfiable-plan, many-plan, counted-plan}
 use Rattle.synthesis.proofs.plan_of.Statement.{statement}
 use Rattle.synthesis.proofs.plan_of.Tie as tie
@@ -31,7 +32,7 @@ returns : tie.Need-returns
 returns c =
     let e = c .before .before in
     let r = e .before .before in
-    unread-plan 128 _ _ (r .read-rule .ensures) (e .enum-told2 .given .1) _ (c .before .refusal .ensures) _ (c .no-plan .ensures)
+    unread-plan most _ _ (r .read-rule .ensures) (e .enum-told2 .given .1) _ (c .before .refusal .ensures) _ (c .no-plan .ensures)
 
 of-rule-requires : tie.Need-of-rule-requires
 of-rule-requires c κs = read-some-numbered (read c)

@@ -6,6 +6,7 @@ use native.Mathlib.Omega.{arith}
 use lib.ListN.{length, take, drop, length-take, length-drop}
 use lib.Seq.{getD-take, length-take-le}
 use borrow.Author.Needs.{needs}
+use Rattle.synthesis.specs.Monitor.{mark}
 use Rattle.synthesis.specs.Table.{rows}
 use Rattle.synthesis.specs.Arrays.{answerBy}
 use Rattle.synthesis.proofs.Functions.FillingRows.{rows-keep-length, rows-next, rows-all}
@@ -14,14 +15,14 @@ use Rattle.synthesis.proofs.filling.fill.Tie as tie
 
 abbrev Inv-loop : tie.InvT-loop
 Inv-loop after enabled falsities found n table₀ k₀ table k =
-    (k ≤ n) × (table ≡ rows 255 (answerBy after enabled falsities) (take n found) 256 k ++ drop (256 * k) table₀)
+    (k ≤ n) × (table ≡ rows mark (answerBy after enabled falsities) (take n found) 256 k ++ drop (256 * k) table₀)
 
 abbrev μ-loop : tie.MeasureT-loop
 μ-loop after enabled falsities found n table₀ k₀ table k = n - k
 
 -- the table stays as long as it was
 length-kept : (c : tie.At-loop Inv-loop μ-loop) → length (c .loop .table) ≡ length (c .before .before .before .before .before .args .table .now)
-length-kept c = rows-keep-length 255 _ _ 256 _ _ _ (c .loop .inv .1) (search needs)
+length-kept c = rows-keep-length mark _ _ 256 _ _ _ (c .loop .inv .1) (search needs)
 
 loop-holds : tie.Need-loop-holds Inv-loop μ-loop
 unfolding rows
@@ -65,7 +66,7 @@ loop-again c =
     let l = row .before .before .before .before in
     let start = l .before .before .before .before .before in (
       search needs,
-      rows-next 255 _ _ 256 _ _ _ (l .loop .inv .1) _ _ (getD-take (start .args .n) _ _ 0 (omega arith)) (row .fill-row .ensures),
+      rows-next mark _ _ 256 _ _ _ (l .loop .inv .1) _ _ (getD-take (start .args .n) _ _ 0 (omega arith)) (row .fill-row .ensures),
     )
 
 same-length : tie.Need-same-length Inv-loop μ-loop
@@ -74,7 +75,7 @@ same-length c = length-kept (c .before)
 returns : tie.Need-returns Inv-loop μ-loop
 returns c =
     let args = c .before .before .before .before .before .before .args in
-    rows-all 255 _ _ 256 _ _ _ (c .before .loop .inv .1) (omega (arith, length-take-le (args .n) (args .found .now) (omega arith)))
+    rows-all mark _ _ 256 _ _ _ (c .before .loop .inv .1) (omega (arith, length-take-le (args .n) (args .found .now) (omega arith)))
 
 pub fill-spec : {M : Type 1} → statement M
 fill-spec =

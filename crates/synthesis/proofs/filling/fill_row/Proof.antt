@@ -5,6 +5,7 @@ use mathlib.Core.List.{_++_}
 use native.Mathlib.Omega.{arith}
 use lib.ListN.{length, take, drop}
 use borrow.Author.Needs.{needs}
+use Rattle.synthesis.specs.Monitor.{mark}
 use Rattle.synthesis.specs.Table.{entriesOf}
 use Rattle.synthesis.specs.Arrays.{answerBy}
 use Rattle.synthesis.proofs.Functions.FillingRows.{entries-next, entries-all}
@@ -13,7 +14,7 @@ use Rattle.synthesis.proofs.filling.fill_row.Tie as tie
 
 abbrev Inv-loop : tie.InvT-loop
 Inv-loop after enabled falsities found n e row₀ c₀ row c =
-    (c ≤ 256) × (length row ≡ 256) × (row ≡ entriesOf 255 (answerBy after enabled falsities) (take n found) e c ++ drop c row₀)
+    (c ≤ 256) × (length row ≡ 256) × (row ≡ entriesOf mark (answerBy after enabled falsities) (take n found) e c ++ drop c row₀)
 
 abbrev μ-loop : tie.MeasureT-loop
 μ-loop after enabled falsities found n e row₀ c₀ row c = 256 - c
@@ -43,7 +44,7 @@ loop-again c =
     let l = c .before .before .before in (
       search needs,
       search needs,
-      entries-next 255 _ _ _ _ _ _ (l .loop .inv .2) _ (omega arith) (c .entry .ensures ∙ rw (c .before .reached .ensures)),
+      entries-next mark _ _ _ _ _ _ (l .loop .inv .2) _ (omega arith) (c .entry .ensures ∙ rw (c .before .reached .ensures)),
     )
 
 same-length : tie.Need-same-length Inv-loop μ-loop
@@ -53,7 +54,7 @@ returns : tie.Need-returns Inv-loop μ-loop
 returns c =
     let start = c .before .before .before .before .before .before in
     let all : c .before .loop .c ≡ 256 = omega arith in
-    entries-all 255 _ _ _ (start .args .row .now) _ 256 (rw all at (c .before .loop .inv .2)) (omega arith)
+    entries-all mark _ _ _ (start .args .row .now) _ 256 (rw all at (c .before .loop .inv .2)) (omega arith)
 
 pub fill-row-spec : {M : Type 1} → statement M
 fill-row-spec =

@@ -6,6 +6,7 @@ use native.Mathlib.Numerals.{add-one}
 use native.Mathlib.Omega.{arith}
 use lib.ListN.{length}
 use borrow.Author.Needs.{needs}
+use Rattle.synthesis.specs.Monitor.{most}
 use Rattle.synthesis.specs.Search.{explored}
 use Rattle.synthesis.specs.Arrays.{answerBy, Holds}
 use Rattle.synthesis.proofs.search.explore.Statement.{statement}
@@ -13,8 +14,8 @@ use Rattle.synthesis.proofs.search.explore.Tie as tie
 
 abbrev Inv-loop : tie.InvT-loop
 Inv-loop after enabled falsities list₀ n e m₀ c₀ list m c =
-    (c ≤ 256) × (length list ≡ 128)
-    × ((l : List ℕ) → Holds 128 list₀ n l → Holds 128 list m (explored 256 (answerBy after enabled falsities) e c l))
+    (c ≤ 256) × (length list ≡ most)
+    × ((l : List ℕ) → Holds most list₀ n l → Holds most list m (explored 256 (answerBy after enabled falsities) e c l))
 
 abbrev μ-loop : tie.MeasureT-loop
 μ-loop after enabled falsities list₀ n e m₀ c₀ list m c = 256 - c

@@ -7,6 +7,7 @@ use native.Mathlib.Omega.{arith}
 use lib.ListN.{length}
 use lib.Seq.{take-suc-set}
 use borrow.Author.Needs.{needs}
+use Rattle.synthesis.specs.Monitor.{most}
 use Rattle.synthesis.specs.Search.{found}
 use Rattle.synthesis.specs.Arrays.{answerBy, Holds}
 use Rattle.synthesis.proofs.search.search.Statement.{statement}
@@ -14,10 +15,10 @@ use Rattle.synthesis.proofs.search.search.Tie as tie
 
 abbrev Inv-loop : tie.InvT-loop
 Inv-loop after enabled falsities first list₀ n₀ k₀ list n k =
-    (k ≤ 128) × (length list ≡ 128) × Holds 128 list n (found 256 (answerBy after enabled falsities) k first)
+    (k ≤ most) × (length list ≡ most) × Holds most list n (found 256 (answerBy after enabled falsities) k first)
 
 abbrev μ-loop : tie.MeasureT-loop
-μ-loop after enabled falsities first list₀ n₀ k₀ list n k = 128 - k
+μ-loop after enabled falsities first list₀ n₀ k₀ list n k = most - k
 
 slice-write-list : tie.Need-slice-write-list Inv-loop μ-loop
 slice-write-list c = search needs
@@ -55,7 +56,7 @@ same-length c = search needs
 
 returns : tie.Need-returns Inv-loop μ-loop
 returns c =
-    let all : c .before .loop .k ≡ 128 = omega arith in
+    let all : c .before .loop .k ≡ most = omega arith in
     rw all at (c .before .loop .inv .2)
 
 pub search-spec : {M : Type 1} → statement M

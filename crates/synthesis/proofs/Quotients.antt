@@ -1,0 +1,3 @@
+-- Equations that drop alike, their classes, and the table that is left when each class is one equation.
+pub mod Together
+pub mod Settled

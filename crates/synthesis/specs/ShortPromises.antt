@@ -1,0 +1,120 @@
+-- What this crate promises of the short build, as statements over the definitions; proofs/ has a theorem of each of these types. The limit on equations
+-- and the mark for dropped are any, the limit up to the mark; with `most` and `mark` these are the terms of the contracts of `build` and `build_short`.
+use Prim.Native.Nat.{ℕ, zero, suc, _≤_, _<_}
+use mathlib.Core.Path.{_≡_}
+use mathlib.Core.Logic.{_↔_}
+use mathlib.Core.List.{List, [], _∷_, _++_}
+use lib.ListN.{length}
+use Rattle.reading.specs.Rule.{Rule, Bytes}
+use Rattle.synthesis.specs.Monitor.{kept, verdicts, Monitors, rowOf, lookup}
+use Rattle.synthesis.specs.Table.{RowInRange, WellFormedTable}
+use Rattle.synthesis.specs.Merging.{DropAlike}
+use Rattle.synthesis.specs.Building.{buildingOf, shortBuildingOf, countedOf, tableAfter, Builds, BuildsShort}
+use Rattle.synthesis.specs.Promises.{DropsViolations, AsFound, SameAfterRows, TableUnchanged}
+use Rattle.synthesis.specs.declared.Counted.the-variants.{Equations, Refused}
+
+-- ---- answers
+
+-- 1. The short build is refused with a number and a place exactly when the first build is. Else its count is at least 1 and at most that of the first.
+pub record RefusesAlike (limit : ℕ) (s : List ℕ) (capacity : ℕ) : Type 0 where
+  pub refused : (number place : ℕ)
+      → (countedOf (shortBuildingOf limit s capacity) ≡ Refused number place) ↔ (countedOf (buildingOf limit s capacity) ≡ Refused number place)
+  pub counted : (n : ℕ) → countedOf (buildingOf limit s capacity) ≡ Equations n
+      → (m : ℕ) × (countedOf (shortBuildingOf limit s capacity) ≡ Equations m) × (1 ≤ m) × (m ≤ n)
+
+abbrev pub ShortRefusesAlike : Type 0
+ShortRefusesAlike = (limit : ℕ) (s : List ℕ) (capacity : ℕ) → RefusesAlike limit s capacity
+
+-- A short build that is refused leaves every byte of the table as it was.
+abbrev pub ShortRefusedUnchanged : Type 0
+ShortRefusedUnchanged =
+    (limit mark : ℕ) (s table : List ℕ) (number place : ℕ) → countedOf (shortBuildingOf limit s (length table)) ≡ Refused number place
+    → TableUnchanged mark table (shortBuildingOf limit s (length table))
+
+-- Where it answers a list of bytes with a count, it builds.
+abbrev pub ShortBuildsAccepted : Type 0
+ShortBuildsAccepted =
+    (limit mark : ℕ) (s table : List ℕ) (n : ℕ) → limit ≤ mark → Bytes s → countedOf (shortBuildingOf limit s (length table)) ≡ Equations n
+    → (r : Rule) × BuildsShort limit mark s table r n (tableAfter mark (shortBuildingOf limit s (length table)) table)
+
+-- ---- the short table as a monitor
+
+-- 2. The tables that the two builds leave drop and keep alike: from row 0, every list of bytes has the same verdicts and the same kept scans on both.
+pub record RunAlike (mark : ℕ) (long short w : List ℕ) : Type 0 where
+  pub verdicts-alike : verdicts (lookup 256 mark short) 0 w ≡ verdicts (lookup 256 mark long) 0 w
+  pub kept-alike : kept (lookup 256 mark short) 0 w ≡ kept (lookup 256 mark long) 0 w
+
+abbrev pub ShortDropsAlike : Type 0
+ShortDropsAlike =
+    (limit mark : ℕ) (s table : List ℕ) (r : Rule) (n : ℕ) (long : List ℕ) → Builds limit mark s table r n long
+    → (table′ : List ℕ) (m : ℕ) (short : List ℕ) → BuildsShort limit mark s table′ r m short
+    → (w : List ℕ) → Bytes w → RunAlike mark long short w
+
+-- 3. The short table monitors the rule, and so it drops exactly what would violate it.
+abbrev pub ShortMonitors : Type 0
+ShortMonitors =
+    (limit mark : ℕ) (s table : List ℕ) (r : Rule) (n : ℕ) (left : List ℕ) → BuildsShort limit mark s table r n left
+    → Monitors r (lookup 256 mark left) 0
+
+abbrev pub ShortDrops : Type 0
+ShortDrops =
+    (limit mark : ℕ) (s table : List ℕ) (r : Rule) (n : ℕ) (left : List ℕ) → BuildsShort limit mark s table r n left
+    → DropsViolations r (lookup 256 mark left) 0
+
+-- ---- none is shorter
+
+-- 4. A rival is any table with some rows, each whole and with entries in range. One whose row 0 drops alike has at least as many rows.
+pub record Rival (mark rows : ℕ) (table : List ℕ) : Type 0 where
+  pub some : 0 < rows
+  pub row : (k : ℕ) → k < rows → RowInRange mark rows (rowOf 256 table k)
+
+abbrev pub ShortIsMinimal : Type 0
+ShortIsMinimal =
+    (limit mark : ℕ) (s table : List ℕ) (r : Rule) (n : ℕ) (left : List ℕ) → BuildsShort limit mark s table r n left
+    → (rows : ℕ) (rival : List ℕ) → Rival mark rows rival → DropAlike 256 (lookup 256 mark left) 0 (lookup 256 mark rival) 0 → n ≤ rows
+
+-- So has one that monitors the rule.
+abbrev pub ShortestMonitor : Type 0
+ShortestMonitor =
+    (limit mark : ℕ) (s table : List ℕ) (r : Rule) (n : ℕ) (left : List ℕ) → BuildsShort limit mark s table r n left
+    → (rows : ℕ) (rival : List ℕ) → Rival mark rows rival → Monitors r (lookup 256 mark rival) 0 → n ≤ rows
+
+-- ---- the rows and their numbers
+
+-- the numbers below n, in order
+unfoldable pub numbersBelow : ℕ → List ℕ
+numbersBelow zero = []
+numbersBelow (suc n) = numbersBelow n ++ (n ∷ [])
+
+-- 5. The rows are numbered as found from row 0: to every other a code of an earlier row leads, and all that is asked before leads to smaller numbers.
+abbrev pub ShortAsFound : Type 0
+ShortAsFound =
+    (limit mark : ℕ) (s table : List ℕ) (r : Rule) (n : ℕ) (left : List ℕ) → BuildsShort limit mark s table r n left
+    → AsFound 256 (lookup 256 mark left) 0 (numbersBelow n)
+
+-- 6. The table is well formed for the short count. Behind its last row nothing changes, and it keeps its length.
+abbrev pub ShortInRange : Type 0
+ShortInRange =
+    (limit mark : ℕ) (s table : List ℕ) (r : Rule) (n : ℕ) (left : List ℕ) → BuildsShort limit mark s table r n left
+    → WellFormedTable limit mark n left
+
+abbrev pub ShortRest : Type 0
+ShortRest =
+    (limit mark : ℕ) (s table : List ℕ) (r : Rule) (n : ℕ) (left : List ℕ) → BuildsShort limit mark s table r n left
+    → SameAfterRows n table left
+
+-- ---- all of these
+
+-- The theorem `short-promises` has this type, so that each promise has its proof.
+pub record ShortPromises : Type 0 where
+  pub short-refuses-alike : ShortRefusesAlike
+  pub short-refused-unchanged : ShortRefusedUnchanged
+  pub short-builds-accepted : ShortBuildsAccepted
+  pub short-drops-alike : ShortDropsAlike
+  pub short-monitors : ShortMonitors
+  pub short-drops : ShortDrops
+  pub short-is-minimal : ShortIsMinimal
+  pub shortest-monitor : ShortestMonitor
+  pub short-as-found : ShortAsFound
+  pub short-in-range : ShortInRange
+  pub short-rest : ShortRest
