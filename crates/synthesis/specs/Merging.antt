@@ -10,6 +10,7 @@ use lib.ListN.{getD, replicate}
 use Rattle.reading.specs.Rule.{All}
 use Rattle.reading.specs.Pattern.{least, every}
 use Rattle.synthesis.specs.Monitor.{Answer, dropped, next, cases, verdicts}
+use Rattle.synthesis.specs.Search.{tabulate}
 
 -- ---- what is merged
 
@@ -44,8 +45,7 @@ module _ (codes : ℕ) (answer : ℕ → ℕ → Answer ℕ) where
 
   -- The classes of the first n equations after one more round: of each, the first equation with which it stays together.
   unfoldable pub refined : (classes : List ℕ) → (n : ℕ) → List ℕ
-  refined classes zero = []
-  refined classes (suc n) = refined classes n ++ (least n (together classes n) ∷ [])
+  refined classes n = tabulate (λ k. least k (together classes k)) n
 
   -- the classes of `count` equations after some rounds
   unfoldable pub rounds : (count r : ℕ) → List ℕ

@@ -1,12 +1,13 @@
 -- What this crate promises of the short build, as statements over the definitions; proofs/ has a theorem of each of these types. The limit on equations
 -- and the mark for dropped are any, the limit up to the mark; with `most` and `mark` these are the terms of the contracts of `build` and `build_short`.
-use Prim.Native.Nat.{ℕ, zero, suc, _≤_, _<_}
+use Prim.Native.Nat.{ℕ, _≤_, _<_}
 use mathlib.Core.Path.{_≡_}
 use mathlib.Core.Logic.{_↔_}
-use mathlib.Core.List.{List, [], _∷_, _++_}
+use mathlib.Core.List.{List}
 use lib.ListN.{length}
 use Rattle.reading.specs.Rule.{Rule, Bytes}
 use Rattle.synthesis.specs.Monitor.{kept, verdicts, Monitors, rowOf, lookup}
+use Rattle.synthesis.specs.Search.{tabulate}
 use Rattle.synthesis.specs.Table.{RowInRange, WellFormedTable}
 use Rattle.synthesis.specs.Merging.{DropAlike}
 use Rattle.synthesis.specs.Building.{buildingOf, shortBuildingOf, countedOf, tableAfter, Builds, BuildsShort}
@@ -82,9 +83,8 @@ ShortestMonitor =
 -- ---- the rows and their numbers
 
 -- the numbers below n, in order
-unfoldable pub numbersBelow : ℕ → List ℕ
-numbersBelow zero = []
-numbersBelow (suc n) = numbersBelow n ++ (n ∷ [])
+abbrev pub numbersBelow : ℕ → List ℕ
+numbersBelow n = tabulate (λ i. i) n
 
 -- 5. The rows are numbered as found from row 0: to every other a code of an earlier row leads, and all that is asked before leads to smaller numbers.
 abbrev pub ShortAsFound : Type 0

@@ -1,19 +1,17 @@
 -- Equations that stay together, and one round of refinement. To stay together is an equivalence, since it says that two classes and two rows of answers
 -- are equal.
-use Prim.Native.Nat.{ℕ, zero, suc, _≤_, _<_}
+use Prim.Native.Nat.{ℕ, zero, suc, _<_}
 use mathlib.Core.Path.{_≡_, refl, sym, _∙_}
 use mathlib.Core.Bool.{Bool, true, false, _&&_, true≢false}
-use mathlib.Core.List.{List, [], _∷_, _++_}
-use native.Mathlib.Decide.{decLt}
-use native.Mathlib.Omega.{arith}
+use mathlib.Core.List.{List}
 use lib.Dec.{eqb}
-use lib.ListN.{length, getD, replicate, length-replicate, length-append, List·getD-append}
-use lib.Seq.{getD-at}
+use lib.ListN.{length, getD, replicate, length-replicate}
 use borrow.Author.Tests.{eq-eqb, eqb-true}
 use Rattle.reading.specs.Pattern.{least, every}
 use Rattle.reading.proofs.Measures.BoundedTests.{every-is}
 use Rattle.synthesis.specs.Monitor.{Answer, dropped, next}
 use Rattle.synthesis.specs.Merging.{merged, sameAnswer, together, refined, rounds}
+use Rattle.synthesis.proofs.Numberings.Tabulating.{tabulate-length, tabulate-at}
 
 -- ---- the same answer
 
@@ -70,25 +68,12 @@ module _ (codes : ℕ) (answer : ℕ → ℕ → Answer ℕ) (classes : List ℕ
 
   pub refined-length : (n : ℕ) → length (refined codes answer classes n) ≡ n
   unfolding refined
-  refined-length zero = refl
-  refined-length (suc n) =
-      length-append (refined codes answer classes n) (least n (together codes answer classes n) ∷ []) ∙ omega (arith, refined-length n)
+  refined-length n = tabulate-length (λ k. least k (together codes answer classes k)) n
 
   -- the class of an equation after the round
   pub refined-at : (n k : ℕ) → k < n → getD (refined codes answer classes n) k 0 ≡ least k (together codes answer classes k)
   unfolding refined
-  refined-at zero k h = absurd (omega arith)
-  refined-at (suc n) k h = on (decLt k n) (refined-at n k)
-    where
-      last : List ℕ
-      last = least n (together codes answer classes n) ∷ []
-
-      on : Dec (k < n) → (k < n → getD (refined codes answer classes n) k 0 ≡ least k (together codes answer classes k))
-          → getD (refined codes answer classes n ++ last) k 0 ≡ least k (together codes answer classes k)
-      on (yes a) ih = List·getD-append (refined codes answer classes n) last 0 k (rw (refined-length n) a) ∙ ih a
-      on (no a) ih =
-          let z : k ≡ n = omega arith in
-          rw z (getD-at (refined codes answer classes n) (least n (together codes answer classes n)) [] 0 n (refined-length n))
+  refined-at n k h = tabulate-at (λ k. least k (together codes answer classes k)) n k h
 
 -- ---- rounds
 
