@@ -4,3 +4,4 @@ pub mod Verdicts
 pub mod RuleMonitor
 pub mod MonitorLaws
 pub mod Renaming
+pub mod DroppingAlike

@@ -1,3 +1,9 @@
 -- Equations that drop alike, their classes, and the table that is left when each class is one equation.
 pub mod Together
 pub mod Settled
+pub mod NumberedAnswers
+pub mod Refinement
+pub mod Firsts
+pub mod Quotient
+pub mod ShortTables
+pub mod ShortBuilds

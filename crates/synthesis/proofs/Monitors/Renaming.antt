@@ -58,6 +58,17 @@ module _ {E F : Type 0} (codes : ℕ) (Ok : E → Type 0) (answer : E → ℕ �
         stays = rw q (h .stays);
       })
 
+-- ---- twice under new names
+
+pub renames-twice : {E F G : Type 0} (codes : ℕ) (Ok : E → Type 0) (Ok′ : F → Type 0) (answer : E → ℕ → Answer E) (answer′ : F → ℕ → Answer F)
+    (answer″ : G → ℕ → Answer G) (f : E → F) (g : F → G) → Renames codes Ok answer answer′ f → Renames codes Ok′ answer′ answer″ g
+    → ((e : E) → Ok e → Ok′ (f e)) → Renames codes Ok answer answer″ (λ e. g (f e))
+renames-twice codes Ok Ok′ answer answer′ answer″ f g once again ok = record {
+  invariant = once .invariant;
+  drops = λ e c h b q. again .drops (f e) c (ok e h) b (once .drops e c h b q);
+  follows = λ e e′ c h b q. again .follows (f e) (f e′) c (ok e h) b (once .follows e e′ c h b q);
+}
+
 -- ---- monitors of a rule
 
 -- a monitor of a rule is one under new names too

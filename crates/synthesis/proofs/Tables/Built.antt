@@ -24,9 +24,8 @@ use Rattle.synthesis.specs.Promises.{BuildsAccepted, BuiltWellFormed, En
 use Rattle.synthesis.proofs.Unfolding.AnsweringLaws.{answers-as-defined}
 use Rattle.synthesis.proofs.Monitors.RuleMonitor.{rule-monitors, unsatisfiable-iff}
 use Rattle.synthesis.proofs.Numberings.Indices.{Member}
-use Rattle.synthesis.proofs.Tables.FilledTables.{entries-length, filled-length, filled-row, filled-rest}
 use Rattle.synthesis.proofs.Monitors.MonitorLaws.{drops-violations}
-use Rattle.synthesis.proofs.Tables.TableMonitors.{table-renames, table-range, table-answers}
+use Rattle.synthesis.proofs.Tables.TableMonitors.{table-renames, table-answers, filled-well-formed, filled-same-after}
 use Rattle.synthesis.proofs.Tables.SynthesisOutcomes.{synthesis-accepts, building-accepts, refused-eight, refuses-eight}
 use Rattle.synthesis.proofs.Tables.SynthesisOutcomes.{counted-accepts, counted-refuses, accepts-as}
 use Rattle.synthesis.proofs.Tables.Equations.{file-well-formed, first-index, first-member, equations-closed}
@@ -64,20 +63,12 @@ module _ (limit mark : ℕ) (s table : List ℕ) where
   pub accepted-well-formed : (y : Synthesis) → buildingOf limit s (length table) ≡ accepted y
       → WellFormedTable limit mark (length (y .equations)) (tableLeft limit mark s table)
   accepted-well-formed = leaves-admitted (λ y t. WellFormedTable limit mark (length (y .equations)) t) λ r admits.
-      let l = equationsOf limit r in
-      record {
-        some = omega (arith, first-member limit r);
-        few = admits .few;
-        row = λ k h. record {
-          whole = ap length (filled-row mark (answerOf r) l 256 table (admits .room) k h) ∙ entries-length mark (answerOf r) l (getD l k 0) 256;
-          range = λ c b. table-range 256 mark (answerOf r) l (equations-closed limit r (admits .few)) table (admits .room) k c h b;
-        };
-      }
+      filled-well-formed limit mark (answerOf r) (equationsOf limit r) table (admits .room) (equations-closed limit r (admits .few))
+      (omega (arith, first-member limit r)) (admits .few)
 
   pub built-rest : (y : Synthesis) → buildingOf limit s (length table) ≡ accepted y → SameAfterRows (length (y .equations)) table (tableLeft limit mark s table)
   built-rest = leaves-admitted (λ y t. SameAfterRows (length (y .equations)) table t) λ r admits.
-      let l = equationsOf limit r in
-      record { long = filled-length mark (answerOf r) l 256 table (admits .room); rest = filled-rest mark (answerOf r) l 256 table }
+      filled-same-after limit mark (answerOf r) (equationsOf limit r) table (admits .room)
 
   module _ (below : limit ≤ mark) where
     rows-rename : (r : Rule) → Admits r

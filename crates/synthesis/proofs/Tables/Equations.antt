@@ -72,11 +72,11 @@ module _ (limit : ℕ) (r : Rule) where
   unfolding equationsOf
   first-member = omega (arith, first-index, found-first 256 (answerOf r) limit (firstOf r) .0)
 
-  equations-distinct : Distinct (equationsOf limit r)
+  pub equations-distinct : Distinct (equationsOf limit r)
   unfolding equationsOf
   equations-distinct = found-distinct 256 (answerOf r) limit (firstOf r)
 
-  equations-reached : (i : ℕ) → i < length (equationsOf limit r) → ReachedBy 256 (answerOf r) (firstOf r) (getD (equationsOf limit r) i 0)
+  pub equations-reached : (i : ℕ) → i < length (equationsOf limit r) → ReachedBy 256 (answerOf r) (firstOf r) (getD (equationsOf limit r) i 0)
   unfolding equationsOf
   equations-reached i h =
       all-at (ReachedBy 256 (answerOf r) (firstOf r)) (found 256 (answerOf r) limit (firstOf r)) i 0

@@ -1,7 +1,8 @@
--- What counting and building accept and refuse. Both are checks one after the other, so an acceptance has passed each, and a refusal is that of the
+-- What counting and the two builds accept and refuse. All are checks one after the other, so an acceptance has passed each, and a refusal is that of the
 -- first that fails.
 use Prim.Native.Nat.{ℕ, _*_, _≤_, _<_}
 use mathlib.Core.Path.{_≡_, refl, sym, _∙_, ap, subst}
+use mathlib.Core.Logic.{_↔_}
 use mathlib.Core.Bool.{Bool, true, false}
 use mathlib.Core.List.{List}
 use native.Mathlib.Omega.{arith}
@@ -10,9 +11,9 @@ use lib.ListN.{length}
 use borrow.Author.Tests.{ltb-true, ltb-false, lt-ltb, le-ltb}
 use Rattle.reading.specs.Rule.{Rule}
 use Rattle.reading.specs.File.{Outcome, accepted, refused, refuse, ruleOf}
-use Rattle.reading.proofs.Basics.Outcomes.{accepted-is, refuse-accepted, andThen-accepted}
+use Rattle.reading.proofs.Basics.Outcomes.{accepted-is, never-refused, refuse-accepted, andThen-refused, andThen-accepted}
 use Rattle.synthesis.specs.Answering.{unsatisfiable}
-use Rattle.synthesis.specs.Building.{equationsOf, Synthesis, withEquations, synthesisOfRule, synthesisOf, buildingOf, countedOf}
+use Rattle.synthesis.specs.Building.{equationsOf, Synthesis, withEquations, synthesisOfRule, synthesisOf, buildingOf, countedOf, shortened, shortBuildingOf}
 use Rattle.synthesis.specs.declared.Counted.the-variants.{Equations, Refused}
 
 -- What holds of the synthesis of each rule that no check refuses, holds of what is accepted.
@@ -44,6 +45,27 @@ unfolding buildingOf
 building-accepts limit s capacity y e =
     let ten = refuse-accepted (ltb capacity (256 * limit)) 10 0 (synthesisOf limit s) e in
     (ltb-false capacity (256 * limit) (ten .0), ten .1)
+
+-- ---- the short build: refused as building is, and else what building accepts is shortened
+
+module _ (limit : ℕ) (s : List ℕ) (capacity : ℕ) where
+  pub short-accepts : {y : Synthesis} → buildingOf limit s capacity ≡ accepted y → shortBuildingOf limit s capacity ≡ accepted (shortened y)
+  unfolding shortBuildingOf
+  short-accepts e = rw e
+
+  pub short-accepted : (z : Synthesis) → shortBuildingOf limit s capacity ≡ accepted z
+      → (y : Synthesis) × (buildingOf limit s capacity ≡ accepted y) × (shortened y ≡ z)
+  unfolding shortBuildingOf
+  short-accepted z e =
+      let (y, is, made) = andThen-accepted (buildingOf limit s capacity) (λ y. accepted (shortened y)) e in
+      (y, is, accepted-is made)
+
+  pub short-refused : (number place : ℕ) → (shortBuildingOf limit s capacity ≡ refused number place) ↔ (buildingOf limit s capacity ≡ refused number place)
+  unfolding shortBuildingOf
+  short-refused number place = (
+    λ e. andThen-refused (buildingOf limit s capacity) (λ y. accepted (shortened y)) e (λ h. h) (λ y h q. absurd (never-refused q)),
+    λ e. rw e,
+  )
 
 -- ---- a file that is a rule: accepted, or one of two refusals
 

@@ -1,0 +1,95 @@
+-- What the short build answers and leaves. It is refused as building is; its table is filled, as the long one is, from a closed list; and under the
+-- renaming from the long table it drops, keeps and monitors alike.
+use Prim.Native.Nat.{ℕ, _≤_, _<_}
+use mathlib.Core.Path.{_≡_, refl, sym, _∙_, ap, subst}
+use mathlib.Core.List.{List}
+use native.Mathlib.Omega.{arith}
+use lib.ListN.{length}
+use Rattle.reading.specs.Rule.{Rule, Bytes}
+use Rattle.reading.specs.File.{accepted, refused, ruleOf}
+use Rattle.synthesis.specs.Monitor.{Monitors, lookup}
+use Rattle.synthesis.specs.Building.{Synthesis, withEquations, buildingOf, countedOf, tableLeft, shortened, shortBuildingOf, Builds, BuildsShort}
+use Rattle.synthesis.specs.Promises.{SameAfterRows}
+use Rattle.synthesis.specs.ShortPromises.{RefusesAlike, ShortRefusesAlike, ShortRefusedUnchanged, ShortBuildsAccepted, RunAlike, ShortDropsAlike}
+use Rattle.synthesis.specs.ShortPromises.{ShortMonitors, ShortDrops, ShortInRange, ShortRest}
+use Rattle.synthesis.specs.declared.Counted.the-variants.{Equations, Refused}
+use Rattle.synthesis.proofs.Monitors.MonitorLaws.{drops-violations}
+use Rattle.synthesis.proofs.Monitors.Renaming.{renamed-runs, renamed-monitors}
+use Rattle.synthesis.proofs.Tables.SynthesisOutcomes.{synthesis-accepts, building-accepts, counted-accepts, counted-refuses}
+use Rattle.synthesis.proofs.Tables.SynthesisOutcomes.{short-accepts, short-accepted, short-refused}
+use Rattle.synthesis.proofs.Tables.TableMonitors.{filled-well-formed, filled-same-after}
+use Rattle.synthesis.proofs.Tables.Built.{builds-accepted, builds-count, table-monitors}
+use Rattle.synthesis.proofs.Quotients.Firsts.{firsts-length}
+use Rattle.synthesis.proofs.Quotients.Quotient.{firsts-closed}
+use Rattle.synthesis.proofs.Quotients.ShortTables.{count, classes, number, count-some, rule-inside, rule-settled, some-class, number-zero}
+use Rattle.synthesis.proofs.Quotients.ShortTables.{shortened-count, shortens, builds-long, firsts-few, short-room, rows-rename}
+
+-- ---- answers
+
+module _ (limit : ℕ) (s : List ℕ) (capacity : ℕ) where
+  -- there is a class, and there are no more than equations
+  shortened-few : (y : Synthesis) → buildingOf limit s capacity ≡ accepted y
+      → (1 ≤ length (shortened y .equations)) × (length (shortened y .equations) ≤ length (y .equations))
+  shortened-few y e =
+      synthesis-accepts limit s (λ y. (1 ≤ length (shortened y .equations)) × (length (shortened y .equations) ≤ length (y .equations)))
+      (λ r read h few.
+      rw (shortened-count (withEquations limit r)) (some-class limit r few, firsts-length (classes limit r) (count limit r)))
+      y (building-accepts limit s capacity y e .1)
+
+  pub refuses-alike : RefusesAlike limit s capacity
+  refuses-alike = record {
+    refused = λ number place. (
+      λ e. ap countedOf (short-refused limit s capacity number place .0 (counted-refuses (shortBuildingOf limit s capacity) number place e)),
+      λ e. ap countedOf (short-refused limit s capacity number place .1 (counted-refuses (buildingOf limit s capacity) number place e)),
+    );
+    counted = λ n e.
+        let (y, is, n-is) = counted-accepts (buildingOf limit s capacity) n e in
+        let (some, few) = shortened-few y is in
+        (length (shortened y .equations), ap countedOf (short-accepts limit s capacity is), some, omega (arith, few, n-is));
+  }
+
+pub short-refuses-alike : ShortRefusesAlike
+short-refuses-alike = refuses-alike
+
+pub short-refused-unchanged : ShortRefusedUnchanged
+short-refused-unchanged limit mark s table number place e =
+    rw (counted-refuses (shortBuildingOf limit s (length table)) number place e) (record { table = refl })
+
+pub short-builds-accepted : ShortBuildsAccepted
+short-builds-accepted limit mark s table n below bytes e =
+    let (z, is, n-is) = counted-accepts (shortBuildingOf limit s (length table)) n e in
+    let (y, built, made) = short-accepted limit s (length table) z is in
+    let (r, b) = builds-accepted limit mark s table (length (y .equations)) below bytes (ap countedOf built) in
+    (r, record { below = below; bytes = bytes; read = b .read; counted = e; left-is = refl })
+
+-- ---- the short table as a monitor
+
+pub short-drops-alike : ShortDropsAlike
+short-drops-alike limit mark s table r n long b table′ m short b′ w bytes =
+    let alike = renamed-runs 256 (λ k. k < n) (lookup 256 mark long) (lookup 256 mark short) (number limit r) (rows-rename b′ table long n b) 0 w
+        (omega (arith, builds-count b, count-some limit r)) bytes in
+    let zero = number-zero limit r (shortens b′ .rows .few) in
+    record { verdicts-alike = rw zero at (alike .judges); kept-alike = rw zero at (alike .keeps) }
+
+pub short-monitors : ShortMonitors
+short-monitors limit mark s table r n short b =
+    let long = tableLeft limit mark s table in
+    let b′ = builds-long b in
+    subst (Monitors r (lookup 256 mark short)) (number-zero limit r (shortens b .rows .few))
+    (renamed-monitors r (λ k. k < count limit r) (lookup 256 mark long) (lookup 256 mark short) (number limit r)
+    (rows-rename b table long (count limit r) b′) 0 (count-some limit r) (table-monitors limit mark s table r (count limit r) long b′))
+
+pub short-drops : ShortDrops
+short-drops limit mark s table r n short b = drops-violations r (lookup 256 mark short) 0 (short-monitors limit mark s table r n short b)
+
+-- ---- the bytes of the table
+
+pub short-in-range : ShortInRange
+short-in-range limit mark s table r n short b =
+    let few = shortens b .rows .few in
+    rw (shortens b .filled-is, shortens b .count-is)
+    (filled-well-formed limit mark _ _ table (short-room b) (firsts-closed (rule-settled limit r few) (rule-inside limit r few)) (some-class limit r few) (firsts-few b))
+
+pub short-rest : ShortRest
+short-rest limit mark s table r n short b =
+    rw (shortens b .filled-is, shortens b .count-is) (filled-same-after limit mark _ _ table (short-room b))
