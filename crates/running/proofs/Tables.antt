@@ -14,7 +14,7 @@ use Rattle.synthesis.specs.Monitor.{dropped, next, cases, ended, rowOf, meaning
 use Rattle.synthesis.specs.Table.{InRange, WellFormedTable}
 use Rattle.synthesis.proofs.Tables.Rows.{row-at}
 use Rattle.synthesis.proofs.Tables.WellFormedTables.{well-formed-room, well-formed-row, well-formed-byte, well-formed-by-bytes}
-use Rattle.synthesis.proofs.Tables.WellFormedTables.{row-entry-in-range, same-row}
+use Rattle.synthesis.proofs.Tables.WellFormedTables.{lookup-inside, same-row}
 use Rattle.synthesis.proofs.Monitors.Runs.{run-induction}
 use Rattle.running.specs.Running.{moved, answerIn, inRange, entriesInRange, isWellFormed, fits}
 use Rattle.running.specs.declared.State.{State}
@@ -102,18 +102,11 @@ module _ (limit mark count : ℕ) (table : List ℕ) (wf : WellFormedTable limit
   answer-in-is s c h b = rw (row-at table (s .equation) c mark (well-formed-row wf (s .equation) h) b)
 
   pub next-inside : (s s′ : State) (c : ℕ) → s .equation < count → answerIn mark table s c ≡ next s′ → s′ .equation < count
-  next-inside s s′ c h e = on (eqb x mark) refl (row-entry-in-range wf (s .equation) c h)
+  next-inside s s′ c h e = on (lookup 256 mark table (s .equation) c) refl e
     where
-      x : ℕ
-      x = getD (rowOf 256 table (s .equation)) c mark
-
-      on : (b : Bool) → eqb x mark ≡ b → InRange mark count x → s′ .equation < count
-      on true q r = let z : dropped ≡ next s′ = rw q at e in let y : _≡_ {A = ℕ} 0 1 = cc in absurd (omega arith)
-      on false q (inl z) = absurd (eqb-false x mark q z)
-      on false q (inr l) =
-          let z : next (moved s x) ≡ next s′ = rw q at e in
-          let is : moved s x ≡ s′ = cc in
-          omega (arith, ap (λ (s : State). s .equation) is)
+      on : (a : Answer ℕ) → lookup 256 mark table (s .equation) c ≡ a → cases a dropped (λ x. next (moved s x)) ≡ next s′ → s′ .equation < count
+      on dropped q e = let z : _≡_ {A = ℕ} 0 1 = cc in absurd (omega arith)
+      on (next x) q e = let is : moved s x ≡ s′ = cc in omega (arith, lookup-inside wf (s .equation) c x h q, ap (λ (s : State). s .equation) is)
 
   pub ends-inside : (s : State) (scans : List ℕ) → s .equation < count → ended (answerIn mark table) s scans .equation < count
   ends-inside =

@@ -7,3 +7,4 @@ pub mod Firsts
 pub mod Quotient
 pub mod ShortTables
 pub mod ShortBuilds
+pub mod Minimal

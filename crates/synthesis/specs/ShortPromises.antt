@@ -6,9 +6,9 @@ use mathlib.Core.Logic.{_↔_}
 use mathlib.Core.List.{List}
 use lib.ListN.{length}
 use Rattle.reading.specs.Rule.{Rule, Bytes}
-use Rattle.synthesis.specs.Monitor.{kept, verdicts, Monitors, rowOf, lookup}
+use Rattle.synthesis.specs.Monitor.{kept, verdicts, Monitors, lookup}
 use Rattle.synthesis.specs.Search.{tabulate}
-use Rattle.synthesis.specs.Table.{RowInRange, WellFormedTable}
+use Rattle.synthesis.specs.Table.{WellFormedTable}
 use Rattle.synthesis.specs.Merging.{DropAlike}
 use Rattle.synthesis.specs.Building.{buildingOf, shortBuildingOf, countedOf, tableAfter, Builds, BuildsShort}
 use Rattle.synthesis.specs.Promises.{DropsViolations, AsFound, SameAfterRows, TableUnchanged}
@@ -64,21 +64,17 @@ ShortDrops =
 
 -- ---- none is shorter
 
--- 4. A rival is any table with some rows, each whole and with entries in range. One whose row 0 drops alike has at least as many rows.
-pub record Rival (mark rows : ℕ) (table : List ℕ) : Type 0 where
-  pub some : 0 < rows
-  pub row : (k : ℕ) → k < rows → RowInRange mark rows (rowOf 256 table k)
-
+-- 4. A rival is any table that is well formed for some rows, however many. One whose row 0 drops alike has at least as many rows as the short table.
 abbrev pub ShortIsMinimal : Type 0
 ShortIsMinimal =
     (limit mark : ℕ) (s table : List ℕ) (r : Rule) (n : ℕ) (left : List ℕ) → BuildsShort limit mark s table r n left
-    → (rows : ℕ) (rival : List ℕ) → Rival mark rows rival → DropAlike 256 (lookup 256 mark left) 0 (lookup 256 mark rival) 0 → n ≤ rows
+    → (rows : ℕ) (rival : List ℕ) → WellFormedTable rows mark rows rival → DropAlike 256 (lookup 256 mark left) 0 (lookup 256 mark rival) 0 → n ≤ rows
 
 -- So has one that monitors the rule.
 abbrev pub ShortestMonitor : Type 0
 ShortestMonitor =
     (limit mark : ℕ) (s table : List ℕ) (r : Rule) (n : ℕ) (left : List ℕ) → BuildsShort limit mark s table r n left
-    → (rows : ℕ) (rival : List ℕ) → Rival mark rows rival → Monitors r (lookup 256 mark rival) 0 → n ≤ rows
+    → (rows : ℕ) (rival : List ℕ) → WellFormedTable rows mark rows rival → Monitors r (lookup 256 mark rival) 0 → n ≤ rows
 
 -- ---- the rows and their numbers
 

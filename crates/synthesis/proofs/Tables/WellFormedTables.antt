@@ -1,14 +1,17 @@
 -- Well-formed tables by their bytes: entry c of row k is byte 256 × k + c, and every byte before the end of the rows is such an entry.
 use Prim.Native.Nat.{ℕ, _+_, _*_, _/_, _%_, _-_, _≤_, _<_}
-use mathlib.Core.Path.{_≡_, sym, _∙_, ap, subst}
+use mathlib.Core.Path.{_≡_, refl, sym, _∙_, ap, subst}
 use mathlib.Core.Logic.{inl, inr}
+use mathlib.Core.Bool.{Bool, true, false, cond}
 use mathlib.Core.List.{List}
 use native.Mathlib.Decide.{decLt}
 use native.Mathlib.Nat.{div-add-mod, mod-lt}
 use native.Mathlib.Omega.{arith}
+use lib.Dec.{eqb}
 use lib.ListN.{length, getD, take, length-take, List·getD-eq-default}
 use lib.Seq.{length-take-le, getD-take, ext-getD}
-use Rattle.synthesis.specs.Monitor.{rowOf}
+use borrow.Author.Tests.{eqb-false}
+use Rattle.synthesis.specs.Monitor.{dropped, next, rowOf, lookup}
 use Rattle.synthesis.specs.Table.{InRange, RowInRange, WellFormedTable}
 use Rattle.synthesis.proofs.Tables.Rows.{row-length, row-inside, row-at}
 
@@ -49,6 +52,18 @@ module _ {limit mark count : ℕ} {table : List ℕ} (wf : WellFormedTable limit
       on : Dec (c < 256) → InRange mark count (getD (rowOf 256 table k) c mark)
       on (yes b) = rw (row-at table k c mark (well-formed-row k h) b) (well-formed-entry k c h b)
       on (no b) = inl (List·getD-eq-default (rowOf 256 table k) mark (omega (arith, wf .row k h .whole)))
+
+  -- what is kept leads to a row
+  pub lookup-inside : (k c j : ℕ) → k < count → lookup 256 mark table k c ≡ next j → j < count
+  lookup-inside k c j h e = on (eqb x mark) refl (row-entry-in-range k c h) e
+    where
+      x : ℕ
+      x = getD (rowOf 256 table k) c mark
+
+      on : (b : Bool) → eqb x mark ≡ b → InRange mark count x → cond b dropped (next x) ≡ next j → j < count
+      on true q r e = let z : _≡_ {A = ℕ} 0 1 = cc in absurd (omega arith)
+      on false q (inl z) e = absurd (eqb-false x mark q z)
+      on false q (inr l) e = let same : x ≡ j = cc in omega arith
 
 pub well-formed-by-bytes : (limit mark count : ℕ) (table : List ℕ) → 1 ≤ count → count ≤ limit → 256 * count ≤ length table
     → ((i : ℕ) → i < 256 * count → InRange mark count (getD table i 0)) → WellFormedTable limit mark count table
