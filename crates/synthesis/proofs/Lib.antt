@@ -7,3 +7,4 @@ pub mod Quotients
 pub mod Reasons
 pub mod Functions
 pub mod Promises
+pub mod ShortPromises

@@ -8,3 +8,4 @@ pub mod Quotient
 pub mod ShortTables
 pub mod ShortBuilds
 pub mod Minimal
+pub mod ShortOrder

@@ -19,7 +19,7 @@ use Rattle.synthesis.proofs.Numberings.Finding.{ClosedBelow, found-clos
 
 -- ---- the order in which codes are asked
 
-before-le : {j c j′ c′ : ℕ} → Before j c j′ c′ → j ≤ j′
+pub before-le : {j c j′ c′ : ℕ} → Before j c j′ c′ → j ≤ j′
 before-le (inl h) = omega arith
 before-le (inr h) = omega (arith, h .0)
 

@@ -90,14 +90,16 @@ module _ {limit mark : ℕ} {s table : List ℕ} {r : Rule} {n : ℕ} {short : L
       let reached = equations-reached limit r k k-below in
       let w = reached .word in
       let numbers = renamed-runs 256 (λ e. Member e es) (answerOf r) (numbered limit r) (λ e. indexOf e es)
-          (numbered-renames y (rule-closed limit r few)) (firstOf r) w (first-member limit r) (reached .codes-of) .ends in
+      (numbered-renames y (rule-closed limit r few)) (firstOf r) w (first-member limit r) (reached .codes-of) .ends in
       let rows = renamed-runs 256 (λ k. k < count limit r) (numbered limit r) (lookup 256 mark short) (number limit r) (short-renames b) 0 w
-          (count-some limit r) (reached .codes-of) .ends in
-      let at-k : ended (numbered limit r) 0 w ≡ k = rw (first-index limit r, reached .ends, equations-distinct limit r k k-below) at numbers in
-      (w, record {
-        bytes = reached .codes-of;
-        ends = rw (number-zero limit r few, at-k, number-of-first (rule-settled limit r few) (rule-inside limit r few) i below) at rows;
-      })
+      (count-some limit r) (reached .codes-of) .ends in
+      let at-k : ended (numbered limit r) 0 w ≡ k = rw (first-index limit r, reached .ends, equations-distinct limit r k k-below) at numbers in (
+        w,
+        record {
+          bytes = reached .codes-of;
+          ends = rw (number-zero limit r few, at-k, number-of-first (rule-settled limit r few) (rule-inside limit r few) i below) at rows;
+        },
+      )
 
   rows-differ : (i j : ℕ) → i < n → j < n → DropAlike 256 (lookup 256 mark short) i (lookup 256 mark short) j → i ≡ j
   rows-differ =

@@ -80,6 +80,6 @@ module _ {codes : ℕ} {answer : ℕ → ℕ → Answer ℕ} {count : ℕ} {clas
         let f = first-at classes count i h in
         let f′ = first-at classes count j h′ in
         let same = settled .parts k l (f .below) (f′ .below) (λ w all.
-            rw (number-of-first i h) at (quotient-alike k (f .below) w all)
-            ∙ alike w all ∙ sym (rw (number-of-first j h′) at (quotient-alike l (f′ .below) w all))) in
+        rw (number-of-first i h) at (quotient-alike k (f .below) w all)
+        ∙ alike w all ∙ sym (rw (number-of-first j h′) at (quotient-alike l (f′ .below) w all))) in
         distinct-indices (firsts classes count) (firsts-distinct classes count) i j h h′ (sym (f .own) ∙ same ∙ f′ .own)

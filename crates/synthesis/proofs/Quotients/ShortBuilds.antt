@@ -67,7 +67,7 @@ short-builds-accepted limit mark s table n below bytes e =
 pub short-drops-alike : ShortDropsAlike
 short-drops-alike limit mark s table r n long b table′ m short b′ w bytes =
     let alike = renamed-runs 256 (λ k. k < n) (lookup 256 mark long) (lookup 256 mark short) (number limit r) (rows-rename b′ table long n b) 0 w
-        (omega (arith, builds-count b, count-some limit r)) bytes in
+    (omega (arith, builds-count b, count-some limit r)) bytes in
     let zero = number-zero limit r (shortens b′ .rows .few) in
     record { verdicts-alike = rw zero at (alike .judges); kept-alike = rw zero at (alike .keeps) }
 

@@ -1,0 +1,21 @@
+-- Each promise of the short build, by its theorem.
+use Rattle.synthesis.specs.ShortPromises.{ShortPromises}
+use Rattle.synthesis.proofs.Quotients.ShortBuilds.{short-refuses-alike, short-refused-unchanged, short-builds-accepted, short-drops-alike}
+use Rattle.synthesis.proofs.Quotients.ShortBuilds.{short-monitors, short-drops, short-in-range, short-rest}
+use Rattle.synthesis.proofs.Quotients.Minimal.{short-is-minimal, shortest-monitor}
+use Rattle.synthesis.proofs.Quotients.ShortOrder.{short-as-found}
+
+pub short-promises : ShortPromises
+short-promises = record {
+  short-refuses-alike = short-refuses-alike;
+  short-refused-unchanged = short-refused-unchanged;
+  short-builds-accepted = short-builds-accepted;
+  short-drops-alike = short-drops-alike;
+  short-monitors = short-monitors;
+  short-drops = short-drops;
+  short-is-minimal = short-is-minimal;
+  shortest-monitor = shortest-monitor;
+  short-as-found = short-as-found;
+  short-in-range = short-in-range;
+  short-rest = short-rest;
+}
