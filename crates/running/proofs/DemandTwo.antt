@@ -12,15 +12,15 @@ use Rattle.reading.proofs.Basics.AllLaws.{all-getD, all-of}
 use Rattle.reading.proofs.Basics.ByteLaws.{byte-at}
 use Rattle.synthesis.specs.Violation.{ViolatesRule}
 use Rattle.synthesis.specs.Monitor.{Answer, verdicts, Monitors, lookup}
-use Rattle.synthesis.specs.Table.{WellFormedTable}
 use Rattle.synthesis.proofs.Monitors.Runs.{verdicts-length}
 use Rattle.synthesis.proofs.Monitors.Verdicts.{verdicts-range, verdicts-take, dropped-at}
 use Rattle.synthesis.proofs.Monitors.MonitorLaws.{drops-violations, kept-safe}
 use Rattle.synthesis.proofs.Monitors.Renaming.{Renames, renamed-monitors}
 use Rattle.synthesis.proofs.Tables.Built.{table-monitors, built-well-formed}
+use Rattle.synthesis.proofs.Quotients.ShortBuilds.{short-monitors, short-in-range}
 use Rattle.running.specs.Running.{start, moved, answerIn}
-use Rattle.running.specs.Calls.{History, Calls, OnTableOrRefused, withVerdict}
-use Rattle.running.specs.Promises.{Sifted, DropsExactly}
+use Rattle.running.specs.Calls.{History, withVerdict}
+use Rattle.running.specs.Promises.{Sifted, DropsExactly, ShortDropsExactly, MonitorsSift}
 use Rattle.running.proofs.WithVerdicts.{kept-with}
 use Rattle.running.proofs.Histories.{OneRun, one-run}
 
@@ -63,12 +63,14 @@ sifted r mark table count h monitors run =
       safe = rw (run .kept) (kept-safe r F start monitors w (run .bytes));
     }
 
--- On any well-formed table that monitors a rule, calls sift by the rule.
-pub monitors-sift : (limit mark count : ℕ) (table : List ℕ) (r : Rule) → WellFormedTable limit mark count table
-    → Monitors r (lookup 256 mark table) 0 → (h : History) → Calls limit mark (OnTableOrRefused limit mark table count) h → Sifted r h
-monitors-sift limit mark count table r wf monitors h calls =
-    sifted r mark table count h (answer-in-monitors r mark table monitors) (one-run limit mark count table wf h calls)
+pub monitors-sift : MonitorsSift
+monitors-sift limit mark r n table wf monitors h calls =
+    sifted r mark table n h (answer-in-monitors r mark table monitors) (one-run limit mark n table wf h calls)
 
 pub drops-exactly : DropsExactly
 drops-exactly limit mark s table r n left b =
-    monitors-sift limit mark n left r (built-well-formed limit mark s table r n left b) (table-monitors limit mark s table r n left b)
+    monitors-sift limit mark r n left (built-well-formed limit mark s table r n left b) (table-monitors limit mark s table r n left b)
+
+pub short-drops-exactly : ShortDropsExactly
+short-drops-exactly limit mark s table r n left b =
+    monitors-sift limit mark r n left (short-in-range limit mark s table r n left b) (short-monitors limit mark s table r n left b)

@@ -7,15 +7,19 @@ use mathlib.Core.List.{List, [], _∷_, _++_}
 use native.Mathlib.Omega.{arith}
 use lib.ListN.{length, getD, take, drop, take-append-drop, length-take}
 use Rattle.reading.specs.Rule.{Rule, Bytes}
+use Rattle.reading.specs.File.{accepted, ruleOf}
 use Rattle.synthesis.specs.Violation.{ViolatesRule}
 use Rattle.synthesis.specs.Monitor.{ended, lookup}
+use Rattle.synthesis.specs.Building.{synthesisOf, countedOf}
 use Rattle.synthesis.specs.ReasonPromises.{Placed, Explained}
+use Rattle.synthesis.specs.declared.Counted.the-variants.{Equations}
 use Rattle.synthesis.specs.declared.Reason.{Reason}
 use Rattle.synthesis.specs.declared.Reason.the-variants.{Kept, Node, Refused}
 use Rattle.synthesis.proofs.Tables.Equations.{file-well-formed}
 use Rattle.synthesis.proofs.Monitors.Runs.{kept-all, ended-kept}
 use Rattle.synthesis.proofs.Monitors.Renaming.{renamed-runs}
 use Rattle.synthesis.proofs.Tables.Built.{built-well-formed, builds-counted}
+use Rattle.synthesis.proofs.Quotients.ShortTables.{builds-long}
 use Rattle.synthesis.proofs.Reasons.Fronts.{extended, first-violates}
 use Rattle.synthesis.proofs.Reasons.Alone.{violates-somewhere}
 use Rattle.synthesis.proofs.Reasons.Explained.{reasons-exactly}
@@ -23,10 +27,10 @@ use Rattle.synthesis.proofs.Reasons.ByEquation.{reasons-by-equation}
 use Rattle.running.specs.Running.{start, moved, answerIn}
 use Rattle.running.specs.Calls.{History, withVerdict, keptBefore}
 use Rattle.running.specs.declared.State.{State}
-use Rattle.running.specs.Promises.{Sifted, reasonAfter, ReasonsOfRuns, ReasonsByState}
+use Rattle.running.specs.Promises.{Sifted, reasonAfter, Reasoned, ReasonsOfRuns, ShortReasonsOfRuns, ReasonsByState}
 use Rattle.running.proofs.WithVerdicts.{with-append}
 use Rattle.running.proofs.Histories.{OneRun, one-run}
-use Rattle.running.proofs.DemandTwo.{state-renames, drops-exactly}
+use Rattle.running.proofs.DemandTwo.{state-renames, drops-exactly, short-drops-exactly}
 
 -- ---- what was kept
 
@@ -80,8 +84,10 @@ verdict-zero : {v : ℕ} {A : Type 0} → (v ≡ 0) ⊎ (v ≡ 1) → (v ≡ 1) 
 verdict-zero (inl q) iff = (λ e a. omega (arith, q, iff .1 a), λ none. q)
 verdict-zero (inr q) iff = (λ e. absurd (omega (arith, q, e)), λ none. absurd (none (iff .0 q)))
 
-pub reasons-of-runs : ReasonsOfRuns
-reasons-of-runs limit mark s table r n left b h calls = record {
+-- after calls that sift by the rule of a file that is counted
+sifted-reasoned : {limit : ℕ} {s : List ℕ} {r : Rule} {n : ℕ} → Bytes s → ruleOf s ≡ accepted r → countedOf (synthesisOf limit s) ≡ Equations n
+    → (h : History) → Sifted r h → Reasoned limit s h
+sifted-reasoned {limit} {s} {r} {n} bytes read counted h sifted = record {
   dropped = λ i inside.
       let verdict = sifted .drops i inside in
       let node = node-iff-violated (explained i (getD (h .scans) i 0)) (kept-before-safe sifted i) placed in
@@ -93,14 +99,19 @@ reasons-of-runs limit mark s table r n left b h calls = record {
   fit = λ i c. said-fit (explained i c) (kept-before-safe sifted i);
 }
   where
-    sifted : Sifted r h
-    sifted = drops-exactly limit mark s table r n left b h calls
-
     placed : Placed r
-    placed = violates-somewhere r (file-well-formed s (b .bytes) r (b .read))
+    placed = violates-somewhere r (file-well-formed s bytes r read)
 
     explained : (i c : ℕ) → Explained r (keptBefore h i) c (reasonAfter limit s h i c)
-    explained i c = reasons-exactly limit s (b .bytes) (keptBefore h i) c .explained r n (b .read) (builds-counted b)
+    explained i c = reasons-exactly limit s bytes (keptBefore h i) c .explained r n read counted
+
+pub reasons-of-runs : ReasonsOfRuns
+reasons-of-runs limit mark s table r n left b h calls =
+    sifted-reasoned (b .bytes) (b .read) (builds-counted b) h (drops-exactly limit mark s table r n left b h calls)
+
+pub short-reasons-of-runs : ShortReasonsOfRuns
+short-reasons-of-runs limit mark s table r n left b h calls =
+    sifted-reasoned (b .bytes) (b .read) (builds-counted (builds-long b)) h (short-drops-exactly limit mark s table r n left b h calls)
 
 -- ---- another list to the same equation
 

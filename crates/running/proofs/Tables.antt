@@ -10,7 +10,7 @@ use lib.Dec.{eqb, ltb, leb}
 use lib.ListN.{length, getD, take}
 use lib.Seq.{length-take-le, getD-take}
 use borrow.Author.Tests.{eqb-true, eqb-false, ltb-true, lt-ltb, leb-true, le-leb}
-use Rattle.synthesis.specs.Monitor.{dropped, next, cases, ended, rowOf, meaning}
+use Rattle.synthesis.specs.Monitor.{Answer, dropped, next, cases, ended, meaning, lookup}
 use Rattle.synthesis.specs.Table.{InRange, WellFormedTable}
 use Rattle.synthesis.proofs.Tables.Rows.{row-at}
 use Rattle.synthesis.proofs.Tables.WellFormedTables.{well-formed-room, well-formed-row, well-formed-byte, well-formed-by-bytes}

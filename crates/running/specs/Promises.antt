@@ -9,9 +9,9 @@ use lib.ListN.{length, getD, take, drop}
 use Rattle.reading.specs.Rule.{Rule, Bytes}
 use Rattle.reading.specs.File.{Outcome, accepted}
 use Rattle.synthesis.specs.Violation.{ViolatesRule}
-use Rattle.synthesis.specs.Monitor.{dropped, cases, next, ended, meaning, lookup}
+use Rattle.synthesis.specs.Monitor.{dropped, cases, next, ended, Monitors, meaning, lookup}
 use Rattle.synthesis.specs.Table.{WellFormedTable}
-use Rattle.synthesis.specs.Building.{Builds}
+use Rattle.synthesis.specs.Building.{Builds, BuildsShort}
 use Rattle.synthesis.specs.Reason.{explanationOf, reasonOf}
 use Rattle.synthesis.specs.declared.Reason.{Reason}
 use Rattle.synthesis.specs.declared.Reason.the-variants.{Kept, Node}
@@ -35,10 +35,22 @@ pub record Sifted (r : Rule) (h : History) : Type 0 where
       ↔ ViolatesRule r (keptBefore h i ++ (getD (h .scans) i 0 ∷ []))
   pub safe : ViolatesRule r (h .kept) → ⊥
 
+abbrev pub Sifts : (limit mark : ℕ) → Rule → (n : ℕ) → (table : List ℕ) → Type 0
+Sifts limit mark r n table = (h : History) → Calls limit mark (OnTableOrRefused limit mark table n) h → Sifted r h
+
 abbrev pub DropsExactly : Type 0
 DropsExactly =
-    (limit mark : ℕ) (s table : List ℕ) (r : Rule) (n : ℕ) (left : List ℕ) → Builds limit mark s table r n left
-    → (h : History) → Calls limit mark (OnTableOrRefused limit mark left n) h → Sifted r h
+    (limit mark : ℕ) (s table : List ℕ) (r : Rule) (n : ℕ) (left : List ℕ) → Builds limit mark s table r n left → Sifts limit mark r n left
+
+-- So too on the table that the short build leaves, and on any other that is well formed and monitors a rule.
+abbrev pub ShortDropsExactly : Type 0
+ShortDropsExactly =
+    (limit mark : ℕ) (s table : List ℕ) (r : Rule) (n : ℕ) (left : List ℕ) → BuildsShort limit mark s table r n left → Sifts limit mark r n left
+
+abbrev pub MonitorsSift : Type 0
+MonitorsSift =
+    (limit mark : ℕ) (r : Rule) (n : ℕ) (table : List ℕ) → WellFormedTable limit mark n table → Monitors r (lookup 256 mark table) 0
+    → Sifts limit mark r n table
 
 -- ---- runs over some scans and then over others
 
@@ -106,11 +118,22 @@ RunsOnTables =
     → RunsOn limit mark table count s scans output verdicts
 
 -- No call on the table that building leaves is refused with 16, after any calls as in 1.
+abbrev pub NotUnfit : (limit mark n : ℕ) → (table : List ℕ) → Type 0
+NotUnfit limit mark n table =
+    (h : History) → Calls limit mark (OnTableOrRefused limit mark table n) h → (c : Call) → OnTable table n c
+    → checkedOf (outcomeOf limit mark (h .state) c) ≡ Refused 16 0 → ⊥
+
 abbrev pub NeverUnfit : Type 0
 NeverUnfit =
-    (limit mark : ℕ) (s table : List ℕ) (r : Rule) (n : ℕ) (left : List ℕ) → Builds limit mark s table r n left
-    → (h : History) → Calls limit mark (OnTableOrRefused limit mark left n) h → (c : Call) → OnTable left n c
-    → checkedOf (outcomeOf limit mark (h .state) c) ≡ Refused 16 0 → ⊥
+    (limit mark : ℕ) (s table : List ℕ) (r : Rule) (n : ℕ) (left : List ℕ) → Builds limit mark s table r n left → NotUnfit limit mark n left
+
+-- Nor is one on the table that the short build leaves, or on any other well-formed table.
+abbrev pub ShortNeverUnfit : Type 0
+ShortNeverUnfit =
+    (limit mark : ℕ) (s table : List ℕ) (r : Rule) (n : ℕ) (left : List ℕ) → BuildsShort limit mark s table r n left → NotUnfit limit mark n left
+
+abbrev pub WellFormedNotUnfit : Type 0
+WellFormedNotUnfit = (limit mark n : ℕ) (table : List ℕ) → WellFormedTable limit mark n table → NotUnfit limit mark n table
 
 -- ---- lent buffers
 
@@ -160,14 +183,20 @@ pub record Reasoned (limit : ℕ) (s : List ℕ) (h : History) : Type 0 where
   pub kept : (i : ℕ) → i < length (h .scans) → (getD (h .verdicts) i 0 ≡ 0) ↔ (reasonAfter limit s h i (getD (h .scans) i 0) ≡ Kept)
   pub fit : (i c number place : ℕ) → reasonAfter limit s h i c ≡ Reason′.Refused number place → ⊥
 
--- After any calls as in 1 this holds of the rule file that was built.
+-- After any calls as in 1 this holds of the rule file that was built, by the first build or by the short one.
+abbrev pub ReasonsOn : (limit mark : ℕ) → (s : List ℕ) → (n : ℕ) → (table : List ℕ) → Type 0
+ReasonsOn limit mark s n table = (h : History) → Calls limit mark (OnTableOrRefused limit mark table n) h → Reasoned limit s h
+
 abbrev pub ReasonsOfRuns : Type 0
 ReasonsOfRuns =
-    (limit mark : ℕ) (s table : List ℕ) (r : Rule) (n : ℕ) (left : List ℕ) → Builds limit mark s table r n left
-    → (h : History) → Calls limit mark (OnTableOrRefused limit mark left n) h → Reasoned limit s h
+    (limit mark : ℕ) (s table : List ℕ) (r : Rule) (n : ℕ) (left : List ℕ) → Builds limit mark s table r n left → ReasonsOn limit mark s n left
 
--- Any list that doesn't violate the rule and ends, over the table, in the equation of the caller's state gives every scan the reason that what was kept
--- gives.
+abbrev pub ShortReasonsOfRuns : Type 0
+ShortReasonsOfRuns =
+    (limit mark : ℕ) (s table : List ℕ) (r : Rule) (n : ℕ) (left : List ℕ) → BuildsShort limit mark s table r n left → ReasonsOn limit mark s n left
+
+-- Any list that doesn't violate the rule and ends, over the table of the first build, in the equation of the caller's state gives every scan the reason
+-- that what was kept gives. Over the short table this fails: merged equations drop alike, but not for the same reasons (`MergedReasons` of `examples`).
 abbrev pub ReasonsByState : Type 0
 ReasonsByState =
     (limit mark : ℕ) (s table : List ℕ) (r : Rule) (n : ℕ) (left : List ℕ) → Builds limit mark s table r n left
@@ -180,12 +209,17 @@ ReasonsByState =
 -- The theorem `promises` has this type, so that each promise has its proof.
 pub record Promises : Type 0 where
   pub drops-exactly : DropsExactly
+  pub short-drops-exactly : ShortDropsExactly
+  pub monitors-sift : MonitorsSift
   pub two-calls : TwoCalls
   pub conserves : Conserves
   pub calls-conserve : CallsConserve
   pub runs-on-tables : RunsOnTables
   pub never-unfit : NeverUnfit
+  pub short-never-unfit : ShortNeverUnfit
+  pub well-formed-not-unfit : WellFormedNotUnfit
   pub refused-unchanged : RefusedUnchanged
   pub rest-unchanged : RestUnchanged
   pub reasons-of-runs : ReasonsOfRuns
+  pub short-reasons-of-runs : ShortReasonsOfRuns
   pub reasons-by-state : ReasonsByState
