@@ -8,4 +8,5 @@ pub mod Passing
 pub mod Responses
 pub mod Suppressing
 pub mod Enforcing
+pub mod MonitoredAlike
 pub mod Promises

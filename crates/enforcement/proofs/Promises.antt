@@ -6,6 +6,7 @@ use Rattle.enforcement.proofs.SatisfactionLaws.{satisfies-safe}
 use Rattle.enforcement.proofs.DecidedSatisfaction.{decided-satisfied}
 use Rattle.enforcement.proofs.BisimulationLaws.{bisimilar-alike}
 use Rattle.enforcement.proofs.Walks.{weak-walks}
+use Rattle.enforcement.proofs.MonitoredAlike.{alike-bisimilar}
 
 pub promises : Promises
 promises = record {
@@ -16,4 +17,5 @@ promises = record {
   decided-satisfied = decided-satisfied;
   bisimilar-alike = bisimilar-alike;
   weak-walks = weak-walks;
+  alike-bisimilar = alike-bisimilar;
 }

@@ -7,6 +7,7 @@ use mathlib.Core.List.{List, [], _∷_}
 use Rattle.reading.specs.Rule.{Rule, Bytes}
 use Rattle.synthesis.specs.Violation.{ViolatesRule}
 use Rattle.synthesis.specs.Monitor.{Answer, kept, ended, Suppresses, Monitors}
+use Rattle.synthesis.specs.Merging.{DropAlike}
 use Rattle.enforcement.specs.Model.{Model, Walk, Weak, ByteCodes, Satisfies, SatisfiesDecided, Bisimilar, Response, suppressing, PassesKept, monitored}
 
 -- 1. Demand 3, for any monitor of a rule, any response that passes exactly what it keeps, and any model whose codes are bytes. The model behind the
@@ -65,6 +66,12 @@ BisimilarAlike = (m n : Model) → Bisimilar m n → (r : Rule) → Satisfies m 
 abbrev pub WeakWalks : Type 1
 WeakWalks = (m : Model) (s t : m .State) (c : ℕ) → Weak m s c t ↔ Walk m s (c ∷ []) t
 
+-- 8. Behind two monitors whose first equations drop alike, a model whose codes are bytes is strongly bisimilar to itself.
+abbrev pub AlikeBisimilar : Type 1
+AlikeBisimilar =
+    (E F : Type 0) (answer : E → ℕ → Answer E) (first : E) (answer′ : F → ℕ → Answer F) (first′ : F) → DropAlike 256 answer first answer′ first′
+    → (m : Model) → ByteCodes m → Bisimilar (monitored (suppressing answer) first m) (monitored (suppressing answer′) first′ m)
+
 -- ---- all of these
 
 -- The theorem `promises` has this type, so that each promise has its proof.
@@ -76,3 +83,4 @@ pub record Promises : Type 1 where
   pub decided-satisfied : DecidedSatisfied
   pub bisimilar-alike : BisimilarAlike
   pub weak-walks : WeakWalks
+  pub alike-bisimilar : AlikeBisimilar

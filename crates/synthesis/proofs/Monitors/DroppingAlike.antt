@@ -1,4 +1,5 @@
--- Equations that drop alike: they do after the same codes again, since the verdicts on what follows are the rest of all verdicts. Under a new name an
+-- Equations that drop alike: each code is dropped by both or by neither, and after the same codes they drop alike again, since the verdicts on what
+-- follows are the rest of all verdicts. Under a new name an
 -- equation drops alike, and so do the first equations of any two monitors of a rule.
 use Prim.Native.Nat.{ℕ, _<_}
 use mathlib.Core.Path.{_≡_, refl, sym, _∙_, ap}
@@ -14,6 +15,22 @@ use Rattle.synthesis.proofs.Monitors.MonitorLaws.{suppresses-nothing, s
 use Rattle.synthesis.proofs.Monitors.Renaming.{Renames, renamed-runs}
 
 module _ {E F : Type 0} (codes : ℕ) (answer : E → ℕ → Answer E) (answer′ : F → ℕ → Answer F) where
+  -- ---- one code
+
+  -- both drop it, or both keep it and go on alike
+  pub data StepAlike : Answer E → Answer F → Type 0 where
+    both-dropped : StepAlike dropped dropped
+    both-next : {e : E} {f : F} → DropAlike codes answer e answer′ f → StepAlike (next e) (next f)
+
+  pub alike-step : (e : E) (f : F) → DropAlike codes answer e answer′ f → (c : ℕ) → c < codes → StepAlike (answer e c) (answer′ f c)
+  alike-step e f alike c b = on (answer e c) refl (answer′ f c) refl
+    where
+      on : (a : Answer E) → answer e c ≡ a → (a′ : Answer F) → answer′ f c ≡ a′ → StepAlike a a′
+      on dropped q dropped q′ = both-dropped
+      on dropped q (next f′) q′ = let z : _≡_ {A = ℕ} 0 1 = cc (rw (q, q′) at (alike (c ∷ []) (b, tt))) in absurd (omega arith)
+      on (next e′) q dropped q′ = let z : _≡_ {A = ℕ} 0 1 = cc (rw (q, q′) at (alike (c ∷ []) (b, tt))) in absurd (omega arith)
+      on (next e′) q (next f′) q′ = both-next {e = e′} {f = f′} (λ w all. cc (rw (q, q′) at (alike (c ∷ w) (b, all))))
+
   -- ---- after the same codes
 
   pub alike-after : (e : E) (f : F) → DropAlike codes answer e answer′ f → (w : List ℕ) → All (λ c. c < codes) w

@@ -5,7 +5,7 @@ use Prim.Native.Nat.{ℕ, zero, suc, _≤_, _<_}
 use mathlib.Core.Path.{_≡_, refl, sym, _∙_, ap}
 use mathlib.Core.Logic.{_↔_, _⊎_, inl, inr}
 use mathlib.Core.Bool.{Bool, true}
-use mathlib.Core.List.{List, [], _∷_}
+use mathlib.Core.List.{List}
 use native.Mathlib.Decide.{decLe, decLt}
 use native.Mathlib.Omega.{arith}
 use lib.Dec.{eqb}
@@ -14,8 +14,9 @@ use lib.Seq.{ext-getD}
 use borrow.Author.Tests.{eq-eqb, eqb-true}
 use Rattle.reading.specs.Pattern.{least, countBelow}
 use Rattle.reading.proofs.Measures.Counting.{least-holds, least-le, least-min, count-below-le, count-below-no-wider}
-use Rattle.synthesis.specs.Monitor.{Answer, dropped, next}
+use Rattle.synthesis.specs.Monitor.{Answer, next}
 use Rattle.synthesis.specs.Merging.{DropAlike, upTo, together, refined, rounds}
+use Rattle.synthesis.proofs.Monitors.DroppingAlike.{StepAlike, both-dropped, both-next, alike-step}
 use Rattle.synthesis.proofs.Quotients.Together.{Agree, together-agree, agree-together, agree-refl, agree-sym, agree-trans}
 use Rattle.synthesis.proofs.Quotients.Together.{refined-length, refined-at, rounds-first, rounds-next, rounds-length}
 use Rattle.synthesis.proofs.Quotients.Settled.{Inside, Settled}
@@ -143,16 +144,14 @@ module _ (codes : ℕ) (answer : ℕ → ℕ → Answer ℕ) (count : ℕ) where
         rw (← rounds-next codes answer count r)
         (refined-class codes answer count (classesAfter r) k l h h′ .1 (record {
           one-class = never-parted r k l h h′ same;
-          alike = λ c b. on c b (answer k c) refl (answer l c) refl (never-parted r);
+          alike = λ c b.
+              on (alike-step codes answer answer k l same c b) (λ i. inside k c i h b) (λ j. inside l c j h′ b) (never-parted r);
         }))
       where
-        on : (c : ℕ) → c < codes → (a : Answer ℕ) → answer k c ≡ a → (a′ : Answer ℕ) → answer l c ≡ a′ → Unparted r
-            → upTo (classesAfter r) a ≡ upTo (classesAfter r) a′
-        on c b dropped p dropped q ih = refl
-        on c b dropped p (next j) q ih = let z : _≡_ {A = ℕ} 0 1 = cc (rw (p, q) at (same (c ∷ []) (b, tt))) in absurd (omega arith)
-        on c b (next i) p dropped q ih = let z : _≡_ {A = ℕ} 0 1 = cc (rw (p, q) at (same (c ∷ []) (b, tt))) in absurd (omega arith)
-        on c b (next i) p (next j) q ih =
-            ap next (ih i j (inside k c i h b p) (inside l c j h′ b q) (λ w all. cc (rw (p, q) at (same (c ∷ w) (b, all)))))
+        on : {a a′ : Answer ℕ} → StepAlike codes answer answer a a′ → ((i : ℕ) → a ≡ next i → i < count) → ((j : ℕ) → a′ ≡ next j → j < count)
+            → Unparted r → upTo (classesAfter r) a ≡ upTo (classesAfter r) a′
+        on both-dropped below below′ unparted = refl
+        on (both-next {e = i} {f = j} alike) below below′ unparted = ap next (unparted i j (below i refl) (below′ j refl) alike)
 
 pub settled : (codes : ℕ) (answer : ℕ → ℕ → Answer ℕ) (count : ℕ) → Inside codes answer count
     → Settled codes answer count (rounds codes answer count count)
