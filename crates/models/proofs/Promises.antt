@@ -1,6 +1,6 @@
 -- Each promise of this crate, by its theorem.
 use Rattle.models.specs.Promises.{Promises}
-use Rattle.models.proofs.Judgments.TablesEnforce.{tables-enforce}
+use Rattle.models.proofs.Judgments.TablesEnforce.{tables-enforce, short-tables-enforce, monitor-tables-enforce, short-bisimilar}
 use Rattle.models.proofs.Phones.DecidedSets.{decided-satisfies}
 use Rattle.models.proofs.Judgments.JudgingLaws.{judges-exactly, refused-unchanged}
 use Rattle.models.proofs.Judgments.Accepting.{accepts-exactly, refuses-unsatisfiable}
@@ -12,6 +12,9 @@ use Rattle.models.proofs.Phones.PhoneStates.{phones-finite}
 pub promises : Promises
 promises = record {
   tables-enforce = tables-enforce;
+  short-tables-enforce = short-tables-enforce;
+  monitor-tables-enforce = monitor-tables-enforce;
+  short-bisimilar = short-bisimilar;
   decided-satisfies = decided-satisfies;
   judges-exactly = judges-exactly;
   refused-unchanged = refused-unchanged;

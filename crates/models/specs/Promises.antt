@@ -9,11 +9,11 @@ use Rattle.reading.specs.Rule.{Rule, RuleWithinLimits, encode, Bytes}
 use Rattle.reading.specs.File.{accepted, refused, ruleOf}
 use Rattle.reading.specs.Promises.{OneFault}
 use Rattle.reading.specs.declared.FileRead.the-variants.{Accepted, Refused as NotAccepted}
-use Rattle.synthesis.specs.Monitor.{lookup}
-use Rattle.synthesis.specs.Building.{buildingOf, countedOf, tableLeft, Builds}
+use Rattle.synthesis.specs.Monitor.{Monitors, lookup}
+use Rattle.synthesis.specs.Building.{buildingOf, countedOf, tableLeft, Builds, BuildsShort}
 use Rattle.synthesis.specs.Promises.{Closed}
 use Rattle.synthesis.specs.declared.Counted.the-variants.{Equations, Refused}
-use Rattle.enforcement.specs.Model.{Model, Finite, Satisfies, SatisfiesDecided, suppressing}
+use Rattle.enforcement.specs.Model.{Model, Finite, ByteCodes, Satisfies, SatisfiesDecided, Bisimilar, suppressing, monitored}
 use Rattle.enforcement.specs.Promises.{Enforces, WalksBehind}
 use Rattle.models.specs.Phone.{Phone, noStep, modelOf, PhoneWithinLimits, encodePhone, phoneOf}
 use Rattle.models.specs.Faults.{Fault}
@@ -25,11 +25,29 @@ use Rattle.models.specs.declared.Judged.the-variants.{Meets, Breaks, Ref
 
 -- 1. Demand 3 holds for the table that building leaves, whatever the table held before, and every model file that isn't refused, with
 -- dropped scans in the claim.
+abbrev pub EnforcesRule : (mark : ℕ) → Rule → (table : List ℕ) → Type 1
+EnforcesRule mark r table =
+    (f : List ℕ) (y : Phone) → Bytes f → phoneOf f ≡ accepted y
+    → Enforces r (suppressing (lookup 256 mark table)) 0 (modelOf y) × WalksBehind (lookup 256 mark table) 0 (modelOf y)
+
 abbrev pub TablesEnforce : Type 1
 TablesEnforce =
-    (limit mark : ℕ) (s table : List ℕ) (r : Rule) (n : ℕ) (left : List ℕ) → Builds limit mark s table r n left
-    → (f : List ℕ) (y : Phone) → Bytes f → phoneOf f ≡ accepted y
-    → Enforces r (suppressing (lookup 256 mark left)) 0 (modelOf y) × WalksBehind (lookup 256 mark left) 0 (modelOf y)
+    (limit mark : ℕ) (s table : List ℕ) (r : Rule) (n : ℕ) (left : List ℕ) → Builds limit mark s table r n left → EnforcesRule mark r left
+
+-- So too for the table that the short build leaves, and for any other that monitors a rule.
+abbrev pub ShortTablesEnforce : Type 1
+ShortTablesEnforce =
+    (limit mark : ℕ) (s table : List ℕ) (r : Rule) (n : ℕ) (left : List ℕ) → BuildsShort limit mark s table r n left → EnforcesRule mark r left
+
+abbrev pub MonitorTablesEnforce : Type 1
+MonitorTablesEnforce = (mark : ℕ) (r : Rule) (table : List ℕ) → Monitors r (lookup 256 mark table) 0 → EnforcesRule mark r table
+
+-- Behind the tables of the two builds, every model whose codes are bytes is strongly bisimilar to itself from its start, whatever the tables held before.
+abbrev pub ShortBisimilar : Type 1
+ShortBisimilar =
+    (limit mark : ℕ) (s table : List ℕ) (r : Rule) (n : ℕ) (long : List ℕ) → Builds limit mark s table r n long
+    → (table′ : List ℕ) (m : ℕ) (short : List ℕ) → BuildsShort limit mark s table′ r m short → (p : Model) → ByteCodes p
+    → Bisimilar (monitored (suppressing (lookup 256 mark short)) 0 p) (monitored (suppressing (lookup 256 mark long)) 0 p)
 
 -- ---- judging
 
@@ -140,6 +158,9 @@ PhonesFinite = (y : Phone) → Finite (modelOf y)
 -- The theorem `promises` has this type, so that each promise has its proof.
 pub record Promises : Type 1 where
   pub tables-enforce : TablesEnforce
+  pub short-tables-enforce : ShortTablesEnforce
+  pub monitor-tables-enforce : MonitorTablesEnforce
+  pub short-bisimilar : ShortBisimilar
   pub decided-satisfies : DecidedSatisfies
   pub judges-exactly : JudgesExactly
   pub refused-unchanged : RefusedUnchanged
