@@ -104,7 +104,7 @@ module _ {limit mark : ℕ} {s table : List ℕ} {r : Rule} {n : ℕ} {short : L
   rows-differ : (i j : ℕ) → i < n → j < n → DropAlike 256 (lookup 256 mark short) i (lookup 256 mark short) j → i ≡ j
   rows-differ =
       rw (shortens b .filled-is, shortens b .count-is)
-      (rows-apart (rule-settled limit r few) (rule-inside limit r few) mark table (short-room b) (omega (arith, firsts-few b, b .below)))
+      (rows-apart (rule-settled limit r few) (rule-inside limit r few) mark table (short-room (shortens b)) (omega (arith, firsts-few (shortens b), b .below)))
 
   separated : Separated 256 (lookup 256 mark short) 0 n
   separated =

@@ -8,7 +8,8 @@ use lib.ListN.{length}
 use Rattle.reading.specs.Rule.{Rule, Bytes}
 use Rattle.reading.specs.File.{accepted, refused, ruleOf}
 use Rattle.synthesis.specs.Monitor.{Monitors, lookup}
-use Rattle.synthesis.specs.Building.{Synthesis, withEquations, buildingOf, countedOf, tableLeft, shortened, shortBuildingOf, Builds, BuildsShort}
+use Rattle.synthesis.specs.Table.{WellFormedTable}
+use Rattle.synthesis.specs.Building.{Synthesis, withEquations, buildingOf, countedOf, tableAfter, tableLeft, shortened, shortBuildingOf}
 use Rattle.synthesis.specs.Promises.{SameAfterRows}
 use Rattle.synthesis.specs.ShortPromises.{RefusesAlike, ShortRefusesAlike, ShortRefusedUnchanged, ShortBuildsAccepted, RunAlike, ShortDropsAlike}
 use Rattle.synthesis.specs.ShortPromises.{ShortMonitors, ShortDrops, ShortInRange, ShortRest}
@@ -22,7 +23,7 @@ use Rattle.synthesis.proofs.Tables.Built.{builds-accepted, builds-count
 use Rattle.synthesis.proofs.Quotients.Firsts.{firsts-length}
 use Rattle.synthesis.proofs.Quotients.Quotient.{firsts-closed}
 use Rattle.synthesis.proofs.Quotients.ShortTables.{count, classes, number, count-some, rule-inside, rule-settled, some-class, number-zero}
-use Rattle.synthesis.proofs.Quotients.ShortTables.{shortened-count, shortens, builds-long, firsts-few, short-room, rows-rename}
+use Rattle.synthesis.proofs.Quotients.ShortTables.{shortened-count, Shortens, counted-shortens, shortens, builds-long, firsts-few, short-room, rows-rename}
 
 -- ---- answers
 
@@ -84,12 +85,29 @@ short-drops limit mark s table r n short b = drops-violations r (lookup 256 mark
 
 -- ---- the bytes of the table
 
+module _ {limit mark : ℕ} {s table : List ℕ} {r : Rule} {n : ℕ} {left : List ℕ} (x : Shortens limit mark s table r n left) where
+  shortens-well-formed : WellFormedTable limit mark n left
+  shortens-well-formed =
+      let few = x .rows .few in
+      rw (x .filled-is, x .count-is)
+      (filled-well-formed limit mark _ _ table (short-room x) (firsts-closed (rule-settled limit r few) (rule-inside limit r few)) (some-class limit r few)
+      (firsts-few x))
+
+  shortens-rest : SameAfterRows n table left
+  shortens-rest = rw (x .filled-is, x .count-is) (filled-same-after limit mark _ _ table (short-room x))
+
 pub short-in-range : ShortInRange
-short-in-range limit mark s table r n short b =
-    let few = shortens b .rows .few in
-    rw (shortens b .filled-is, shortens b .count-is)
-    (filled-well-formed limit mark _ _ table (short-room b) (firsts-closed (rule-settled limit r few) (rule-inside limit r few)) (some-class limit r few) (firsts-few b))
+short-in-range limit mark s table r n left b = shortens-well-formed (shortens b)
 
 pub short-rest : ShortRest
-short-rest limit mark s table r n short b =
-    rw (shortens b .filled-is, shortens b .count-is) (filled-same-after limit mark _ _ table (short-room b))
+short-rest limit mark s table r n left b = shortens-rest (shortens b)
+
+-- the same from the count alone, whatever the mark
+pub short-counted-rest : (limit mark : ℕ) (s table : List ℕ) (n : ℕ) → countedOf (shortBuildingOf limit s (length table)) ≡ Equations n
+    → SameAfterRows n table (tableAfter mark (shortBuildingOf limit s (length table)) table)
+short-counted-rest limit mark s table n e =
+    let (z, is, n-is) = counted-accepts (shortBuildingOf limit s (length table)) n e in
+    let (y, built, made) = short-accepted limit s (length table) z is in
+    let (r, read) = synthesis-accepts limit s (λ y. (r : Rule) × (ruleOf s ≡ accepted r)) (λ r read h few. (r, read)) y
+    (building-accepts limit s (length table) y built .1) in
+    shortens-rest (counted-shortens limit mark s table r n read e)

@@ -111,6 +111,28 @@ shortened-table : (mark : ℕ) (y : Synthesis) (table : List ℕ)
 unfolding shortened
 shortened-table mark y table = refl
 
+pub counted-shortens : (limit mark : ℕ) (s table : List ℕ) (r : Rule) (n : ℕ) → ruleOf s ≡ accepted r
+    → countedOf (shortBuildingOf limit s (length table)) ≡ Equations n
+    → Shortens limit mark s table r n (tableAfter mark (shortBuildingOf limit s (length table)) table)
+counted-shortens limit mark s table r n read counted =
+    let (z, is, n-is) = counted-accepts (shortBuildingOf limit s (length table)) n counted in
+    let (y, built, made) = short-accepted limit s (length table) z is in
+    let rows = has-rows limit s table r read y built in
+    let same : z ≡ shortened (withEquations limit r) = sym made ∙ ap shortened (accepted-is (sym built ∙ rows .outcome)) in
+    record {
+      rows = rows;
+      count-is = n-is ∙ ap (λ (y : Synthesis). length (y .equations)) same ∙ shortened-count (withEquations limit r);
+      filled-is = ap (λ (o : Outcome Synthesis). tableAfter mark o table) (is ∙ ap accepted same)
+          ∙ shortened-table mark (withEquations limit r) table;
+    }
+
+module _ {limit mark : ℕ} {s table : List ℕ} {r : Rule} {n : ℕ} {left : List ℕ} (x : Shortens limit mark s table r n left) where
+  pub firsts-few : length (classFirsts limit r) ≤ limit
+  firsts-few = omega (arith, firsts-length (classes limit r) (count limit r), x .rows .few)
+
+  pub short-room : 256 * length (classFirsts limit r) ≤ length table
+  short-room = omega (arith, firsts-few, x .rows .room)
+
 module _ {limit mark : ℕ} {s table : List ℕ} {r : Rule} {n : ℕ} {left : List ℕ} where
   pub lengthens : Builds limit mark s table r n left → Lengthens limit mark s table r n left
   lengthens b =
@@ -118,17 +140,7 @@ module _ {limit mark : ℕ} {s table : List ℕ} {r : Rule} {n : ℕ} {left : Li
       record { rows = rows; count-is = builds-count b; filled-is = b .left-is ∙ ap (λ (o : Outcome Synthesis). tableAfter mark o table) (rows .outcome) }
 
   pub shortens : BuildsShort limit mark s table r n left → Shortens limit mark s table r n left
-  shortens b =
-      let (z, is, n-is) = counted-accepts (shortBuildingOf limit s (length table)) n (b .counted) in
-      let (y, built, made) = short-accepted limit s (length table) z is in
-      let rows = has-rows limit s table r (b .read) y built in
-      let same : z ≡ shortened (withEquations limit r) = sym made ∙ ap shortened (accepted-is (sym built ∙ rows .outcome)) in
-      record {
-        rows = rows;
-        count-is = n-is ∙ ap (λ (y : Synthesis). length (y .equations)) same ∙ shortened-count (withEquations limit r);
-        filled-is = b .left-is ∙ ap (λ (o : Outcome Synthesis). tableAfter mark o table) (is ∙ ap accepted same)
-            ∙ shortened-table mark (withEquations limit r) table;
-      }
+  shortens b = rw (b .left-is) (counted-shortens limit mark s table r n (b .read) (b .counted))
 
   -- where the short build builds, the first would have
   pub builds-long : BuildsShort limit mark s table r n left → Builds limit mark s table r (count limit r) (tableLeft limit mark s table)
@@ -146,17 +158,12 @@ module _ {limit mark : ℕ} {s table : List ℕ} {r : Rule} {n : ℕ} {short : L
   few : count limit r ≤ limit
   few = shortens b .rows .few
 
-  pub firsts-few : length (classFirsts limit r) ≤ limit
-  firsts-few = omega (arith, firsts-length (classes limit r) (count limit r), few)
-
-  pub short-room : 256 * length (classFirsts limit r) ≤ length table
-  short-room = omega (arith, firsts-few, shortens b .rows .room)
-
   -- the equations by their numbers
   pub short-renames : Renames 256 (λ k. k < count limit r) (numbered limit r) (lookup 256 mark short) (number limit r)
   short-renames =
       rw (shortens b .filled-is)
-      (quotient-renames (rule-settled limit r few) (rule-inside limit r few) mark table short-room (omega (arith, firsts-few, b .below)))
+      (quotient-renames (rule-settled limit r few) (rule-inside limit r few) mark table (short-room (shortens b))
+      (omega (arith, firsts-few (shortens b), b .below)))
 
   -- the rows of any table that the first build left
   pub rows-rename : (table′ long : List ℕ) (m : ℕ) → Builds limit mark s table′ r m long

@@ -8,7 +8,7 @@ use mathlib.Core.List.{List}
 use native.Mathlib.Omega.{arith}
 use lib.ListN.{length, getD}
 use Rattle.reading.specs.Rule.{Rule, RuleWithinLimits, encode, Bytes}
-use Rattle.reading.specs.File.{accepted, ruleOf}
+use Rattle.reading.specs.File.{Outcome, accepted, ruleOf}
 use Rattle.reading.proofs.Accepting.Encoding.{encoding-is-bytes}
 use Rattle.reading.proofs.Accepting.Accepted.{accepts-encodings}
 use Rattle.synthesis.specs.Monitor.{kept, verdicts, ended, Monitors, lookup}
@@ -17,7 +17,7 @@ use Rattle.synthesis.specs.Opening.{Answers}
 use Rattle.synthesis.specs.Answering.{firstOf, answerOf, unsatisfiable}
 use Rattle.synthesis.specs.Search.{indexOf}
 use Rattle.synthesis.specs.Table.{filled, WellFormedTable}
-use Rattle.synthesis.specs.Building.{equationsOf, Synthesis, withEquations, synthesisOf, buildingOf, countedOf, tableAfter, tableLeft, Builds}
+use Rattle.synthesis.specs.Building.{equationsOf, Synthesis, withEquations, synthesisOf, buildingOf, countedOf, tableAfter, tableLeft, BuildsBy, Builds}
 use Rattle.synthesis.specs.declared.Counted.the-variants.{Equations}
 use Rattle.synthesis.specs.Promises.{TableMonitors, TableDrops, RefusesViolatedByEmpty, RefusedUnchanged}
 use Rattle.synthesis.specs.Promises.{BuildsAccepted, BuiltWellFormed, EntryAnswers, EntriesAnswer, SameAfterRows, TableRest}
@@ -140,11 +140,13 @@ builds-accepted limit mark s table n below bytes e =
       },
     )
 
--- A file builds as a rule exactly where it is the encoding of that rule, within the limits, and is counted.
-pub builds-iff : (limit mark : ℕ) (s table : List ℕ) (r : Rule) (n : ℕ) (after : List ℕ) → limit ≤ mark
-    → Builds limit mark s table r n after
-    ↔ (RuleWithinLimits r × (s ≡ encode r) × (countedOf (buildingOf limit s (length table)) ≡ Equations n) × (after ≡ tableLeft limit mark s table))
-builds-iff limit mark s table r n after below = (
+-- A file builds as a rule, by any build, exactly where it is the encoding of that rule, within the limits, and is counted.
+pub builds-by-iff : (outcomeOf : (limit : ℕ) → List ℕ → (capacity : ℕ) → Outcome Synthesis) (limit mark : ℕ) (s table : List ℕ) (r : Rule) (n : ℕ)
+    (after : List ℕ) → limit ≤ mark
+    → BuildsBy outcomeOf limit mark s table r n after
+    ↔ (RuleWithinLimits r × (s ≡ encode r) × (countedOf (outcomeOf limit s (length table)) ≡ Equations n)
+    × (after ≡ tableAfter mark (outcomeOf limit s (length table)) table))
+builds-by-iff outcomeOf limit mark s table r n after below = (
   λ b. let (within, is) = accepts-encodings s (b .bytes) r .0 (b .read) in (within, is, b .counted, b .left-is),
   λ (within, is, counted, left-is).
       let bytes : Bytes s = rw is (encoding-is-bytes r within) in
@@ -155,7 +157,7 @@ builds-iff limit mark s table r n after below = (
 pub builds-encoded : (limit mark : ℕ) (r : Rule) (table : List ℕ) (n : ℕ) → limit ≤ mark → RuleWithinLimits r
     → countedOf (buildingOf limit (encode r) (length table)) ≡ Equations n → Builds limit mark (encode r) table r n (tableLeft limit mark (encode r) table)
 builds-encoded limit mark r table n below within e =
-    builds-iff limit mark (encode r) table r n (tableLeft limit mark (encode r) table) below .1 (within, refl, e, refl)
+    builds-by-iff buildingOf limit mark (encode r) table r n (tableLeft limit mark (encode r) table) below .1 (within, refl, e, refl)
 
 module _ {limit mark : ℕ} {s table : List ℕ} {r : Rule} {n : ℕ} {after : List ℕ} (b : Builds limit mark s table r n after) where
   -- the outcome is that of the rule
