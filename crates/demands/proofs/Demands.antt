@@ -5,30 +5,31 @@ use mathlib.Core.Logic.{inl, inr}
 use mathlib.Core.List.{List}
 use native.Mathlib.Omega.{arith}
 use lib.ListN.{length}
-use Rattle.reading.specs.Rule.{Rule}
 use Rattle.reading.proofs.Accepting.Accepted.{answers-accepted as rules-accepted}
 use Rattle.reading.proofs.Refusing.FaultsRefused as rules
-use Rattle.synthesis.specs.Building.{Builds}
+use Rattle.synthesis.specs.Building.{buildingOf, shortBuildingOf}
 use Rattle.synthesis.proofs.Tables.Equations.{file-well-formed}
 use Rattle.synthesis.proofs.Tables.Built as building
+use Rattle.synthesis.proofs.Quotients.ShortBuilds.{short-refuses-alike, short-refused-unchanged, short-counted-rest, short-counted-long}
 use Rattle.synthesis.proofs.Reasons.Alone.{violates-somewhere}
 use Rattle.synthesis.proofs.Reasons.Explained.{reasons-exactly}
 use Rattle.running.specs.Running.{resultOf}
 use Rattle.running.specs.Calls.{Call, History, Calls, OnTable, OnTableOrRefused}
+use Rattle.running.specs.Promises.{NotUnfit}
 use Rattle.running.specs.declared.Checked.the-variants as Checked
 use Rattle.running.proofs.Refusals.{runs-on-tables}
-use Rattle.running.proofs.BuiltTables.{never-unfit}
+use Rattle.running.proofs.BuiltTables.{never-unfit, short-never-unfit}
 use Rattle.running.proofs.Leaving as leaving
-use Rattle.running.proofs.DemandTwo.{drops-exactly}
-use Rattle.running.proofs.Reasons.{reasons-of-runs}
+use Rattle.running.proofs.DemandTwo.{drops-exactly, short-drops-exactly}
+use Rattle.running.proofs.Reasons.{reasons-of-runs, short-reasons-of-runs}
 use Rattle.models.proofs.Files.Encoding.{accepts-phones, encode-bytes, answers-accepted}
 use Rattle.models.proofs.Files.FileFaults as models
 use Rattle.models.proofs.Judgments.Accepting.{accepts-exactly}
 use Rattle.models.proofs.Judgments.JudgingLaws as judging
-use Rattle.models.proofs.Judgments.TablesEnforce.{tables-enforce}
+use Rattle.models.proofs.Judgments.TablesEnforce.{tables-enforce, short-tables-enforce}
 use Rattle.demands.specs.Outcomes.{running}
 use Rattle.demands.specs.Refusals.{RunRefused, short-buffer, unfit}
-use Rattle.demands.specs.Demands.{DemandOne, DemandTwo, DemandThree}
+use Rattle.demands.specs.Demands.{DemandOne, DemandTwo, DemandTwoShort, DemandThree}
 use Rattle.demands.proofs.Refused.{count-refused, build-refused}
 use Rattle.demands.proofs.RefusedReasons.{explain-refused}
 use Rattle.demands.proofs.UnfitTables.{unfit-not-fit}
@@ -43,17 +44,23 @@ demand-one = record {
     count = count-refused;
     explain = λ s kept scan bytes. explain-refused s bytes kept scan;
     build = λ s table bytes. build-refused s bytes (length table);
+    build-short = λ s table bytes number place.
+        let alike = short-refuses-alike 128 s (length table) .refused number place in
+        let refused = build-refused s bytes (length table) number place in
+        (λ e. refused .0 (alike .0 e), λ h. alike .1 (refused .1 h));
     run = run-refused;
     read-model = models.refuses-at-the-fault;
     judge = judge-refused;
   };
   unchanged = record {
     build = building.refused-unchanged 128 255;
+    build-short = short-refused-unchanged 128 255;
     run = leaving.refused-unchanged 128 255;
     judge = λ s table f answer judged number place. judging.refused-unchanged 128 255 s f table answer judged .refused;
   };
   rest = record {
     build = building.counted-rest 128 255;
+    build-short = short-counted-rest 128 255;
     run = leaving.rest-unchanged 128 255;
     judge = λ s table f answer judged. judging.refused-unchanged 128 255 s f table answer judged .judged;
   };
@@ -61,15 +68,14 @@ demand-one = record {
 
 -- ---- demand 2
 
--- a call with room for its scans on the table that building leaves
-module _ (s table : List ℕ) (r : Rule) (n : ℕ) (left : List ℕ) (b : Builds 128 255 s table r n left) (h : History)
-    (calls : Calls 128 255 (OnTableOrRefused 128 255 left n) h) (c : Call) (on : OnTable left n c)
-    (room : length (c .scans) ≤ length (c .output)) (room′ : length (c .scans) ≤ length (c .verdicts)) where
+-- a call with room for its scans on a table that is never unfit
+module _ (n : ℕ) (table : List ℕ) (fit : NotUnfit 128 255 n table) (h : History) (calls : Calls 128 255 (OnTableOrRefused 128 255 table n) h) (c : Call)
+    (on : OnTable table n c) (room : length (c .scans) ≤ length (c .output)) (room′ : length (c .scans) ≤ length (c .verdicts)) where
   call-unrefused : (number place : ℕ) → RunRefused (h .state) c number place → ⊥
   call-unrefused number place (short-buffer (inl short)) = omega arith
   call-unrefused number place (short-buffer (inr short)) = omega arith
   call-unrefused number place (unfit a a′ bad) =
-      never-unfit 128 255 s table r n left b h calls c on
+      fit h calls c on
       (runs-on-tables 128 255 (c .table) (c .count) (h .state) (c .scans) (length (c .output)) (length (c .verdicts)) .unfit .1
       (a, a′, unfit-not-fit bad))
 
@@ -79,7 +85,7 @@ module _ (s table : List ℕ) (r : Rule) (n : ℕ) (left : List ℕ) (b : Builds
 pub demand-two : DemandTwo
 demand-two = record {
   drops = drops-exactly 128 255;
-  takes = call-taken;
+  takes = λ s table r n left b. call-taken n left (never-unfit 128 255 s table r n left b);
   explains = reasons-exactly 128;
   places = λ s bytes r read. violates-somewhere r (file-well-formed s bytes r read);
   explains-runs = reasons-of-runs 128 255;
@@ -89,12 +95,25 @@ demand-two = record {
     λ (bytes, read). accepts-phones f bytes y .0 read,
     λ (w, is). (rw is (encode-bytes y (w .well-formed)), accepts-phones f (rw is (encode-bytes y (w .well-formed))) y .1 (w, is)),
   );
-  builds = λ s table r n left. building.builds-iff 128 255 s table r n left (omega arith);
+  builds = λ s table r n left. building.builds-by-iff buildingOf 128 255 s table r n left (omega arith);
   accepts = accepts-exactly 128;
   judges = judging.judges-exactly 128 255;
+}
+
+pub demand-two-short : DemandTwoShort
+demand-two-short = record {
+  drops = short-drops-exactly 128 255;
+  takes = λ s table r n left b. call-taken n left (short-never-unfit 128 255 s table r n left b);
+  explains-runs = short-reasons-of-runs 128 255;
+  builds = λ s table r n left. building.builds-by-iff shortBuildingOf 128 255 s table r n left (omega arith);
+  accepts = λ s table bytes room.
+      let accepts = accepts-exactly 128 s table bytes room in (
+        λ (m, e). accepts .0 (short-counted-long 128 s (length table) m e),
+        λ a. let (n, e) = accepts .1 a in let (m, e′, some, few) = short-refuses-alike 128 s (length table) .counted n e in (m, e′),
+      );
 }
 
 -- ---- demand 3
 
 pub demand-three : DemandThree
-demand-three = record { enforces = tables-enforce 128 255 }
+demand-three = record { enforces = tables-enforce 128 255; short-enforces = short-tables-enforce 128 255 }

@@ -6,7 +6,7 @@ use mathlib.Core.Logic.{_↔_}
 use mathlib.Core.List.{List}
 use lib.ListN.{length}
 use Rattle.reading.specs.File.{Outcome}
-use Rattle.synthesis.specs.Building.{Synthesis, synthesisOf, buildingOf, tableLeft}
+use Rattle.synthesis.specs.Building.{Synthesis, synthesisOf, buildingOf, tableAfter, tableLeft, shortBuildingOf}
 use Rattle.synthesis.specs.Reason.{explanationOf}
 use Rattle.running.specs.Running.{Run}
 use Rattle.running.specs.Calls.{Call, outcomeOf}
@@ -29,6 +29,13 @@ building s table = buildingOf 128 s (length table)
 
 abbrev pub tableBuilt : (s table : List ℕ) → List ℕ
 tableBuilt s table = tableLeft 128 255 s table
+
+-- the short build in a table
+abbrev pub shortBuilding : (s table : List ℕ) → Outcome Synthesis
+shortBuilding s table = shortBuildingOf 128 s (length table)
+
+abbrev pub shortTableBuilt : (s table : List ℕ) → List ℕ
+shortTableBuilt s table = tableAfter 255 (shortBuilding s table) table
 
 -- a call of a run with this state
 abbrev pub running : State → Call → Outcome Run

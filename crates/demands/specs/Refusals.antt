@@ -32,7 +32,7 @@ pub data ExplainRefused (s kept : List ℕ) : (number place : ℕ) → Type 1 wh
   -- 17: it isn't, and the shortest front of the kept scans that violates the rule ends with the one at this place
   violating-scan : (a : Acceptable 128 s) (i : ℕ) → FirstViolated (a .rule) kept i → ExplainRefused s kept 17 i
 
--- building, with a table of so many bytes
+-- building, by either build, with a table of so many bytes
 pub data BuildRefused (s : List ℕ) (capacity : ℕ) : (number place : ℕ) → Type 1 where
   -- 10, which comes first: the table is too short
   short-table : capacity < 32768 → BuildRefused s capacity 10 0

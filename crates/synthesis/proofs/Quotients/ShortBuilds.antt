@@ -49,6 +49,13 @@ module _ (limit : ℕ) (s : List ℕ) (capacity : ℕ) where
         (length (shortened y .equations), ap countedOf (short-accepts limit s capacity is), some, omega (arith, few, n-is));
   }
 
+  -- where the short build counts, the first does
+  pub short-counted-long : (m : ℕ) → countedOf (shortBuildingOf limit s capacity) ≡ Equations m → (n : ℕ) × (countedOf (buildingOf limit s capacity) ≡ Equations n)
+  short-counted-long m e =
+      let (z, is, m-is) = counted-accepts (shortBuildingOf limit s capacity) m e in
+      let (y, built, made) = short-accepted limit s capacity z is in
+      (length (y .equations), ap countedOf built)
+
 pub short-refuses-alike : ShortRefusesAlike
 short-refuses-alike = refuses-alike
 
