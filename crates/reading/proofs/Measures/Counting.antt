@@ -1,7 +1,8 @@
 -- Laws of the least number that a test holds of, and of how many numbers it holds of, for any test, each by recursion over the bound.
-use mathlib.Core.Path.{_≡_, refl, ap}
-use mathlib.Core.Bool.{Bool, true, false, cond, _&&_}
+use mathlib.Core.Path.{_≡_, refl, sym, _∙_, ap}
+use mathlib.Core.Bool.{Bool, true, false, cond, _&&_, true≢false}
 use Prim.Native.Nat.{ℕ, zero, suc, _+_, _*_, _≤_, _<_}
+use native.Mathlib.Decide.{decLt}
 use native.Mathlib.Nat.{add-zero, add-suc}
 use native.Mathlib.Omega.{arith}
 use Rattle.reading.specs.Pattern.{least, countBelow}
@@ -39,6 +40,23 @@ least-below (suc n) holds i h = on (holds zero) refl i h (least-below n (λ j. h
     on true e i h rest = absurd (omega arith)
     on false e zero h rest = e
     on false e (suc i) h rest = rest i (omega arith)
+
+pub least-le : (n : ℕ) (holds : ℕ → Bool) → least n holds ≤ n
+unfolding least
+least-le zero holds = omega arith
+least-le (suc n) holds = on (holds zero) (least-le n (λ i. holds (suc i)))
+  where
+    on : (b : Bool) {m : ℕ} → m ≤ n → cond b zero (suc m) ≤ suc n
+    on true h = omega arith
+    on false h = omega arith
+
+-- it is over no number that the test holds of
+pub least-min : (n : ℕ) (holds : ℕ → Bool) (i : ℕ) → holds i ≡ true → least n holds ≤ i
+least-min n holds i t = on (decLt i (least n holds))
+  where
+    on : Dec (i < least n holds) → least n holds ≤ i
+    on (yes h) = absurd (true≢false (sym t ∙ least-below n holds i h))
+    on (no h) = omega arith
 
 -- tests that agree have the same least
 pub least-same : (n : ℕ) (one other : ℕ → Bool) → ((i : ℕ) → i < n → one i ≡ other i) → least n one ≡ least n other
@@ -107,6 +125,40 @@ unfolding countBelow
 count-below-all zero holds h = refl
 count-below-all (suc n) holds h =
     rw (h n (omega arith)) (omega (arith, count-below-all n holds (λ i l. h i (omega arith))))
+
+-- A wider test counts no less. Where it counts no more, it is no wider.
+module _ (narrow wide : ℕ → Bool) where
+  abbrev Wider : ℕ → Type 0
+  Wider n = (i : ℕ) → i < n → narrow i ≡ true → wide i ≡ true
+
+  one-wider : (i : ℕ) → Wider (suc i) → cond {A = ℕ} (narrow i) 1 0 ≤ cond (wide i) 1 0
+  one-wider i wider = on (narrow i) (wider i (omega arith))
+    where
+      on : (b : Bool) → (b ≡ true → wide i ≡ true) → cond {A = ℕ} b 1 0 ≤ cond (wide i) 1 0
+      on true t = rw (t refl) (omega arith)
+      on false t = omega arith
+
+  pub count-below-wider : (n : ℕ) → Wider n → countBelow n narrow ≤ countBelow n wide
+  unfolding countBelow
+  count-below-wider zero wider = omega arith
+  count-below-wider (suc n) wider = omega (arith, count-below-wider n (λ i h. wider i (omega arith)), one-wider n wider)
+
+  pub count-below-no-wider :
+      (n : ℕ) → Wider n → countBelow n wide ≤ countBelow n narrow → (i : ℕ) → i < n → wide i ≡ true → narrow i ≡ true
+  unfolding countBelow
+  count-below-no-wider zero wider few i h t = absurd (omega arith)
+  count-below-no-wider (suc n) wider few i h t = on (decLt i n) (λ few l. count-below-no-wider n below few i l t)
+    where
+      below : Wider n
+      below i h = wider i (omega arith)
+
+      last : (b : Bool) → narrow n ≡ b → wide n ≡ true → narrow n ≡ true
+      last true e t = e
+      last false e t = absurd (omega (arith, rw (e, t) at few, count-below-wider n below))
+
+      on : Dec (i < n) → (countBelow n wide ≤ countBelow n narrow → i < n → narrow i ≡ true) → narrow i ≡ true
+      on (yes l) ih = ih (omega (arith, one-wider n wider)) l
+      on (no l) ih = let z : i ≡ n = omega arith in rw z (last (narrow n) refl (rw z at t))
 
 -- a condition beside the test
 pub count-below-and :
