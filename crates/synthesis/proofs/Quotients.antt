@@ -2,3 +2,4 @@
 pub mod Together
 pub mod Settled
 pub mod Refinement
+pub mod Firsts

@@ -1,5 +1,6 @@
 -- After as many rounds as there are equations the classes are settled. A round leaves the first equations of the classes first and, unless it changes
--- nothing, adds to them; and there are no more of them than equations. After a round that changes nothing no other does.
+-- nothing, adds to them; but there are no more of them than equations, and after a round that changes nothing no other changes anything. Equations
+-- that drop alike are never parted, as a code that they keep leads them to equations that drop alike.
 use Prim.Native.Nat.{ℕ, zero, suc, _≤_, _<_}
 use mathlib.Core.Path.{_≡_, refl, sym, _∙_, ap}
 use mathlib.Core.Logic.{_↔_, _⊎_, inl, inr}
@@ -99,7 +100,7 @@ module _ (codes : ℕ) (answer : ℕ → ℕ → Answer ℕ) (count : ℕ) where
   rounds-le zero k h = omega (arith, first-class k h)
   rounds-le (suc r) k h = rw (← rounds-next codes answer count r) (refined-le codes answer count (classesAfter r) k h)
 
-  -- round r changes nothing
+  -- one more round than r changes nothing
   abbrev Still : ℕ → Type 0
   Still r = classesAfter (suc r) ≡ classesAfter r
 
