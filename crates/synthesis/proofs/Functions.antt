@@ -11,5 +11,6 @@ pub mod EnabledLaws
 pub mod GraphLaws
 pub mod PlanLaws
 pub mod BuildingWays
+pub mod MergingRounds
 pub mod FollowingScans
 pub mod ExplainingWays

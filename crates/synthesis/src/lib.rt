@@ -2,6 +2,7 @@
 mod explaining;
 mod filling;
 mod graph;
+mod merging;
 mod search;
 
 use explaining::Followed;
