@@ -12,5 +12,6 @@ pub mod GraphLaws
 pub mod PlanLaws
 pub mod BuildingWays
 pub mod MergingRounds
+pub mod NumberingClasses
 pub mod FollowingScans
 pub mod ExplainingWays

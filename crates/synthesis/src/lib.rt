@@ -3,6 +3,7 @@ mod explaining;
 mod filling;
 mod graph;
 mod merging;
+mod renumbering;
 mod search;
 
 use explaining::Followed;
