@@ -13,5 +13,6 @@ pub mod PlanLaws
 pub mod BuildingWays
 pub mod MergingRounds
 pub mod NumberingClasses
+pub mod ShortWays
 pub mod FollowingScans
 pub mod ExplainingWays

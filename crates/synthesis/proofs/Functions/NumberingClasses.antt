@@ -68,6 +68,9 @@ module _ (classes : List ℕ) (n m : ℕ) (array numbers : List ℕ) (was : Clas
   pub numbered-few : m ≤ n
   numbered-few = omega (arith, was .count-is, firsts-length classes n)
 
+  pub numbered-front : AreNumbers n classes (take m array) numbers
+  numbered-front = rw (was .firsts-are) (was .numbers-are)
+
   pub numbered-inside : All (λ k. k < n) (take m array)
   numbered-inside = rw (was .firsts-are) (all-map (firsts classes n) (λ k f. f .below) (firsts-all classes n))
 

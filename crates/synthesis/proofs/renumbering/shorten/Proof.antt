@@ -1,59 +1,81 @@
+-- `renumbering::shorten` meets its contract.
+use native.Mathlib.Omega.{arith}
 use borrow.Author.Needs.{needs}
+use Rattle.synthesis.specs.Monitor.{mark, most, lookup}
+use Rattle.synthesis.specs.Merging.{rounds}
+use Rattle.synthesis.specs.Arrays.{ClassesNumbered}
+use Rattle.synthesis.proofs.Functions.NumberingClasses.{numbered-few, numbered-front, numbered-inside, numbered-small}
+use Rattle.synthesis.proofs.Functions.ShortWays.{zero-classes, long-classes}
 use Rattle.synthesis.proofs.renumbering.shorten.Statement.{statement}
 use Rattle.synthesis.proofs.renumbering.shorten.Tie as tie
-use Rattle.synthesis.proofs.renumbering.shorten.Reads as reads
-use Rattle.synthesis.proofs.renumbering.shorten.Lts as lts
-use Rattle.synthesis.proofs.merging.merge_first.Reads as merge-first-reads
-use Rattle.synthesis.proofs.renumbering.fill_short.Reads as fill-short-reads
-use Rattle.synthesis.proofs.renumbering.number.Reads as number-reads
 
--- src/renumbering.rt:101:26
+-- the classes of the long table are numbered
+numbered : (c : tie.After-number) →
+    let merging = c .before .before .before .before .before .before in
+    let x = merging .before .before .before .before .before .args in
+    ClassesNumbered (x .n) (rounds 256 (lookup 256 mark (x .long .now)) (x .n) (x .n)) (c .number .result) (c .number .last .1 .1 .0) (c .number .last .1 .1 .1 .0)
+numbered c =
+    let merging = c .before .before .before .before .before .before in
+    rw (merging .merge-first .ensures) at (c .number .ensures)
+
 slice-aggregate-merge-first : tie.Need-slice-aggregate-merge-first
 slice-aggregate-merge-first c = search needs
 
--- src/renumbering.rt:101:40
 slice-aggregate-merge-first-2 : tie.Need-slice-aggregate-merge-first-2
 slice-aggregate-merge-first-2 c = search needs
 
--- src/renumbering.rt:101:5
 merge-first-requires : tie.Need-merge-first-requires
-merge-first-requires c κs = ?
+merge-first-requires c κs =
+    let start = c .before .before .before .before in
+    let few = start .pre .0 .few in
+    (start .pre .0, few, few, zero-classes (start .args .n) 128 few)
 
--- src/renumbering.rt:104:20
 slice-aggregate-number : tie.Need-slice-aggregate-number
 slice-aggregate-number c = search needs
 
--- src/renumbering.rt:104:33
 slice-aggregate-number-2 : tie.Need-slice-aggregate-number-2
 slice-aggregate-number-2 c = search needs
 
--- src/renumbering.rt:104:46
 slice-aggregate-number-3 : tie.Need-slice-aggregate-number-3
 slice-aggregate-number-3 c = search needs
 
--- src/renumbering.rt:104:9
 number-requires : tie.Need-number-requires
-number-requires c κs = ?
+number-requires c κs =
+    let merging = c .before .before .before .before .before in
+    let start = merging .before .before .before .before .before in
+    let few = start .pre .0 .few in
+    (rw (merging .merge-first .ensures) (long-classes (start .pre .0)), few, omega (arith, merging .merge-first .kept .1 .1 .0), few, few)
 
--- src/renumbering.rt:105:25
 slice-aggregate-fill-short : tie.Need-slice-aggregate-fill-short
 slice-aggregate-fill-short c = search needs
 
--- src/renumbering.rt:105:37
 slice-aggregate-fill-short-2 : tie.Need-slice-aggregate-fill-short-2
 slice-aggregate-fill-short-2 c = search needs
 
--- src/renumbering.rt:105:5
 fill-short-requires : tie.Need-fill-short-requires
-fill-short-requires c κs = ?
+fill-short-requires c κs =
+    let called = c .before .before .before .before .before in
+    let start = called .before .before .before .before .before .before .before .before .before .before .before in
+    let kept = called .number .kept .1 .1 in
+    let n = numbered called in
+    let few = numbered-few _ _ _ _ _ n in
+    (
+      start .pre .0,
+      omega (arith, start .pre .0 .few, kept .0),
+      omega (arith, start .pre .0 .few, kept .1 .0),
+      omega (arith, start .pre .1),
+      numbered-inside _ _ _ _ _ n,
+      numbered-small _ _ _ _ _ n most (start .pre .0 .few) (omega (arith, start .pre .0 .few, kept .1 .0)),
+    )
 
--- src/renumbering.rt:92:1
 same-length : tie.Need-same-length
 same-length c = search needs
 
--- src/renumbering.rt:92:1
 returns : tie.Need-returns
-returns c = ?
+returns c =
+    let filled = c .before .before in
+    let n = numbered (filled .before .before .before .before .before .before) in
+    (n .count-is, rw (n .firsts-are) at (filled .fill-short .ensures _ (numbered-front _ _ _ _ _ n)))
 
 pub shorten-spec : {M : Type 1} → statement M
 shorten-spec =
