@@ -67,6 +67,6 @@ filled-leaves s table after p n c h e =
     rw (building-enough most s (length table) h, c .is) (
       ap Equations (c .count-is),
       e ∙ ap (λ (l : List ℕ). filled mark answers l 256 table) same
-          ∙ filled-cong mark 256 answers (answerOf (c .synthesis .rule)) agree (c .synthesis .equations) table
+          ∙ filled-cong mark 256 answers (answerOf (c .synthesis .rule)) (c .synthesis .equations) (λ i c h. agree _ c) table
           ∙ ap (λ (a : ℕ → ℕ → Answer ℕ). filled mark a (c .synthesis .equations) 256 table) (sym (c .fills .answer-is)),
     )

@@ -17,7 +17,8 @@ use Rattle.synthesis.specs.Opening.{Answers}
 use Rattle.synthesis.specs.Answering.{firstOf, answerOf, unsatisfiable}
 use Rattle.synthesis.specs.Search.{indexOf}
 use Rattle.synthesis.specs.Table.{filled, WellFormedTable}
-use Rattle.synthesis.specs.Building.{equationsOf, Synthesis, withEquations, synthesisOf, buildingOf, countedOf, tableAfter, tableLeft, Builds}
+use Rattle.synthesis.specs.Building.{equationsOf, Synthesis, withEquations, synthesisOf, buildingOf, countedOf, tableAfter, tableLeft}
+use Rattle.synthesis.specs.Building.{numberedAnswer, Builds}
 use Rattle.synthesis.specs.declared.Counted.the-variants.{Equations}
 use Rattle.synthesis.specs.Promises.{TableMonitors, TableDrops, RefusesViolatedByEmpty, RefusedUnchanged}
 use Rattle.synthesis.specs.Promises.{BuildsAccepted, BuiltWellFormed, EntryAnswers, EntriesAnswer, SameAfterRows, TableRest}
@@ -26,7 +27,7 @@ use Rattle.synthesis.proofs.Monitors.RuleMonitor.{rule-monitors, unsati
 use Rattle.synthesis.proofs.Numberings.Indices.{Member}
 use Rattle.synthesis.proofs.Tables.FilledTables.{entries-length, filled-length, filled-row, filled-rest}
 use Rattle.synthesis.proofs.Monitors.MonitorLaws.{drops-violations}
-use Rattle.synthesis.proofs.Tables.TableMonitors.{table-renames, table-range, table-answers}
+use Rattle.synthesis.proofs.Tables.TableMonitors.{table-renames, table-range, table-answers, table-numbers}
 use Rattle.synthesis.proofs.Tables.SynthesisOutcomes.{synthesis-accepts, building-accepts, refused-eight, refuses-eight}
 use Rattle.synthesis.proofs.Tables.SynthesisOutcomes.{counted-accepts, counted-refuses, accepts-as}
 use Rattle.synthesis.proofs.Tables.Equations.{file-well-formed, first-index, first-member, equations-closed}
@@ -98,6 +99,13 @@ module _ (limit mark : ℕ) (s table : List ℕ) where
           ends = rw (first-index limit r) at (alike .ends);
           found = alike .stays;
         }
+
+    -- each entry of the table is what its equation answers, by numbers
+    pub built-numbers : (k c : ℕ) → c < 256 → (y : Synthesis) → buildingOf limit s (length table) ≡ accepted y → k < length (y .equations)
+        → lookup 256 mark (tableLeft limit mark s table) k c ≡ numberedAnswer y k c
+    built-numbers k c b = leaves-admitted (λ y t. k < length (y .equations) → lookup 256 mark t k c ≡ numberedAnswer y k c) λ r admits h.
+        table-numbers 256 mark (answerOf r) (equationsOf limit r) (equations-closed limit r (admits .few)) table (admits .room)
+        (omega (arith, admits .few)) k c h b
 
     module _ (bytes : Bytes s) where
       pub built-monitors : (y : Synthesis) → buildingOf limit s (length table) ≡ accepted y

@@ -68,3 +68,12 @@ module _ (codes mark : ℕ) (answer : ℕ → ℕ → Answer ℕ) (l : List ℕ)
       on (next e) q =
           let m = closed k c e h b q in
           rw (ne-eqb (indexOf e l) mark (λ z. omega arith)) (ap next (index-is e l m), λ j p. let z : indexOf e l ≡ j = cc in omega arith)
+
+  -- Each entry is the answer of its row's equation, with the index of an equation for the equation.
+  pub table-numbers : length l ≤ mark → (k c : ℕ) → k < length l → c < codes
+      → lookup codes mark (filled mark answer l codes table) k c ≡ cases (answer (getD l k 0) c) dropped (λ e. next (indexOf e l))
+  table-numbers few k c h b = rw (filled-entry mark answer l codes table room k c mark h b) (on (answer (getD l k 0) c) refl)
+    where
+      on : (a : Answer ℕ) → answer (getD l k 0) c ≡ a → meaning mark (entryOf mark l a) ≡ cases a dropped (λ e. next (indexOf e l))
+      on dropped q = rw (eq-eqb mark mark refl)
+      on (next e) q = let m = closed k c e h b q in rw (ne-eqb (indexOf e l) mark (λ z. omega arith))
