@@ -21,9 +21,10 @@ module _ (codes : ℕ) (answer answer′ : ℕ → ℕ → Answer ℕ) (count : 
   unfolding refined
   refined-cong classes zero h = refl
   refined-cong classes (suc n) h =
-      rw
-      (refined-cong classes n (omega arith),
-      least-same n (together codes answer classes n) (together codes answer′ classes n) (λ l b. together-cong classes n l h (omega arith)))
+      rw (
+        refined-cong classes n (omega arith),
+        least-same n (together codes answer classes n) (together codes answer′ classes n) (λ l b. together-cong classes n l h (omega arith)),
+      )
 
   pub rounds-cong : (r : ℕ) → rounds codes answer count r ≡ rounds codes answer′ count r
   unfolding rounds

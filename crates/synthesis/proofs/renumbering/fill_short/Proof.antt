@@ -72,8 +72,7 @@ fill-short-row-requires : tie.Need-fill-short-row-requires Inv-loop μ-loop
 fill-short-row-requires c κs =
     let l = c .before .before .before .before in
     let start = l .before .before .before .before .before in
-    let x = start .args in
-    (
+    let x = start .args in (
       rw (length-take-le (x .n) (x .numbers .now) (start .pre .2)) (start .pre .0 .row _ (first-below l (omega arith))),
       start .pre .5,
       simp (length-take, length-drop) (omega arith),
@@ -90,8 +89,7 @@ loop-again c =
     let row = c .before .before in
     let l = row .before .before .before .before .before in
     let start = l .before .before .before .before .before in
-    let x = start .args in
-    (
+    let x = start .args in (
       search needs,
       search needs,
       λ classes are.

@@ -61,8 +61,7 @@ loop-less c = search needs
 
 loop-again : tie.Need-loop-again Inv-loop μ-loop
 loop-again c =
-    let l = c .before .before .before in
-    (
+    let l = c .before .before .before in (
       search needs,
       search needs,
       λ classes fs are.

@@ -43,8 +43,7 @@ cast-class c =
 number-one-requires : tie.Need-number-one-requires Inv-loop μ-loop
 number-one-requires c κs =
     let l = c .before .before .before .before in
-    let start = l .before .before .before .before in
-    (
+    let start = l .before .before .before .before in (
       omega (arith, class-is l (omega arith), start .pre .0 .le (l .loop .k) (omega arith)),
       numbered-few _ _ _ _ _ (l .loop .inv .3),
       search needs,
@@ -62,13 +61,12 @@ loop-again : tie.Need-loop-again Inv-loop μ-loop
 loop-again c =
     let called = c .before .before .before .before in
     let l = called .before .before .before .before .before in
-    let start = l .before .before .before .before in
-    (
+    let start = l .before .before .before .before in (
       search needs,
       search needs,
       search needs,
       called .number-one .ensures _ (class-is l (omega arith))
-      (rw (class-is l (omega arith)) at (start .pre .0 .again (l .loop .k) (omega arith))) (l .loop .inv .3),
+          (rw (class-is l (omega arith)) at (start .pre .0 .again (l .loop .k) (omega arith))) (l .loop .inv .3),
     )
 
 same-length : tie.Need-same-length Inv-loop μ-loop

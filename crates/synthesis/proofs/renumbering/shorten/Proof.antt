@@ -58,8 +58,7 @@ fill-short-requires c κs =
     let start = called .before .before .before .before .before .before .before .before .before .before .before in
     let kept = called .number .kept .1 .1 in
     let n = numbered called in
-    let few = numbered-few _ _ _ _ _ n in
-    (
+    let few = numbered-few _ _ _ _ _ n in (
       start .pre .0,
       omega (arith, start .pre .0 .few, kept .0),
       omega (arith, start .pre .0 .few, kept .1 .0),
