@@ -1,4 +1,4 @@
--- Laws of the tests by which equations are merged, and of the rounds. An equation with which k stays together stays together itself with the first of its
+-- Laws of the tests by which equations are merged, and of the rounds. An equation with which k stays together stays together with the first of its
 -- class, so it is enough to ask first equations. After a round that changes nothing no other does.
 use Prim.Native.Nat.{ℕ, zero, suc, _+_, _-_, _≤_, _<_}
 use mathlib.Core.Path.{_≡_, refl, sym, _∙_, ap}
@@ -88,22 +88,22 @@ module _ (codes : ℕ) (answer : ℕ → ℕ → Answer ℕ) (classes : List ℕ
     abbrev joins : ℕ → Bool
     joins l = eqb (getD next l 0) l && together codes answer classes k l
 
-    pub joined : (l : ℕ) → l < k → joins l ≡ true → NoneBelow l → least k (together codes answer classes k) ≡ l
-    joined l h is none = least-is k l (together codes answer classes k) h (on (eqb (getD next l 0) l) is) none
+    pub joined : (l : ℕ) → l < k → {b : Bool} → b ≡ joins l → b ≡ true → NoneBelow l → least k (together codes answer classes k) ≡ l
+    joined l h is t none = least-is k l (together codes answer classes k) h (on (eqb (getD next l 0) l) (sym is ∙ t)) none
       where
         on : (b : Bool) → (b && together codes answer classes k l) ≡ true → together codes answer classes k l ≡ true
         on true h = h
         on false h = absurd (true≢false (sym h))
 
-    pub not-joined : (l : ℕ) → l < k → joins l ≡ false → NoneBelow l → together codes answer classes k l ≡ false
-    not-joined l h is none = on (together codes answer classes k l) refl (eqb (getD next l 0) l) refl
+    pub not-joined : (l : ℕ) → l < k → {b : Bool} → b ≡ joins l → b ≡ false → NoneBelow l → together codes answer classes k l ≡ false
+    not-joined l h is f none = on (together codes answer classes k l) refl (eqb (getD next l 0) l) refl
       where
         class : getD next l 0 ≡ least l (together codes answer classes l)
         class = sym (getD-take k next l 0 h) ∙ rw begun (refined-at codes answer classes k l h)
 
         on : (b : Bool) → together codes answer classes k l ≡ b → (b′ : Bool) → eqb (getD next l 0) l ≡ b′ → b ≡ false
         on false q b′ q′ = refl
-        on true q true q′ = absurd (true≢false (rw (q, q′) at is))
+        on true q true q′ = absurd (true≢false (rw (q, q′) at (sym is ∙ f)))
         on true q false q′ = absurd (first-asked l q none (λ e. eqb-false (getD next l 0) l q′ (class ∙ e)))
 
 -- ---- rounds

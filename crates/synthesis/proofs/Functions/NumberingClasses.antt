@@ -1,5 +1,5 @@
--- Laws of the arrays that number classes, equation by equation. A class that comes up anew has its first equation put last, so the classes before it keep
--- their numbers; any other has a number already.
+-- Laws of the arrays that number classes, equation by equation. The first equation of a new class goes last, so the classes before it keep their
+-- numbers; any other class has a number already.
 use Prim.Native.Nat.{ℕ, suc, _+_, _≤_, _<_}
 use mathlib.Core.Path.{_≡_, refl, sym, _∙_, ap}
 use mathlib.Core.List.{List, [], _∷_, _++_}
@@ -86,13 +86,14 @@ module _ (classes : List ℕ) (n m : ℕ) (array numbers : List ℕ) (was : Clas
   module _ (room : n < length numbers) where
     pub numbered-new : getD classes n 0 ≡ n → m < length array → ClassesNumbered (n + 1) classes (m + 1) (set array m n) (set numbers n m)
     numbered-new first space =
+        let more-listed = numbers-append classes n (firsts classes n) numbers (was .numbers-are) (n ∷ []) in
         let absent = index-new n (firsts classes n) (λ h. omega (arith, member-first classes n n h .below)) in
         let more = length-append (firsts classes n) (n ∷ []) in
         rw (add-one n, add-one m) (record {
           firsts-are = take-suc-set array m n space ∙ rw (was .firsts-are, firsts-new classes n first);
           count-is = rw (firsts-new classes n first) (omega (arith, was .count-is, more));
           numbers-are = rw (firsts-new classes n first)
-              (numbers-next classes n (firsts classes n ++ (n ∷ [])) numbers (numbers-append classes n (firsts classes n) numbers (was .numbers-are) (n ∷ [])) m room
+              (numbers-next classes n (firsts classes n ++ (n ∷ [])) numbers more-listed m room
               (rw (first, absent) (was .count-is)) (omega (arith, was .count-is, more)));
         })
 

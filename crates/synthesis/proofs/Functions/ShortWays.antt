@@ -8,11 +8,11 @@ use native.Mathlib.Omega.{arith}
 use lib.Dec.{eqb}
 use lib.ListN.{length, getD, take, replicate}
 use borrow.Author.Tests.{eqb-false}
-use Rattle.reading.specs.File.{accepted, refused}
 use Rattle.synthesis.specs.Monitor.{mark, most, Answer, dropped, next, rowOf, lookup}
 use Rattle.synthesis.specs.Table.{WellFormedTable, filled}
 use Rattle.synthesis.specs.Merging.{upTo, merged, rounds, firsts}
-use Rattle.synthesis.specs.Building.{Synthesis, synthesisOf, buildingOf, countedOf, tableAfter, numberedAnswer, classesOf, shortened, shortBuildingOf}
+use Rattle.synthesis.specs.Building.{Synthesis, synthesisOf, buildingOf, countedOf, tableAfter}
+use Rattle.synthesis.specs.Building.{numberedAnswer, classesOf, shortened, shortBuildingOf}
 use Rattle.synthesis.specs.Arrays.{answerBy, AreClasses}
 use Rattle.synthesis.specs.declared.Counted.{Counted}
 use Rattle.synthesis.specs.declared.Counted.the-variants.{Equations, Refused}
@@ -108,9 +108,11 @@ module _ (s : List ℕ) (p : Plan) (n : ℕ) (c : CountedPlan (synthesisOf most 
       (built-numbers most mark s scratch (omega arith) k code b (c .synthesis) (building-enough most s (length scratch) room ∙ c .is)
       (omega (arith, c .count-is)))
 
-  pub shortened-leaves : (table after : List ℕ) (m : ℕ) → 32768 ≤ length table
-      → m ≡ length (firsts (rounds 256 (lookup 256 mark long) n n) n)
-      → after ≡ filled mark (merged (rounds 256 (lookup 256 mark long) n n) (lookup 256 mark long)) (firsts (rounds 256 (lookup 256 mark long) n n) n) 256 table
+  abbrev longClasses : List ℕ
+  longClasses = rounds 256 (lookup 256 mark long) n n
+
+  pub shortened-leaves : (table after : List ℕ) (m : ℕ) → 32768 ≤ length table → m ≡ length (firsts longClasses n)
+      → after ≡ filled mark (merged longClasses (lookup 256 mark long)) (firsts longClasses n) 256 table
       → ShortLeaves s table (Equations m) after
   unfolding shortBuildingOf
   shortened-leaves table after m enough count e =

@@ -2,8 +2,7 @@
 use mathlib.Core.Path.{refl}
 use native.Mathlib.Omega.{arith}
 use borrow.Author.Needs.{needs}
-use Rattle.synthesis.specs.Monitor.{mark, most}
-use Rattle.synthesis.specs.Table.{WellFormedTable}
+use Rattle.synthesis.specs.Monitor.{most}
 use Rattle.synthesis.specs.Building.{synthesisOf}
 use Rattle.synthesis.proofs.Functions.BuildingWays.{short-leaves, refused-plan-leaves, CountedPlan, plan-counted, counted-fills}
 use Rattle.synthesis.proofs.Functions.ShortWays.{refuses-alike, long-well-formed, shortened-leaves}
@@ -46,8 +45,10 @@ shorten-requires : tie.Need-shorten-requires
 shorten-requires c κs =
     let filled = c .before .before .before in
     let a = filled .before .before .before .before in
-    let p = counted a in
-    (long-well-formed _ _ _ p _ _ (omega arith) (filled .fill-table .ensures), omega (arith, p .count-is, p .fills .few, a .before .before .before .if1 .left))
+    let p = counted a in (
+      long-well-formed _ _ _ p _ _ (omega arith) (filled .fill-table .ensures),
+      counted-fills p _ (a .before .before .before .if1 .left) .4,
+    )
 
 same-length : tie.Need-same-length
 same-length c = search needs

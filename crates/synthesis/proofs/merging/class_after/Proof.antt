@@ -1,6 +1,6 @@
 -- `merging::class_after` meets its contract. None of the equations asked so far stays together with k; the measure is how many are left.
 use Prim.Native.Nat.{ℕ, _-_, _≤_, _<_}
-use mathlib.Core.Path.{_≡_, sym, _∙_}
+use mathlib.Core.Path.{_≡_, sym}
 use mathlib.Core.Bool.{false}
 use native.Mathlib.Omega.{arith}
 use borrow.Author.Count.{below-more}
@@ -27,7 +27,7 @@ returns : tie.Need-returns Inv-loop μ-loop
 returns c =
     let l = c .before .before .before in
     let pre = l .before .before .before .before .pre in
-    (sym (joined 256 _ _ _ _ (pre .3) _ (search needs) (sym (c .before .joins .ensures) ∙ c .if1 .taken) (l .loop .inv .1)), search needs)
+    (sym (joined 256 _ _ _ _ (pre .3) _ (search needs) (c .before .joins .ensures) (c .if1 .taken) (l .loop .inv .1)), search needs)
 
 add-l : tie.Need-add-l Inv-loop μ-loop
 add-l c = search needs
@@ -40,7 +40,7 @@ loop-again c =
     let l = c .before .before .before in
     let pre = l .before .before .before .before .pre in
     let none = l .loop .inv .1 in
-    (search needs, below-more _ _ none (not-joined 256 _ _ _ _ (pre .3) _ (search needs) (sym (c .before .joins .ensures) ∙ c .if1 .left) none))
+    (search needs, below-more _ _ none (not-joined 256 _ _ _ _ (pre .3) _ (search needs) (c .before .joins .ensures) (c .if1 .left) none))
 
 returns-2 : tie.Need-returns-2 Inv-loop μ-loop
 returns-2 c =

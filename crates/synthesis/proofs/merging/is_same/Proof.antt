@@ -27,7 +27,10 @@ shared-slice-read-result-2 : tie.Need-shared-slice-read-result-2
 shared-slice-read-result-2 c = not-mark (c .before .before .before .before .before .pre .1) (c .before .before .if3 .left)
 
 returns-4 : tie.Need-returns-4
-returns-4 c = sym (same-neither _ (c .before .before .before .before .before .args .classes .now) _ _ (c .before .before .before .if2 .left) (c .before .before .if3 .left))
+returns-4 c =
+    let third = c .before .before in
+    let second = third .before in
+    sym (same-neither _ (second .before .before .args .classes .now) _ _ (second .if2 .left) (third .if3 .left))
 
 pub is-same-spec : {M : Type 1} → statement M
 is-same-spec =

@@ -1,5 +1,5 @@
 -- `merging::merge` meets its contract. The classes are those after the rounds so far; the measure is how many rounds are left.
-use Prim.Native.Nat.{ℕ, _-_, _≤_, _<_}
+use Prim.Native.Nat.{ℕ, _-_, _≤_}
 use mathlib.Core.Path.{_≡_, sym, _∙_, ap, subst}
 use native.Mathlib.Omega.{arith}
 use borrow.Author.Needs.{needs}
@@ -22,11 +22,12 @@ abbrev μ-loop : tie.MeasureT-loop
 
 loop-holds : tie.Need-loop-holds Inv-loop μ-loop
 loop-holds c =
-    let start = c .before .before .before in (
+    let start = c .before .before .before in
+    let x = start .args in (
       search needs,
       search needs,
       search needs,
-      start .pre .2 ∙ sym (rounds-first 256 _ _) ∙ ap (rounds 256 (lookup 256 mark (start .args .long .now)) (length (start .args .classes .now))) (omega arith),
+      start .pre .2 ∙ sym (rounds-first 256 _ _) ∙ ap (rounds 256 (lookup 256 mark (x .long .now)) (length (x .classes .now))) (omega arith),
     )
 
 round-requires : tie.Need-round-requires Inv-loop μ-loop

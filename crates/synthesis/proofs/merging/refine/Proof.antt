@@ -1,5 +1,5 @@
 -- `merging::refine` meets its contract. The classes of the equations so far are put; the measure is how many equations are left.
-use Prim.Native.Nat.{ℕ, _-_, _≤_, _<_}
+use Prim.Native.Nat.{_-_, _≤_}
 use mathlib.Core.Path.{_≡_, sym, _∙_, ap}
 use native.Mathlib.Numerals.{add-one}
 use native.Mathlib.Omega.{arith}
@@ -43,10 +43,11 @@ loop-less c = search needs
 loop-again : tie.Need-loop-again Inv-loop μ-loop
 unfolding refined
 loop-again c =
-    let l = c .before .before .before in (
+    let l = c .before .before .before in
+    let k = l .loop .k in (
       search needs,
       search needs,
-      rw (add-one (l .loop .k), take-suc-set (l .loop .next) (l .loop .k) (c .class-after .result) (omega arith), l .loop .inv .2, c .class-after .ensures .0),
+      rw (add-one k, take-suc-set (l .loop .next) k (c .class-after .result) (omega arith), l .loop .inv .2, c .class-after .ensures .0),
     )
 
 same-length : tie.Need-same-length Inv-loop μ-loop
@@ -57,7 +58,7 @@ returns c =
     let l = c .before in
     let x = l .before .before .before .before .args in
     let all : l .loop .k ≡ length (x .classes .now) = omega arith in
-    sym (take-all (l .loop .k) (l .loop .next) (omega arith)) ∙ l .loop .inv .2 ∙ ap (λ (n : ℕ). refined 256 (lookup 256 mark (x .long .now)) (x .classes .now) n) all
+    sym (take-all (l .loop .k) (l .loop .next) (omega arith)) ∙ l .loop .inv .2 ∙ ap (refined 256 (lookup 256 mark (x .long .now)) (x .classes .now)) all
 
 pub refine-spec : {M : Type 1} → statement M
 refine-spec =

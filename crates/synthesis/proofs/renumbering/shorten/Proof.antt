@@ -13,7 +13,8 @@ use Rattle.synthesis.proofs.renumbering.shorten.Tie as tie
 numbered : (c : tie.After-number) →
     let merging = c .before .before .before .before .before .before in
     let x = merging .before .before .before .before .before .args in
-    ClassesNumbered (x .n) (rounds 256 (lookup 256 mark (x .long .now)) (x .n) (x .n)) (c .number .result) (c .number .last .1 .1 .0) (c .number .last .1 .1 .1 .0)
+    let last = c .number .last .1 .1 in
+    ClassesNumbered (x .n) (rounds 256 (lookup 256 mark (x .long .now)) (x .n) (x .n)) (c .number .result) (last .0) (last .1 .0)
 numbered c =
     let merging = c .before .before .before .before .before .before in
     rw (merging .merge-first .ensures) at (c .number .ensures)
