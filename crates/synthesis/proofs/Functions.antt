@@ -11,5 +11,8 @@ pub mod EnabledLaws
 pub mod GraphLaws
 pub mod PlanLaws
 pub mod BuildingWays
+pub mod MergingRounds
+pub mod NumberingClasses
+pub mod ShortWays
 pub mod FollowingScans
 pub mod ExplainingWays

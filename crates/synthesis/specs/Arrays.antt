@@ -13,6 +13,8 @@ use Rattle.reading.specs.declared.Pattern.{Pattern}
 use Rattle.reading.specs.declared.NumberedRule.{NumberedRule}
 use Rattle.synthesis.specs.Violation.{coveredBy}
 use Rattle.synthesis.specs.Monitor.{Answer}
+use Rattle.synthesis.specs.Search.{indexOf}
+use Rattle.synthesis.specs.Merging.{firsts}
 use Rattle.synthesis.specs.NodeSet.{Has, has, emptySet, singleton, union, intersection}
 use Rattle.synthesis.specs.Answering.{opening, opensAround, falsities, answerFrom, firstOf}
 use Rattle.synthesis.specs.declared.graph.Graph.{Graph}
@@ -123,3 +125,21 @@ answerBy after enabled falsities e c = answerFrom falsities (gathered after (int
 -- The first n elements of the array are the list; or the list is over the limit, and n is one more than the limit.
 abbrev pub Holds : (limit : ℕ) → List ℕ → (n : ℕ) → List ℕ → Type 0
 Holds limit a n l = ((n ≤ limit) × (take n a ≡ l)) ⊎ ((n ≡ suc limit) × (limit < length l))
+
+-- ---- merging
+
+-- Each class of n equations has the number of its first equation.
+pub record AreClasses (n : ℕ) (classes : List ℕ) : Type 0 where
+  pub le : (k : ℕ) → k < n → getD classes k 0 ≤ k
+  pub again : (k : ℕ) → k < n → getD classes (getD classes k 0) 0 ≡ getD classes k 0
+
+-- Each of n equations has a number: where the class of the equation stands in a list.
+pub record AreNumbers (n : ℕ) (classes listed numbers : List ℕ) : Type 0 where
+  pub is : (k : ℕ) → k < n → getD numbers k 0 ≡ indexOf (getD classes k 0) listed
+  pub below : (k : ℕ) → k < n → getD numbers k 0 < length listed
+
+-- The classes of n equations are numbered. There are m of them, and the first m elements of the array are their first equations.
+pub record ClassesNumbered (n : ℕ) (classes : List ℕ) (m : ℕ) (array numbers : List ℕ) : Type 0 where
+  pub firsts-are : take m array ≡ firsts classes n
+  pub count-is : m ≡ length (firsts classes n)
+  pub numbers-are : AreNumbers n classes (firsts classes n) numbers

@@ -1,5 +1,6 @@
 // Fills the rows of a table.
 use crate::DROPPED;
+use crate::graph::Graph;
 use crate::search::find;
 use crate::search::reached;
 ghost use mathlib.Core.Path.{_≡_};
@@ -44,14 +45,7 @@ fn fill_row(
 }
 
 // Fills the rows of all n equations.
-pub(crate) fn fill(
-    after: &[u64],
-    enabled: &[u64],
-    falsities: u64,
-    found: &[u64],
-    n: usize,
-    table: &mut [u8],
-)
+fn fill(after: &[u64], enabled: &[u64], falsities: u64, found: &[u64], n: usize, table: &mut [u8])
     requires { ⌜ (length (now after) ≡ 64) × (length (now enabled) ≡ 256) × (n ≤ most) × (n ≤ length (now found)) × (256 * n ≤ length (now table)) ⌝ }
     ensures { λ _. ⌜ now (table .exit)
         ≡ filled mark (answerBy (now (after .entry)) (now (enabled .entry)) falsities) (take n (now (found .entry))) 256 (now (table .entry)) ⌝ }
@@ -64,4 +58,15 @@ pub(crate) fn fill(
         fill_row(after, enabled, falsities, found, n, e, &mut table[from..to]);
         k += 1;
     }
+}
+
+// The same from the graph of the rule.
+pub(crate) fn fill_table(graph: Graph, found: [u64; 128], n: usize, table: &mut [u8])
+    requires { ⌜ (length (graph .after) ≡ 64) × (length (graph .enabled) ≡ 256) × (n ≤ most) × (n ≤ length found) × (256 * n ≤ length (now table)) ⌝ }
+    ensures { λ _. ⌜ now (table .exit)
+        ≡ filled mark (answerBy (graph .after) (graph .enabled) (graph .falsities)) (take n found) 256 (now (table .entry)) ⌝ }
+{
+    let after = graph.after;
+    let enabled = graph.enabled;
+    fill(&after, &enabled, graph.falsities, &found, n, table);
 }

@@ -2,6 +2,8 @@
 mod explaining;
 mod filling;
 mod graph;
+mod merging;
+mod renumbering;
 mod search;
 
 use explaining::Followed;
@@ -10,7 +12,7 @@ use reading::FileRead;
 ghost use mathlib.Core.Path.{_≡_};
 ghost use lib.ListN.{length};
 ghost use Rattle.synthesis.specs.Monitor.{mark, most, rowOf};
-ghost use Rattle.synthesis.specs.Building.{synthesisOf, buildingOf, countedOf, tableAfter};
+ghost use Rattle.synthesis.specs.Building.{synthesisOf, buildingOf, shortBuildingOf, countedOf, tableAfter};
 ghost use Rattle.synthesis.specs.Reason.{explanationOf, reasonOf};
 ghost use Rattle.synthesis.specs.Plans.{refusalOf, IsPlan};
 
@@ -107,12 +109,28 @@ pub fn build(rule: &[u8], table: &mut [u8]) -> Counted
     let Counted::Equations(n) = answer else {
         return answer;
     };
-    let graph = plan.graph;
-    let after = graph.after;
-    let enabled = graph.enabled;
     let found = plan.found;
-    filling::fill(&after, &enabled, graph.falsities, &found, n, table);
+    filling::fill_table(plan.graph, found, n, table);
     answer
+}
+
+// Fills a table with a row for each class of equations that drop alike, and answers how many there are. A refused call leaves the table as it was.
+pub fn build_short(rule: &[u8], table: &mut [u8]) -> Counted
+    ensures { λ r. ⌜ r ≡ countedOf (shortBuildingOf most (now (rule .entry)) (length (now (table .entry)))) ⌝ }
+    ensures { λ _. ⌜ now (table .exit) ≡ tableAfter mark (shortBuildingOf most (now (rule .entry)) (length (now (table .entry)))) (now (table .entry)) ⌝ }
+{
+    if table.len() < 32768 {
+        return Counted::Refused(10, 0);
+    }
+    let plan = plan_of(rule);
+    let answer = plan.answer;
+    let Counted::Equations(count) = answer else {
+        return answer;
+    };
+    let mut long = [0u8; 32768];
+    let found = plan.found;
+    filling::fill_table(plan.graph, found, count, &mut long);
+    Counted::Equations(renumbering::shorten(&long, count, table))
 }
 
 // The row of equation k, a part of the table; empty where it isn't wholly inside.

@@ -1,5 +1,5 @@
 -- What building answers and leaves: a law for each way out of the code, from what the plan is.
-use Prim.Native.Nat.{ℕ, _≤_, _<_}
+use Prim.Native.Nat.{ℕ, _*_, _≤_, _<_}
 use mathlib.Core.Path.{_≡_, refl, sym, _∙_, ap}
 use mathlib.Core.List.{List}
 use native.Mathlib.Omega.{arith}
@@ -21,7 +21,7 @@ use Rattle.synthesis.proofs.Functions.GraphLaws.{graph-answers}
 -- ---- a table that is too short
 
 -- the answer and the table after a call
-abbrev BuildLeaves : (s table : List ℕ) → (answer : Counted) → (after : List ℕ) → Type 0
+abbrev pub BuildLeaves : (s table : List ℕ) → (answer : Counted) → (after : List ℕ) → Type 0
 BuildLeaves s table answer after =
     (answer ≡ countedOf (buildingOf most s (length table))) × (after ≡ tableAfter mark (buildingOf most s (length table)) table)
 
@@ -57,6 +57,18 @@ outcome-counted (refused number place) p n e f = let z : _≡_ {A = ℕ} 0 1 = c
 pub plan-counted : {o : Outcome Synthesis} (p : Plan) (n : ℕ) → IsPlan o p → p .answer ≡ Equations n → CountedPlan o p n
 plan-counted {o} p n is e = outcome-counted o p n (sym e ∙ is .answer-is) (is .fills)
 
+-- what filling from it needs
+pub counted-fills : {o : Outcome Synthesis} {p : Plan} {n : ℕ} → CountedPlan o p n → (capacity : ℕ) → 32768 ≤ capacity
+    → (length (p .graph .after) ≡ 64) × (length (p .graph .enabled) ≡ 256) × (n ≤ most) × (n ≤ length (p .found)) × (256 * n ≤ capacity)
+counted-fills c capacity h =
+    let few = c .fills .few in (
+      c .fills .graph-is .after-length,
+      c .fills .graph-is .enabled-length,
+      omega (arith, c .count-is),
+      omega (arith, c .count-is, c .fills .found-length),
+      omega (arith, c .count-is),
+    )
+
 pub filled-leaves : (s table after : List ℕ) (p : Plan) (n : ℕ) → CountedPlan (synthesisOf most s) p n → 32768 ≤ length table
     → after ≡ filled mark (answerBy (p .graph .after) (p .graph .enabled) (p .graph .falsities)) (take n (p .found)) 256 table
     → BuildLeaves s table (Equations n) after
@@ -67,6 +79,6 @@ filled-leaves s table after p n c h e =
     rw (building-enough most s (length table) h, c .is) (
       ap Equations (c .count-is),
       e ∙ ap (λ (l : List ℕ). filled mark answers l 256 table) same
-          ∙ filled-cong mark 256 answers (answerOf (c .synthesis .rule)) agree (c .synthesis .equations) table
+          ∙ filled-cong mark 256 answers (answerOf (c .synthesis .rule)) (c .synthesis .equations) (λ i c h. agree _ c) table
           ∙ ap (λ (a : ℕ → ℕ → Answer ℕ). filled mark a (c .synthesis .equations) 256 table) (sym (c .fills .answer-is)),
     )

@@ -42,6 +42,11 @@ module _ (f : ℕ → ℕ) where
           let same = sym (tabulate-at m i below) ∙ index-is (f m) (tabulate f m) h in
           omega (arith, apart i m (omega arith) (omega arith) same)
 
+pub tabulate-cong : (f g : ℕ → ℕ) (n : ℕ) → ((i : ℕ) → i < n → f i ≡ g i) → tabulate f n ≡ tabulate g n
+unfolding tabulate
+tabulate-cong f g zero h = refl
+tabulate-cong f g (suc n) h = rw (tabulate-cong f g n (λ i b. h i (omega arith)), h n (omega arith))
+
 -- the numbers below n are those of their list
 pub number-member : (n i : ℕ) → i < n → Member i (tabulate (λ i. i) n)
 number-member n i h = member-at i (tabulate (λ i. i) n) i (omega (arith, tabulate-length (λ i. i) n)) (tabulate-at (λ i. i) n i h)

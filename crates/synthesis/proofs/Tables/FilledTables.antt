@@ -94,20 +94,21 @@ module _ (mark : ℕ) (answer : ℕ → ℕ → Answer ℕ) (l : List ℕ) where
         let n = length l in
         drop-at (rows mark answer l codes n) (drop (codes * n) table) (codes * n) (rows-length n)
 
--- ---- answers that agree on the codes fill alike
+-- ---- answers that agree on the listed equations and the codes fill alike
 
-module _ (mark codes : ℕ) (answer answer′ : ℕ → ℕ → Answer ℕ) (agree : (e c : ℕ) → c < codes → answer e c ≡ answer′ e c)
-    (l : List ℕ) where
-  entries-cong : (e n : ℕ) → n ≤ codes → entriesOf mark answer l e n ≡ entriesOf mark answer′ l e n
+module _ (mark codes : ℕ) (answer answer′ : ℕ → ℕ → Answer ℕ) (l : List ℕ) where
+  entries-cong : (e : ℕ) → ((c : ℕ) → c < codes → answer e c ≡ answer′ e c) → (n : ℕ) → n ≤ codes
+      → entriesOf mark answer l e n ≡ entriesOf mark answer′ l e n
   unfolding entriesOf
-  entries-cong e zero h = refl
-  entries-cong e (suc n) h = rw (agree e n h, entries-cong e n (omega arith))
+  entries-cong e agree zero h = refl
+  entries-cong e agree (suc n) h = rw (agree n h, entries-cong e agree n (omega arith))
 
-  rows-cong : (n : ℕ) → rows mark answer l codes n ≡ rows mark answer′ l codes n
-  unfolding rows
-  rows-cong zero = refl
-  rows-cong (suc n) = rw (rows-cong n, entries-cong (getD l n 0) codes (omega arith))
+  module _ (agree : (i c : ℕ) → i < length l → c < codes → answer (getD l i 0) c ≡ answer′ (getD l i 0) c) where
+    rows-cong : (n : ℕ) → n ≤ length l → rows mark answer l codes n ≡ rows mark answer′ l codes n
+    unfolding rows
+    rows-cong zero h = refl
+    rows-cong (suc n) h = rw (rows-cong n (omega arith), entries-cong (getD l n 0) (λ c b. agree n c h b) codes (omega arith))
 
-  pub filled-cong : (table : List ℕ) → filled mark answer l codes table ≡ filled mark answer′ l codes table
-  unfolding filled
-  filled-cong table = rw (rows-cong (length l))
+    pub filled-cong : (table : List ℕ) → filled mark answer l codes table ≡ filled mark answer′ l codes table
+    unfolding filled
+    filled-cong table = rw (rows-cong (length l) (omega arith))

@@ -1,9 +1,8 @@
 -- `build` meets its contract: each return is a row of what building answers and leaves.
-use native.Mathlib.Omega.{arith}
 use borrow.Author.Needs.{needs}
 use Rattle.synthesis.specs.Monitor.{most}
 use Rattle.synthesis.specs.Building.{synthesisOf}
-use Rattle.synthesis.proofs.Functions.BuildingWays.{short-leaves, refused-plan-leaves, CountedPlan, plan-counted, filled-leaves}
+use Rattle.synthesis.proofs.Functions.BuildingWays.{short-leaves, refused-plan-leaves, CountedPlan, plan-counted, counted-fills, filled-leaves}
 use Rattle.synthesis.proofs.build.Statement.{statement}
 use Rattle.synthesis.proofs.build.Tie as tie
 
@@ -29,33 +28,18 @@ returns-2 c =
     let p = c .before .before in
     refused-plan-leaves _ _ _ (p .plan-of .ensures) (c .enum-told .given .1) (p .before .if1 .left)
 
-slice-aggregate-fill : tie.Need-slice-aggregate-fill
-slice-aggregate-fill c = search needs
-
-slice-aggregate-fill-2 : tie.Need-slice-aggregate-fill-2
-slice-aggregate-fill-2 c = search needs
-
-slice-aggregate-fill-3 : tie.Need-slice-aggregate-fill-3
-slice-aggregate-fill-3 c = search needs
-
-fill-requires : tie.Need-fill-requires
-fill-requires c κs =
-    let a = c .before .before .before .before .before .before .before .before .before in
-    let f = counted a in (
-      f .fills .graph-is .after-length,
-      f .fills .graph-is .enabled-length,
-      omega (arith, f .count-is, f .fills .few),
-      omega (arith, f .count-is, f .fills .few, f .fills .found-length),
-      omega (arith, f .count-is, f .fills .few, a .before .before .before .if1 .left),
-    )
+fill-table-requires : tie.Need-fill-table-requires
+fill-table-requires c κs =
+    let a = c .before .before .before in
+    counted-fills (counted a) _ (a .before .before .before .if1 .left)
 
 same-length : tie.Need-same-length
 same-length c = search needs
 
 returns-3 : tie.Need-returns-3
 returns-3 c =
-    let a = c .before .before .before .before .before .before .before .before .before .before .before .before in
-    filled-leaves _ _ _ _ _ (counted a) (a .before .before .before .if1 .left) (c .before .before .fill .ensures)
+    let a = c .before .before .before .before .before .before in
+    filled-leaves _ _ _ _ _ (counted a) (a .before .before .before .if1 .left) (c .before .before .fill-table .ensures)
 
 pub build-spec : {M : Type 1} → statement M
 build-spec =
@@ -66,9 +50,6 @@ build-spec =
     enum-known-answer
     enum-told
     returns-2
-    slice-aggregate-fill
-    slice-aggregate-fill-2
-    slice-aggregate-fill-3
-    fill-requires
+    fill-table-requires
     same-length
     returns-3)
