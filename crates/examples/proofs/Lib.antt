@@ -10,6 +10,7 @@ pub mod NumberingExamples
 pub mod NodeExamples
 pub mod OverlapExample
 pub mod ReasonExamples
+pub mod ShortExamples
 pub mod PhoneSteps
 pub mod DrawnModel
 pub mod Shortening

@@ -5,6 +5,7 @@ use Rattle.examples.proofs.NumberingExamples.{numbering-examples}
 use Rattle.examples.proofs.NodeExamples.{node-examples}
 use Rattle.examples.proofs.OverlapExample.{overlap-example}
 use Rattle.examples.proofs.ReasonExamples.{reason-examples}
+use Rattle.examples.proofs.ShortExamples.{short-examples}
 use Rattle.examples.proofs.PoolModels.{model-examples}
 use Rattle.examples.proofs.PatternMeaning.{pattern-meaning}
 use Rattle.examples.proofs.RoundExample.{round-example}
@@ -18,6 +19,7 @@ promises = record {
   node-examples = node-examples;
   overlap-example = overlap-example;
   reason-examples = reason-examples;
+  short-examples = short-examples;
   model-examples = model-examples;
   pattern-meaning = pattern-meaning;
   round-example = round-example;

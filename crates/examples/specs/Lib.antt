@@ -4,6 +4,7 @@ pub mod NumberingExamples
 pub mod NodeExamples
 pub mod OverlapExample
 pub mod ReasonExamples
+pub mod ShortExamples
 pub mod ModelExamples
 pub mod PatternMeaning
 pub mod RoundExample

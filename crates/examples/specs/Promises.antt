@@ -7,6 +7,7 @@ use Rattle.examples.specs.NumberingExamples.{NumberingExamples}
 use Rattle.examples.specs.NodeExamples.{NodeExamples}
 use Rattle.examples.specs.OverlapExample.{OverlapExample}
 use Rattle.examples.specs.ReasonExamples.{ReasonExamples}
+use Rattle.examples.specs.ShortExamples.{ShortExamples}
 use Rattle.examples.specs.ModelExamples.{ModelExamples}
 use Rattle.examples.specs.PatternMeaning.{PatternMeaning}
 use Rattle.examples.specs.RoundExample.{RoundExample}
@@ -19,6 +20,7 @@ pub record Promises : Type 1 where
   pub node-examples : NodeExamples
   pub overlap-example : OverlapExample
   pub reason-examples : ReasonExamples
+  pub short-examples : ShortExamples
   pub model-examples : ModelExamples
   pub pattern-meaning : (ps : List Pattern) (i : ℕ) → PatternMeaning ps i
   pub round-example : RoundExample

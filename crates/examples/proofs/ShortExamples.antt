@@ -1,0 +1,147 @@
+-- The classes and the short tables of the rules are computed: the classes from what the equations answer by their numbers, and the rows from the classes.
+use Prim.Native.Nat.{ℕ, _≤_, _<_}
+use mathlib.Core.Path.{_≡_, refl, _∙_, ap}
+use mathlib.Core.Bool.{true, false}
+use mathlib.Core.List.{List, [], _∷_}
+use native.Mathlib.Omega.{arith}
+use lib.Dec.{eqb}
+use lib.ListN.{length, getD}
+use Rattle.reading.specs.Pattern.{bit, covers, least, every, countBelow}
+use Rattle.reading.specs.Rule.{Rule}
+use Rattle.reading.specs.File.{accepted, recordsAt, formulaAt, formulaOf, ruleOf}
+use Rattle.synthesis.specs.Violation.{ViolatesRule, by-first, by-second, by-code}
+use Rattle.synthesis.specs.Monitor.{Answer, dropped, rowOf, lookup}
+use Rattle.synthesis.specs.Answering.{firstOf, answerOf, unsatisfiable}
+use Rattle.synthesis.specs.Search.{tabulate, explored, found}
+use Rattle.synthesis.specs.Table.{entriesOf, filled}
+use Rattle.synthesis.specs.Merging.{DropAlike, merged, together, refined, rounds, firsts}
+use Rattle.synthesis.specs.Building.{equationsOf, Synthesis, withEquations, countedOf, numberedAnswer, classesOf, shortened, shortBuildingOf}
+use Rattle.synthesis.specs.Reason.{openedFalsities}
+use Rattle.reading.proofs.Measures.BoundedTests.{every-is}
+use Rattle.synthesis.specs.declared.Counted.the-variants.{Equations}
+use Rattle.synthesis.proofs.Tables.FilledTables.{filled-row}
+use Rattle.synthesis.proofs.Tables.SynthesisOutcomes.{accepts-with-equations, building-enough, short-accepts}
+use Rattle.listing.specs.Text.{decimalIn, decimal}
+use Rattle.examples.specs.Examples.{poolFile, poolRule, poolListing}
+use Rattle.examples.specs.ShortExamples.{shortTable, Merges, branchesFile, branchesRule, branchesSets, branchesListing, MergedReasons}
+use Rattle.examples.specs.ShortExamples.{idleFile, idleRule, idleListing, closedFile, closedRule, closedListing, ShortExamples}
+use Rattle.examples.proofs.FileAnswers.{reads}
+use Rattle.examples.proofs.Listed.{listingOf, listed-of}
+use Rattle.examples.proofs.ReasonExamples.{by-rule}
+
+-- ---- the short table of a rule whose equations and classes are known
+
+-- the rule with its equations
+abbrev given : Rule → (sets : List ℕ) → Synthesis
+given r sets = record { rule = r; equations = sets; answer = answerOf r }
+
+-- what the first equations answer
+abbrev shortAnswer : Rule → (sets classes : List ℕ) → ℕ → ℕ → Answer ℕ
+shortAnswer r sets classes = merged classes (numberedAnswer (given r sets))
+
+module _ (s : List ℕ) (r : Rule) (sets classes : List ℕ) (read : ruleOf s ≡ accepted r) (satisfiable : unsatisfiable r ≡ false)
+    (equations : equationsOf 128 r ≡ sets) (few : length sets ≤ 128) (classes-are : classesOf (given r sets) ≡ classes) where
+  with-sets : withEquations 128 r ≡ given r sets
+  with-sets = ap (given r) equations
+
+  abbrev fs : List ℕ
+  fs = firsts classes (length sets)
+
+  outcome : (table : List ℕ) → 32768 ≤ length table → shortBuildingOf 128 s (length table) ≡ accepted (shortened (given r sets))
+  outcome table room =
+      short-accepts 128 s (length table)
+      (building-enough 128 s (length table) room ∙ accepts-with-equations 128 s r read satisfiable (rw equations few) ∙ ap accepted with-sets)
+
+  short-left : (table : List ℕ) → 32768 ≤ length table → shortTable s table ≡ filled 255 (shortAnswer r sets classes) fs 256 table
+  unfolding shortened
+  short-left table room = rw (outcome table room, classes-are)
+
+  short-count : (table : List ℕ) → 32768 ≤ length table → countedOf (shortBuildingOf 128 s (length table)) ≡ Equations (length fs)
+  unfolding shortened
+  short-count table room = rw (outcome table room, classes-are)
+
+  pub short-row : length fs ≤ 128 → (table : List ℕ) → 32768 ≤ length table → (k : ℕ) → k < length fs
+      → rowOf 256 (shortTable s table) k ≡ entriesOf 255 (shortAnswer r sets classes) fs (getD fs k 0) 256
+  short-row small table room k h = rw (short-left table room) (filled-row 255 (shortAnswer r sets classes) fs 256 table (omega arith) k h)
+
+  pub merges : (n : ℕ) (lines : List ℕ) → length fs ≡ n → n ≤ 128 → listingOf r (shortAnswer r sets classes) fs ≡ lines
+      → Merges s r sets classes n lines
+  merges n lines count small is = record {
+    file = reads s r read satisfiable sets equations few;
+    equations = equations;
+    classes-are = ap classesOf with-sets ∙ classes-are;
+    counted = λ table room. short-count table room ∙ ap Equations count;
+    listed = λ table room.
+        rw (← count) (listed-of (shortAnswer r sets classes) fs (shortTable s table) (short-row (omega arith) table room) r ∙ is);
+  }
+
+-- ---- the rules
+
+record MergedRules : Type 0 where
+  branches : Merges branchesFile branchesRule branchesSets (0 ∷ 1 ∷ 2 ∷ 2 ∷ []) 3 branchesListing
+  pool : Merges poolFile poolRule (2 ∷ 0 ∷ 40 ∷ []) (0 ∷ 1 ∷ 2 ∷ []) 3 poolListing
+  idle : Merges idleFile idleRule (1 ∷ 0 ∷ []) (0 ∷ 0 ∷ []) 1 idleListing
+  closed : Merges closedFile closedRule (1 ∷ []) (0 ∷ []) 1 closedListing
+
+merged-rules : MergedRules
+unfolding ruleOf recordsAt formulaOf formulaAt unsatisfiable equationsOf found explored firstOf answerOf bit covers least countBelow rounds refined tabulate together firsts entriesOf decimal decimalIn
+merged-rules = record {
+  branches =
+      merges branchesFile branchesRule branchesSets (0 ∷ 1 ∷ 2 ∷ 2 ∷ []) refl refl refl (omega arith) refl 3 branchesListing refl (omega arith) refl;
+  pool = merges poolFile poolRule (2 ∷ 0 ∷ 40 ∷ []) (0 ∷ 1 ∷ 2 ∷ []) refl refl refl (omega arith) refl 3 poolListing refl (omega arith) refl;
+  idle = merges idleFile idleRule (1 ∷ 0 ∷ []) (0 ∷ 0 ∷ []) refl refl refl (omega arith) refl 1 idleListing refl (omega arith) refl;
+  closed = merges closedFile closedRule (1 ∷ []) (0 ∷ []) refl refl refl (omega arith) refl 1 closedListing refl (omega arith) refl;
+}
+
+-- ---- one equation and two reasons
+
+-- the first row of the short table
+branches-row : (table : List ℕ) → 32768 ≤ length table
+    → rowOf 256 (shortTable branchesFile table) 0 ≡ entriesOf 255 (shortAnswer branchesRule branchesSets (0 ∷ 1 ∷ 2 ∷ 2 ∷ [])) (0 ∷ 1 ∷ 2 ∷ []) 0 256
+unfolding ruleOf recordsAt formulaOf formulaAt unsatisfiable equationsOf found explored firstOf answerOf bit covers least rounds refined tabulate together firsts
+branches-row table room =
+    short-row branchesFile branchesRule branchesSets (0 ∷ 1 ∷ 2 ∷ 2 ∷ []) refl refl refl (omega arith) refl (omega arith) table room 0 (omega arith)
+
+-- one scan is no violation: the formula after it is a necessity
+one-scan : (c : ℕ) → ViolatesRule branchesRule (c ∷ []) → ⊥
+one-scan c (by-first (by-code q x)) = elim x [ ]
+one-scan c (by-second (by-code q x)) = elim x [ ]
+
+merged-reasons : MergedReasons
+unfolding entriesOf answerOf openedFalsities firstOf bit covers least
+merged-reasons = record {
+  one-equation = λ table room. rw (branches-row table room);
+  safe-5 = one-scan 5;
+  safe-7 = one-scan 7;
+  after-5 = by-rule branchesRule (merged-rules .branches .file) (5 ∷ []) 6;
+  after-7 = by-rule branchesRule (merged-rules .branches .file) (7 ∷ []) 6;
+}
+
+-- ---- a table without rows
+
+-- where both drop every code, they drop alike
+drop-all : (answer answer′ : ℕ → ℕ → Answer ℕ) → ((c : ℕ) → c < 256 → answer 0 c ≡ dropped) → ((c : ℕ) → c < 256 → answer′ 0 c ≡ dropped)
+    → DropAlike 256 answer 0 answer′ 0
+drop-all answer answer′ drops drops′ [] all = refl
+drop-all answer answer′ drops drops′ (c ∷ w) all =
+    rw (drops c (all .0), drops′ c (all .0)) (ap (λ (l : List ℕ). 1 ∷ l) (drop-all answer answer′ drops drops′ w (all .1)))
+
+-- every entry of the only row is the mark
+closed-row : (table : List ℕ) → 32768 ≤ length table → (c : ℕ) → c < 256 → lookup 256 255 (shortTable closedFile table) 0 c ≡ dropped
+unfolding ruleOf recordsAt formulaOf formulaAt unsatisfiable equationsOf found explored firstOf answerOf bit covers least rounds refined tabulate together firsts entriesOf
+closed-row table room c b =
+    let row = short-row closedFile closedRule (1 ∷ []) (0 ∷ []) refl refl refl (omega arith) refl (omega arith) table room 0 (omega arith) in
+    let entries = entriesOf 255 (shortAnswer closedRule (1 ∷ []) (0 ∷ [])) (0 ∷ []) 0 256 in
+    let marks : every 256 (λ c. eqb (getD entries c 255) 255) ≡ true = refl in
+    rw (row, every-is 256 (λ c. eqb (getD entries c 255) 255) .0 marks c b)
+
+pub short-examples : ShortExamples
+unfolding rowOf
+short-examples = record {
+  branches = merged-rules .branches;
+  merged-reasons = merged-reasons;
+  pool = merged-rules .pool;
+  idle = merged-rules .idle;
+  closed = merged-rules .closed;
+  needs-a-row = λ table room. drop-all (lookup 256 255 (shortTable closedFile table)) (lookup 256 255 []) (closed-row table room) (λ c b. refl);
+}
