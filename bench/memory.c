@@ -182,6 +182,13 @@ static void contests_of_rule(const char *name, const uint8_t *rule, size_t len, 
     contest_of_jobs(what, ours, twin, rounds);
 }
 
+static void contest_of_shortening(const char *what, const uint8_t *rule, size_t len, size_t rounds)
+{
+    struct job ours = {.rule = rule, .rule_len = len, .build = jarveun_build_short}, twin = ours;
+    twin.build = twin_build_short;
+    contest_of_jobs(what, ours, twin, rounds);
+}
+
 int main(int argc, char **argv)
 {
     size_t rounds = argc > 1 ? strtoul(argv[1], NULL, 10) : 0;
@@ -200,5 +207,10 @@ int main(int argc, char **argv)
     }
     contests_of_rule("paper", paper_rule, sizeof paper_rule, rounds);
     contests_of_rule("hard", hard_rule, sizeof hard_rule, rounds);
+    uint8_t chain[CHAIN_RULE];
+    chain_rule(chain);
+    contest_of_shortening("build_short hard", hard_rule, sizeof hard_rule, rounds);
+    contest_of_shortening("build_short chain", chain, sizeof chain, rounds);
+    contest_of_shortening("build_short wheels", wheels_rule, sizeof wheels_rule, rounds);
     return 0;
 }

@@ -6,6 +6,7 @@
 #include "twin.h"
 
 #include <stdint.h>
+#include <string.h>
 
 /* The paper's rule of 128 equations: max of "after any code, the variable" and "after code 5, seven times after any code, tt". */
 static const uint8_t paper_rule[] = {
@@ -28,6 +29,29 @@ static const uint8_t hard_rule[] = {
     4, 5, 0, 5, 0, 5, 0, 5, 0, 5, 0, 2,
     5, 0, 5, 0, 5, 0, 5, 0, 2,
 };
+
+/* Three wheels of 3, 5 and 8 places that each code turns by one; code 5 is dropped where some wheel isn't at its first place. So 120 equations of a ring
+   drop the same but for one, and each round of merging parts one more of them. */
+static const uint8_t wheels_rule[] = {
+    1, 255, 0, 31, 1, 1, 5, 5,
+    4, 4,
+    6, 5, 0, 4, 5, 1, 3, 5, 0, 4, 5, 1, 3, 5, 0, 7, 0,
+    6, 5, 0, 4, 5, 1, 3, 5, 0, 4, 5, 1, 3, 5, 0, 4, 5, 1, 3, 5, 0, 4, 5, 1, 3, 5, 0, 7, 0,
+    6, 5, 0, 4, 5, 1, 3, 5, 0, 4, 5, 1, 3, 5, 0, 4, 5, 1, 3, 5, 0, 4, 5, 1, 3, 5, 0, 4, 5, 1, 3, 5, 0, 4, 5, 1, 3, 5, 0, 4, 5, 1, 3, 5, 0, 7, 0,
+};
+
+enum { CHAIN_RULE = 4 + 2 * (MOST_NODES - 1) + 1 };
+
+/* As many necessities of any code as there can be, and ff: 63 equations, and each round of merging parts one more of them. */
+static inline void chain_rule(uint8_t *rule)
+{
+    memcpy(rule, paper_rule, 4);
+    for (uint8_t *byte = rule + 4; byte < rule + CHAIN_RULE - 1; byte += 2) {
+        byte[0] = NECESSITY;
+        byte[1] = 0;
+    }
+    rule[CHAIN_RULE - 1] = FALSITY;
+}
 
 enum { LARGEST_MODEL = 2 + 3 * MOST_STATES + 4 * (MOST_STEPS - MOST_STATES) };
 

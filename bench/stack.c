@@ -18,6 +18,11 @@ static void build(void)
     jarveun_build(rule, rule_len, table, sizeof table, &count);
 }
 
+static void build_short(void)
+{
+    jarveun_build_short(rule, rule_len, table, sizeof table, &count);
+}
+
 static void explain(void)
 {
     size_t value;
@@ -54,7 +59,7 @@ static size_t depth(void (*call)(void))
 }
 
 /* The most that was seen of each function. */
-static size_t building, explaining, judging, running;
+static size_t building, shortening, explaining, judging, running;
 
 static void most(size_t *a, size_t b)
 {
@@ -67,6 +72,7 @@ static void measure(const uint8_t *bytes, size_t n)
     rule = bytes;
     rule_len = n;
     most(&building, depth(build));
+    most(&shortening, depth(build_short));
     most(&explaining, depth(explain));
     most(&judging, depth(judge));
     most(&running, depth(run));
@@ -85,6 +91,6 @@ int main(void)
     /* One node more, where the file ends: no file has the reader go deeper. */
     nested[MOST_NODES - 1] = MAX;
     measure(nested, MOST_NODES);
-    printf("run\t%zu\nexplain\t%zu\nbuild\t%zu\njudge\t%zu\n", running, explaining, building, judging);
+    printf("run\t%zu\nexplain\t%zu\nbuild\t%zu\nbuild_short\t%zu\njudge\t%zu\n", running, explaining, building, shortening, judging);
     return 0;
 }

@@ -26,8 +26,9 @@ uint8_t twin_read(const uint8_t *bytes, size_t len, struct rule *rule, size_t *p
 /* As jarveun_build, without a table: one of refusals 1 to 9. */
 uint8_t twin_count(const uint8_t *rule, size_t rule_len, size_t *value);
 
-/* As jarveun_build, jarveun_explain and jarveun_judge. */
+/* As jarveun_build, jarveun_build_short, jarveun_explain and jarveun_judge. */
 uint8_t twin_build(const uint8_t *rule, size_t rule_len, uint8_t *table, size_t table_len, size_t *value);
+uint8_t twin_build_short(const uint8_t *rule, size_t rule_len, uint8_t *table, size_t table_len, size_t *value);
 uint8_t twin_explain(const uint8_t *rule, size_t rule_len, const uint8_t *kept, size_t kept_len, uint8_t scan, size_t *value);
 uint8_t twin_judge(const uint8_t *rule, size_t rule_len, const uint8_t *model, size_t model_len, uint8_t *table, size_t table_len, size_t *value);
 

@@ -1,4 +1,4 @@
-/* Builds the table of a rule, and explains why a scan is dropped. Sets of nodes are numbers, node k is bit k. */
+/* Builds the table of a rule and the shortest one, and explains why a scan is dropped. Sets of nodes are numbers, node k is bit k. */
 #include "jarveun.h"
 #include "twin.h"
 
@@ -142,6 +142,62 @@ uint8_t twin_build(const uint8_t *rule, size_t rule_len, uint8_t *table, size_t 
     uint8_t refused = plan(rule, rule_len, &g, found, value);
     if (!refused)
         fill(&g, found, *value, table);
+    return refused;
+}
+
+/* Whether equations k and l are of one class and lead to the same classes under every code. Dropped is a class of its own. */
+static int stay_together(const uint8_t *table, const uint8_t *classes, size_t k, size_t l)
+{
+    const uint8_t *a = table + CODES * k, *b = table + CODES * l;
+    if (classes[k] != classes[l])
+        return 0;
+    for (size_t code = 0; code < CODES; code++)
+        if (classes[a[code]] != classes[b[code]])
+            return 0;
+    return 1;
+}
+
+/* One round: the new class of each equation is the first one with which it stays together. Says whether any class has changed. */
+static int refine(const uint8_t *table, size_t n, uint8_t *classes)
+{
+    uint8_t next[MOST_EQUATIONS];
+    for (size_t k = 0; k < n; k++) {
+        size_t l = 0;
+        while (l < k && (next[l] != l || !stay_together(table, classes, k, l)))
+            l++;
+        next[k] = (uint8_t)l;
+    }
+    int changed = memcmp(classes, next, n) != 0;
+    memcpy(classes, next, n);
+    return changed;
+}
+
+/* Fills a table with a row for each class of the n equations of a longer one, and says how many there are. */
+static size_t shorten(const uint8_t *longer, size_t n, uint8_t *restrict table)
+{
+    uint8_t classes[CODES] = {[DROPPED] = DROPPED}, numbers[CODES] = {[DROPPED] = DROPPED};
+    size_t m = 0;
+    while (refine(longer, n, classes))
+        ;
+    for (size_t k = 0; k < n; k++)
+        numbers[k] = classes[k] == k ? (uint8_t)m++ : numbers[classes[k]];
+    for (size_t k = 0; k < n; k++)
+        if (classes[k] == k)
+            for (size_t code = 0; code < CODES; code++)
+                *table++ = numbers[longer[CODES * k + code]];
+    return m;
+}
+
+uint8_t twin_build_short(const uint8_t *rule, size_t rule_len, uint8_t *table, size_t table_len, size_t *value)
+{
+    uint8_t longer[LEAST_TABLE];
+    if (table_len < LEAST_TABLE) {
+        *value = 0;
+        return 10;
+    }
+    uint8_t refused = twin_build(rule, rule_len, longer, LEAST_TABLE, value);
+    if (!refused)
+        *value = shorten(longer, *value, table);
     return refused;
 }
 

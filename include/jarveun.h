@@ -13,8 +13,8 @@
 
    What a call takes
    - No globals, heap, files or locks: calls share nothing, and may run side by side, any number of them on one table that they only read.
-   - Stack. At most 200 bytes were seen in use by a run, 46,000 by explaining, 47,000 by building and 81,000 by judging, the last three on rules with
-     64 nodes, each inside the one before; bench/stack.c measures this.
+   - Stack. At most 200 bytes were seen in use by a run, 46,000 by explaining, 47,000 by building, 80,000 by the short build and 81,000 by judging, the
+     last four on rules with 64 nodes, each inside the one before; bench/stack.c measures this.
 
    The refusals. A place is an offset in bytes from 0, in the rule, or for 11 to 14 in the model, and for 17 in the kept scans. Where none is named
    below, it is that of the record's first byte.
@@ -46,7 +46,7 @@
 extern "C" {
 #endif
 
-/* The least size of a table for building and judging. */
+/* The least size of a table for both builds and for judging. */
 #define JARVEUN_TABLE 32768
 
 /* What explaining hands back for a kept scan. A rule has at most 64 nodes, numbered from 0, so no node has this number. */
@@ -57,6 +57,13 @@ extern "C" {
    or 255 where the code is dropped. The bytes after the last row are as they were.
    Refused: *value is the place, and the table is as it was. *value is never read. */
 uint8_t jarveun_build(const uint8_t *rule, size_t rule_len, uint8_t *table, size_t table_len, size_t *value);
+
+/* Builds the shortest table of a rule: equations that drop alike on every list of scans are one, and the rows are numbered as a search from row 0
+   finds them. A run over it keeps and drops what one over the table of jarveun_build does. The table has at least JARVEUN_TABLE bytes here too.
+   Refusals: 10, then 1 to 9, where 9 counts the equations before they are merged.
+   0: *value is the count of rows, 1 to 128, and they are as jarveun_build has them. The bytes after the last row are as they were.
+   Refused: *value is the place, and the table is as it was. *value is never read. */
+uint8_t jarveun_build_short(const uint8_t *rule, size_t rule_len, uint8_t *table, size_t table_len, size_t *value);
 
 /* Explains why a scan is dropped after the scans kept so far; any list of them that doesn't violate the rule is taken. Refusals: 1 to 9, then 17.
    0: *value is the number of the lowest ff node that the scan opens, 1 to 63, or JARVEUN_KEPT where the scan is kept. A node's number is how many
@@ -69,7 +76,7 @@ uint8_t jarveun_explain(const uint8_t *rule, size_t rule_len, const uint8_t *kep
    Refused: *value is the place, and the table is as it was. *value is never read. */
 uint8_t jarveun_judge(const uint8_t *rule, size_t rule_len, const uint8_t *model, size_t model_len, uint8_t *table, size_t table_len, size_t *value);
 
-/* Runs scans through a table with so many equations, as building answered. The table has at least 256 * count bytes, and no others are looked at;
+/* Runs scans through a table with so many equations, as one of the builds answered. The table has at least 256 * count bytes, and no others are looked at;
    the output and the verdicts have each at least as many bytes as there are scans. Refusals: 15, then 16.
    *equation goes in and comes out: the first equation, 0, before the first call, and then what the last call left there.
    0: the kept scans are at the front of the output, *kept of them, and at the front of the verdicts there is a byte for each scan, 0 kept or

@@ -6,6 +6,7 @@ from random import Random
 import known_equations
 import violation
 from equations import DROPPED_ENTRY, MOST_EQUATIONS, Equations, build, listing, rows_of, said
+from merging import short_rows
 from rules import After, Refusal, numbered, read_rule
 
 # Violation goes down a formula once for each code of a list.
@@ -55,9 +56,9 @@ def lists_of_codes(random, equations):
     return lists
 
 
-def verdicts_by_table(table, scans):
-    """Of each scan, whether it is dropped, by the rows of a table."""
-    state, dropped = 0, []
+def verdicts_by_table(table, scans, state=0):
+    """Of each scan, whether it is dropped, by the rows of a table from one of them on."""
+    dropped = []
     for scan in scans:
         entry = table[state][scan]
         dropped.append(entry == DROPPED_ENTRY)
@@ -72,13 +73,14 @@ def check_rows(table):
     expect(list(dict.fromkeys([0] + entries)) == list(range(len(table))), "order")
 
 
-def check_rule(random, rule):
-    """A list violates a rule exactly when running its equations drops a scan of it; and a scan is dropped exactly
-    when the kept ones and then the scan violate the rule. Says how many lists were tried."""
+def check_rule(random, rule, short):
+    """A list violates a rule exactly when running its equations drops a scan of it, by the sets, by their table or by the
+    short one; and a scan is dropped exactly when the kept ones and then the scan violate the rule. Says how many lists
+    were tried."""
     equations = Equations(rule)
-    table = rows_of(equations)
-    is_built = not isinstance(table, Refusal)
-    if is_built:
+    built = rows_of(equations)
+    tables = [] if isinstance(built, Refusal) else [built, short]
+    for table in tables:
         check_rows(table)
     lists = lists_of_codes(random, equations)
     if equations.has_falsity(equations.first):
@@ -87,7 +89,7 @@ def check_rule(random, rule):
     for codes in lists:
         dropped = equations.verdicts(codes)
         expect(violation.violates(rule, codes) == any(dropped), "violates", codes)
-        expect(not is_built or verdicts_by_table(table, codes) == dropped, "table", codes)
+        expect(all(verdicts_by_table(table, codes) == dropped for table in tables), "table", codes)
     for scans in lists[::7]:
         expect(violation.verdicts(rule, scans) == equations.verdicts(scans), "verdicts", scans)
     return len(lists)
@@ -121,7 +123,7 @@ def check(files):
         if isinstance(rule, Refusal):
             continue
         try:
-            lists += check_rule(random, rule)
+            lists += check_rule(random, rule, short_rows(data))
         except Disagreement as disagreement:
             raise Disagreement(list(data)) from disagreement
         rules += 1

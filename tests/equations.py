@@ -107,15 +107,19 @@ def can_drop(built):
     return any(DROPPED_ENTRY in entries for entries in built)
 
 
-def build(data, table):
-    """The rows with which building begins the lent table, or its refusal. The table is changed in place."""
+def build_by(rows_of_file, data, table):
+    """The rows with which a build begins the lent table, or its refusal. The table is changed in place."""
     if len(table) < LEAST_TABLE:
         return Refusal(10, 0)
-    built = rows(data)
+    built = rows_of_file(data)
     if not isinstance(built, Refusal):
         content = b"".join(built)
         table[: len(content)] = content
     return built
+
+
+def build(data, table):
+    return build_by(rows, data, table)
 
 
 def said(built):

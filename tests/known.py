@@ -6,9 +6,9 @@ ANY = "1 255 0 31 "
 ANY_LINE = "accepted p 255 0 31 0 256 32640"
 
 
-def counted(m):
-    """The paper's second family: a rule that remembers for m scans whether code 5 came."""
-    return ANY + ONE + "6 4 5 0 7 0 5 1 " + "5 0 " * m + "2"
+def counted(m, end="2"):
+    """The paper's second family: a rule that remembers for m scans whether code 5 came, and then ends with tt, or as is said."""
+    return ANY + ONE + "6 4 5 0 7 0 5 1 " + "5 0 " * m + end
 
 
 def counted_line(m):

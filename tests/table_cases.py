@@ -4,8 +4,10 @@ from random import Random
 import cases
 import known
 import known_equations
+import known_short
 from equations import LEAST_TABLE
 from equation_shapes import counters, drawn, families, limit_rules, pattern_rules, small_rules, tangled
+from merging_shapes import merging_rules
 from shapes import longest_rules, random_rules
 
 # Sizes on both sides of the least table, of its last row, of the end of row 155, and of the program's whole space.
@@ -17,6 +19,7 @@ MOST_BYTES = 1024
 
 def typed_files():
     typed = known_equations.listings() + known_equations.buildings() + known.answers()
+    typed += known_short.listings() + known_short.buildings()
     every = [file for file, *answer in typed + known_equations.verdicts() + known_equations.violations()]
     return [file for file in every if len(file) <= MOST_BYTES]
 
@@ -27,7 +30,7 @@ def rule_files(random):
     for nodes in range(1, 6):
         files += small_rules(nodes)
     files += small_rules(6)[::9] + small_rules(7)[::41]
-    return files + drawn(random, counters, 250) + drawn(random, tangled, 350) + limit_rules(random)
+    return files + drawn(random, counters, 250) + drawn(random, tangled, 350) + limit_rules(random) + merging_rules(random)
 
 
 def files():
@@ -38,6 +41,7 @@ def files():
 
 def with_sizes(every):
     """Each file with the least table, and some with tables of other sizes."""
-    listed = [file for file, text in known_equations.listings() if len(file) <= MOST_BYTES]
+    listings = known_equations.listings() + known_short.listings()
+    listed = [file for file, *answer in listings if len(file) <= MOST_BYTES]
     resized = [(size, file) for file in listed + every[::90] for size in SIZES]
     return [(LEAST_TABLE, file) for file in every] + resized

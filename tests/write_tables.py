@@ -5,11 +5,13 @@ Each case on the standard input of `tables` is a table's size and a file's lengt
 and then the rule file. Each case has one line on its standard output. With --check nothing is written, and the files
 are compared with what would be.
 """
+import compare_short
 import known_programs
 import table_cases
 from compare import check, expect
 from equations import CODES, build, listing, row, rows, said, text_of
-from expected import digest, is_check, settle, three_bytes
+from expected import digest, is_check, settle, three_bytes, told
+from merging import build_short
 from rules import Refusal
 
 # Numbers of rows that are asked for besides those of the equations and the one after.
@@ -27,23 +29,34 @@ def summary(content):
     return f"{len(content)} {digest(content)}"
 
 
-def line_of(case, size, data):
-    table = fresh_table(size, case)
-    count, built = rows(data), build(data, table)
-    equations = 0 if isinstance(built, Refusal) else len(built)
+def count_of(built):
+    return 0 if isinstance(built, Refusal) else len(built)
+
+
+def built_words(data, table, built):
+    """What a build answers, leaves in the table, and what is listed of it."""
+    behind = table[CODES * count_of(built) :]
+    return f"{said(built)} table {digest(table)} {digest(behind)} listing {summary(text_of(data, built).encode())}"
+
+
+def row_words(table, equations):
+    """The rows of the equations, and some that are asked for one by one."""
     handed = b"".join(row(table, number) for number in range(equations))
-    words = [said(count), said(built), f"table {digest(table)} rows {summary(handed)}"]
-    words.append(f"behind {digest(table[CODES * equations :])}")
-    for number in [equations] + ROWS:
-        words.append(f"r {summary(row(table, number))}")
-    words.append(f"listing {summary(text_of(data, built).encode())}")
-    return " ".join(words)
+    return ["rows", summary(handed)] + [summary(row(table, number)) for number in [equations] + ROWS]
+
+
+def line_of(case, size, data):
+    long_table, short_table = fresh_table(size, case), fresh_table(size, case)
+    built, merged = build(data, long_table), build_short(data, short_table)
+    words = [said(rows(data)), built_words(data, long_table, built), *row_words(long_table, count_of(built))]
+    return " ".join(words + ["short", built_words(data, short_table, merged)])
 
 
 def main():
     checks = is_check(__doc__)
     files = table_cases.files()
     rules, lists = check(files)
+    tally = compare_short.check(files)
     cases = table_cases.with_sizes(files)
     lines = [line_of(case, size, data) for case, (size, data) in enumerate(cases)]
     stdin = b"".join(three_bytes(size) + three_bytes(len(data)) + data for size, data in cases)
@@ -51,7 +64,7 @@ def main():
     for program, data, text in known_programs.programs():
         expect(listing(data) == text, program, listing(data))
         settle(program, data, text.splitlines(), checks)
-    print(f"{rules} rules compared on {lists} lists of codes, {len(cases)} cases")
+    print(f"{rules} rules compared on {lists} lists of codes, {len(cases)} cases: {told(tally)}")
 
 
 if __name__ == "__main__":

@@ -1,4 +1,4 @@
-// The library for programs in C: building, explaining, judging and running, under plain names. A slice is a pointer and a length; the contracts suppose that
+// The library for programs in C: both builds, explaining, judging and running, under plain names. A slice is a pointer and a length; the contracts suppose that
 // it is good, and apart from what is changed. include/jarveun.h declares the functions, and says what a caller owes. The definitions that the
 // contracts cite stand in specs/ of the layers; Results.antt has the answers as numbers.
 use models::Judged;
@@ -8,7 +8,7 @@ use synthesis::Counted;
 use synthesis::Reason;
 ghost use mathlib.Core.Path.{_≡_};
 ghost use lib.ListN.{length};
-ghost use Rattle.synthesis.specs.Building.{buildingOf, countedOf, tableAfter};
+ghost use Rattle.synthesis.specs.Building.{buildingOf, shortBuildingOf, countedOf, tableAfter};
 ghost use Rattle.synthesis.specs.Reason.{explanationOf, reasonOf};
 ghost use Rattle.running.specs.Running.{runOf, outputAfter, verdictsAfter};
 ghost use Rattle.models.specs.Judging.{judgingOf, JudgedAs, tableJudged};
@@ -17,14 +17,12 @@ ghost use Rattle.boundary.specs.Results.{countedResult, reasonResult, ju
 // What is handed back in place of a node where a scan is kept. No node of a rule has this number.
 const KEPT_VALUE: usize = 64;
 
-// Fills a table as building does. Answers 0, with the count of equations in `value`, or the number of a refusal, with its place.
-#[no_mangle]
-pub extern "C" fn jarveun_build(rule: &[u8], table: &mut [u8], value: &mut usize) -> u8
-    ensures { λ r. ⌜ r ≡ countedResult (countedOf (buildingOf 128 (now (rule .entry)) (length (now (table .entry))))) .number ⌝ }
-    ensures { λ _. ⌜ now (value .exit) ≡ countedResult (countedOf (buildingOf 128 (now (rule .entry)) (length (now (table .entry))))) .value ⌝ }
-    ensures { λ _. ⌜ now (table .exit) ≡ tableAfter 255 (buildingOf 128 (now (rule .entry)) (length (now (table .entry)))) (now (table .entry)) ⌝ }
+// Hands back what a build answers: 0, with the count of equations in `value`, or the number of a refusal, with its place.
+fn hand_back(answer: Counted, value: &mut usize) -> u8
+    ensures { λ r. ⌜ r ≡ countedResult answer .number ⌝ }
+    ensures { λ _. ⌜ now (value .exit) ≡ countedResult answer .value ⌝ }
 {
-    match synthesis::build(rule, table) {
+    match answer {
         Counted::Equations(count) => {
             *value = count;
             0
@@ -34,6 +32,26 @@ pub extern "C" fn jarveun_build(rule: &[u8], table: &mut [u8], value: &mut usize
             number
         }
     }
+}
+
+// Fills a table as building does, and hands back its answer.
+#[no_mangle]
+pub extern "C" fn jarveun_build(rule: &[u8], table: &mut [u8], value: &mut usize) -> u8
+    ensures { λ r. ⌜ r ≡ countedResult (countedOf (buildingOf 128 (now (rule .entry)) (length (now (table .entry))))) .number ⌝ }
+    ensures { λ _. ⌜ now (value .exit) ≡ countedResult (countedOf (buildingOf 128 (now (rule .entry)) (length (now (table .entry))))) .value ⌝ }
+    ensures { λ _. ⌜ now (table .exit) ≡ tableAfter 255 (buildingOf 128 (now (rule .entry)) (length (now (table .entry)))) (now (table .entry)) ⌝ }
+{
+    hand_back(synthesis::build(rule, table), value)
+}
+
+// The same by the short build.
+#[no_mangle]
+pub extern "C" fn jarveun_build_short(rule: &[u8], table: &mut [u8], value: &mut usize) -> u8
+    ensures { λ r. ⌜ r ≡ countedResult (countedOf (shortBuildingOf 128 (now (rule .entry)) (length (now (table .entry))))) .number ⌝ }
+    ensures { λ _. ⌜ now (value .exit) ≡ countedResult (countedOf (shortBuildingOf 128 (now (rule .entry)) (length (now (table .entry))))) .value ⌝ }
+    ensures { λ _. ⌜ now (table .exit) ≡ tableAfter 255 (shortBuildingOf 128 (now (rule .entry)) (length (now (table .entry)))) (now (table .entry)) ⌝ }
+{
+    hand_back(synthesis::build_short(rule, table), value)
 }
 
 // Explains why a scan is dropped after the scans kept so far. Answers 0, with the number of an ff node in `value`, or `KEPT_VALUE` where the scan is

@@ -42,6 +42,9 @@ const SCANS: [u8; 6] = [37, 5, 128, 5, 37, 5];
 // Both "after code 5, ff", its node 2, and "after code 37, ff", its node 4.
 const EITHER: [u8; 15] = [1, 1, 5, 5, 1, 2, 5, 5, 4, 5, 0, 3, 5, 1, 3];
 
+// Both "after code 5, after code 37, ff" and "after code 37, after code 37, ff": 4 equations, of which two drop alike.
+const ALIKE: [u8; 19] = [1, 1, 5, 5, 1, 2, 5, 5, 4, 5, 0, 5, 1, 3, 5, 1, 5, 1, 3];
+
 const NOTHING: [u8; 0] = [];
 
 const CANCELLED: [u8; 1] = [37];
@@ -77,6 +80,13 @@ fn build(rule: &[u8], table: &mut [u8]) -> usize {
     let mut value = 99;
     let number = boundary::jarveun_build(rule, table, &mut value);
     print_result(b"build", number, value);
+    value
+}
+
+fn build_short(rule: &[u8], table: &mut [u8]) -> usize {
+    let mut value = 99;
+    let number = boundary::jarveun_build_short(rule, table, &mut value);
+    print_result(b"build_short", number, value);
     value
 }
 
@@ -131,6 +141,20 @@ fn explain_all() {
     explain(&EITHER, &CANCELLED, 5);
 }
 
+// Builds both ways, and runs over the short table.
+fn shorten_all() {
+    let mut small = [0u8; 32767];
+    build_short(&ALIKE, &mut small);
+    let mut table = [0u8; 32768];
+    build_short(&UNGUARDED, &mut table);
+    build_short(&POOL, &mut table);
+    build(&ALIKE, &mut table);
+    let count = build_short(&ALIKE, &mut table);
+    let mut verdicts = [7u8; 8];
+    run(&table, count, 0, &mut verdicts);
+    run(&table, count, 2, &mut verdicts);
+}
+
 fn main() {
     let mut judged = [0u8; 32768];
     judge(&POOL, &BREAKS, &mut judged);
@@ -147,4 +171,5 @@ fn main() {
     run(&table, count, 3, &mut verdicts);
     let mut few = [7u8; 5];
     run(&table, count, 2, &mut few);
+    shorten_all();
 }

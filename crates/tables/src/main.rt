@@ -1,5 +1,5 @@
-// Reads rule files from standard input, builds the table of each, and prints a line for each with what is said of it, left in it and
-// listed of it.
+// Reads rule files from standard input, builds the table of each and then the short one, and prints a line for each file with what is said of it, left in
+// the tables and listed of them.
 // A case is a table's size and a file's length, each as three bytes, highest first, and then the rule file. The input ends after the last.
 use libc::STDIN_FILENO;
 use libc::STDOUT_FILENO;
@@ -112,18 +112,20 @@ fn print_summary(summary: Summary) {
 
 fn print_row(table: &[u8], k: usize) {
     let row = synthesis::row(table, k);
-    io::write_all(STDOUT_FILENO, b" r");
     print_field(row.len() as u64);
     print_field(digest(0, row));
 }
 
+// The digests of the whole table and of what stands behind its first n rows.
 fn print_table(table: &[u8], n: usize) {
     io::write_all(STDOUT_FILENO, b" table");
     print_field(digest(0, table));
+    print_field(behind_digest(table, n));
+}
+
+fn print_rows(table: &[u8], n: usize) {
     io::write_all(STDOUT_FILENO, b" rows");
     print_summary(rows_summary(table, n));
-    io::write_all(STDOUT_FILENO, b" behind");
-    print_field(behind_digest(table, n));
     print_row(table, n);
     print_row(table, 127);
     print_row(table, 128);
@@ -133,25 +135,39 @@ fn print_table(table: &[u8], n: usize) {
     print_row(table, usize::MAX);
 }
 
-fn answer_rule(rule: &[u8], table: &mut [u8]) {
+// What a build answers, leaves in the table, and what is listed of it.
+fn print_built(answer: Counted, file: &[u8], table: &[u8]) {
+    print_counted(answer);
+    print_table(table, built_count(answer));
+    io::write_all(STDOUT_FILENO, b" listing");
+    print_summary(text_summary(answer, file, table));
+}
+
+fn answer_long(rule: &[u8], table: &mut [u8]) {
     print_counted(synthesis::count(rule));
     io::write_all(STDOUT_FILENO, b" ");
     let built = synthesis::build(rule, table);
-    print_counted(built);
-    print_table(table, built_count(built));
-    io::write_all(STDOUT_FILENO, b" listing");
-    print_summary(text_summary(built, rule, table));
+    print_built(built, rule, table);
+    print_rows(table, built_count(built));
+}
+
+fn answer_short(rule: &[u8], table: &mut [u8]) {
+    io::write_all(STDOUT_FILENO, b" short ");
+    let built = synthesis::build_short(rule, table);
+    print_built(built, rule, table);
     io::write_all(STDOUT_FILENO, b"\n");
 }
 
 // Fills the space with a rule file, answers it, and says whether the file was whole.
-// Byte i of the table that is lent is case + 7 × i, modulo 251.
+// Byte i of the table that is lent to each build is case + 7 × i, modulo 251.
 fn answer_file(space: &mut [u8], table: &mut [u8], case: u64) -> bool {
     if io::read_full(STDIN_FILENO, space) < space.len() {
         return false;
     }
     fill(table, case, 7, 250);
-    answer_rule(space, table);
+    answer_long(space, table);
+    fill(table, case, 7, 250);
+    answer_short(space, table);
     true
 }
 

@@ -1,0 +1,148 @@
+"""Short tables, typed by hand: rules with the count of their equations before merging and the listing after it, and what the short build answers."""
+import known_equations
+from known import ANY, ONE, POOL, bytes_of, counted
+from known_equations import BRANCHES, OVERLAPPING, REQUESTS, ROUND, ROUND_TWICE, SEVEN, SIX, late
+
+# "After any code" 63 times, and tt or ff.
+CHAIN = ANY + "5 0 " * 63
+
+# The first rule of bench/rules.h that isn't the paper's: so many necessities of any code in each of its last parts, and their ends.
+HARD_PARTS = "4 " + "5 0 " * 8 + "2 4 " + "5 0 " * 3 + "7 0 4 " + "5 0 " * 7 + "2 " + ("4 " + "5 0 " * 6 + "7 0 ") * 2 + "4 " + "5 0 " * 5 + "2 "
+HARD = ANY + "1 174 16 12 6 4 5 0 7 0 4 5 1 " + "5 0 " * 5 + "2 " + HARD_PARTS + "5 0 " * 4 + "2"
+
+# Max of both "after any code, the variable" and "after 5, six times after any code, after 6, ff".
+LATER = ANY + ONE + SIX + "6 4 5 0 7 0 5 1 " + "5 0 " * 6 + "5 2 3"
+
+
+def later_lines():
+    """As the paper's second family with m = 7; and equations from 64 on, in which a 5 came seven codes ago, drop code 6."""
+    lines = ["patterns 3", "p 0 0 256", "p 1 5 1", "p 2 6 1", "equations 128"]
+    for k in range(128):
+        other, five = 2 * k % 128, (2 * k + 1) % 128
+        lines += [f"{k} 0 4 {other}", f"{k} 5 5 {five}"]
+        lines += [f"{k} 6 255 {other}"] if k < 64 else [f"{k} 6 6 drop", f"{k} 7 255 {other}"]
+    return lines
+
+
+def wheel(length):
+    """A wheel of so many places that each code turns by one. At all places but the first, code 5 is dropped."""
+    return "6 5 0 " + "4 5 1 3 5 0 " * (length - 1) + "7 0 "
+
+
+# Wheels of 3, 5 and 8 places: code 5 is kept once in 120 turns, and to tell two equations apart may take 118 codes before it.
+WHEELS = ANY + ONE + "4 4 " + wheel(3) + wheel(5) + wheel(8)
+WHEEL_LINES = ["patterns 2", "p 0 0 256", "p 1 5 1", "equations 120", "0 0 255 1"]
+for turn in range(1, 120):
+    after_it = (turn + 1) % 120
+    WHEEL_LINES += [f"{turn} 0 4 {after_it}", f"{turn} 5 5 drop", f"{turn} 6 255 {after_it}"]
+
+# Sixteen branches, the most there can be: after an issue of slot s, after a cancel of slot 5, ff.
+SIXTEEN = "".join(f"1 1 {slot} {slot} " for slot in range(16)) + "1 2 5 5 " + "4 " * 15 + "".join(f"5 {slot} 5 16 3 " for slot in range(16))
+SIXTEEN_PATTERNS = ["patterns 17"] + [f"p {slot} {slot} 1" for slot in range(16)] + ["p 16 37 1"]
+
+# Eleven branches, each of ten slots and one slot further than the one before: so each of the slots 0 to 19 takes some of them that no other slot takes.
+TWENTY = "".join(f"1 1 {slot} {slot + 9} " for slot in range(11)) + "1 2 5 5 " + "4 " * 10 + "".join(f"5 {part} 5 11 3 " for part in range(11))
+TWENTY_PATTERNS = ["patterns 12"] + [f"p {slot} {slot} 10" for slot in range(11)] + ["p 11 37 1"]
+
+
+def branch_lines(slots):
+    """What is left of such branches: an issue of one of the slots, then no cancel of slot 5."""
+    return ["equations 3", f"0 0 {slots - 1} 1", f"0 {slots} 255 2", "1 0 36 2", "1 37 37 drop", "1 38 255 2", "2 0 255 2"]
+
+
+# Rules with so many equations before merging, and the listing of the short table.
+LISTINGS = [
+    # "after 5, after 6, ff" and "after 7, after 6, ff"
+    (
+        ONE + SIX + SEVEN + "4 5 0 5 1 3 5 2 5 1 3",
+        4,
+        ["patterns 3", "p 0 5 1", "p 1 6 1", "p 2 7 1", "equations 3"]
+        + ["0 0 4 1", "0 5 5 2", "0 6 6 1", "0 7 7 2", "0 8 255 1"]
+        + ["1 0 255 1"]
+        + ["2 0 5 1", "2 6 6 drop", "2 7 255 1"],
+    ),
+    # "after 6, ff" at two places
+    (
+        ONE + SIX + "4 5 0 5 1 3 5 1 5 1 3",
+        4,
+        ["patterns 2", "p 0 5 1", "p 1 6 1", "equations 3"]
+        + ["0 0 4 1", "0 5 6 2", "0 7 255 1"]
+        + ["1 0 255 1"]
+        + ["2 0 5 1", "2 6 6 drop", "2 7 255 1"],
+    ),
+    # "always no 6", written out twice in one max: equation 1 is like the first
+    (
+        ANY + SIX + "6 4 5 1 3 5 0 4 5 1 3 5 0 7 0",
+        2,
+        ["patterns 2", "p 0 0 256", "p 1 6 1", "equations 1", "0 0 5 0", "0 6 6 drop", "0 7 255 0"],
+    ),
+    # where both are dropped for good, it doesn't matter what would come after
+    (
+        ANY + SIX + "4 5 1 5 0 5 1 3 5 0 5 0 3",
+        3,
+        ["patterns 2", "p 0 0 256", "p 1 6 1", "equations 2", "0 0 255 1", "1 0 255 drop"],
+    ),
+    (SIXTEEN, 18, SIXTEEN_PATTERNS + branch_lines(16)),
+    (TWENTY, 22, TWENTY_PATTERNS + branch_lines(20)),
+    (CHAIN + "2", 64, ["patterns 1", "p 0 0 256", "equations 1", "0 0 255 0"]),
+    (counted(7), 128, ["patterns 2", "p 0 0 256", "p 1 5 1", "equations 1", "0 0 255 0"]),
+    # the first 5 is what counts: after seven more codes everything is dropped
+    (
+        counted(7, "3"),
+        128,
+        ["patterns 2", "p 0 0 256", "p 1 5 1", "equations 8", "0 0 4 0", "0 5 5 1", "0 6 255 0"]
+        + [f"{k} 0 255 {k + 1}" for k in range(1, 7)]
+        + ["7 0 255 drop"],
+    ),
+    (HARD, 127, ["patterns 2", "p 0 0 256", "p 1 32 145", "equations 1", "0 0 255 0"]),
+    (LATER, 128, later_lines()),
+    (WHEELS, 120, WHEEL_LINES),
+]
+
+# Rules of which no two equations drop alike: the listing is the one that known_equations.py has.
+STAYING = [POOL, "2", ONE + "5 0 3", ROUND, ROUND_TWICE, BRANCHES, REQUESTS, OVERLAPPING + "4 5 0 5 1 3 5 1 3", CHAIN + "3"]
+
+# What the short build answers with a table of so many bytes.
+BUILDINGS = [(counted(m), 32768, "equations 1") for m in range(8)]
+BUILDINGS += [(counted(m, "3"), 32768, f"equations {m + 1}") for m in range(1, 8)]
+BUILDINGS += [
+    (POOL, 32768, "equations 3"),
+    (POOL, 40000, "equations 3"),
+    (counted(7), 40000, "equations 1"),
+    (late(27), 32768, "equations 1"),
+    # 9 counts before merging
+    (late(28), 32768, "refused 9 at 0"),
+    (counted(8), 32768, "refused 9 at 0"),
+    (counted(8, "3"), 40000, "refused 9 at 0"),
+    ("", 32768, "refused 1 at 0"),
+    ("0", 32768, "refused 2 at 0"),
+    ("2 2", 32768, "refused 3 at 1"),
+    (ANY + "5 0 " * 64 + "2", 32768, "refused 4 at 132"),
+    ("1 1 6 32 2", 32768, "refused 5 at 0"),
+    (ONE + "5 1 2", 32768, "refused 6 at 4"),
+    ("6 7 0", 32768, "refused 7 at 1"),
+    ("3", 32768, "refused 8 at 0"),
+    # a table that is too small: before everything else, and though the short one would fit
+    (POOL, 32767, "refused 10 at 0"),
+    (counted(7), 32767, "refused 10 at 0"),
+    (counted(8), 32767, "refused 10 at 0"),
+    ("", 32767, "refused 10 at 0"),
+    ("6 7 0", 256, "refused 10 at 0"),
+    ("3", 0, "refused 10 at 0"),
+]
+
+
+def listings():
+    """Each file with the count before merging and the whole text of its short listing."""
+    return [(bytes_of(text), before, "".join(line + "\n" for line in lines)) for text, before, lines in LISTINGS]
+
+
+def staying():
+    """Each file with the text of its listing, which both builds have."""
+    texts = dict(known_equations.listings())
+    return [(bytes_of(text), texts[bytes_of(text)]) for text in STAYING]
+
+
+def buildings():
+    """Each file with the size of a table and the answer."""
+    return [(bytes_of(text), size, answer) for text, size, answer in BUILDINGS]
