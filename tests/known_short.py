@@ -6,7 +6,7 @@ from known_equations import BRANCHES, OVERLAPPING, REQUESTS, ROUND, ROUND_TWICE,
 # "After any code" 63 times, and tt or ff.
 CHAIN = ANY + "5 0 " * 63
 
-# The first rule of bench/rules.h that isn't the paper's: so many necessities of any code in each of its last parts, and their ends.
+# The hardest rule known, as bench/rules.h has it: a max of parts, most of them necessities of any code and an end.
 HARD_PARTS = "4 " + "5 0 " * 8 + "2 4 " + "5 0 " * 3 + "7 0 4 " + "5 0 " * 7 + "2 " + ("4 " + "5 0 " * 6 + "7 0 ") * 2 + "4 " + "5 0 " * 5 + "2 "
 HARD = ANY + "1 174 16 12 6 4 5 0 7 0 4 5 1 " + "5 0 " * 5 + "2 " + HARD_PARTS + "5 0 " * 4 + "2"
 
@@ -31,16 +31,22 @@ def wheel(length):
 
 # Wheels of 3, 5 and 8 places: code 5 is kept once in 120 turns, and to tell two equations apart may take 118 codes before it.
 WHEELS = ANY + ONE + "4 4 " + wheel(3) + wheel(5) + wheel(8)
-WHEEL_LINES = ["patterns 2", "p 0 0 256", "p 1 5 1", "equations 120", "0 0 255 1"]
-for turn in range(1, 120):
-    after_it = (turn + 1) % 120
-    WHEEL_LINES += [f"{turn} 0 4 {after_it}", f"{turn} 5 5 drop", f"{turn} 6 255 {after_it}"]
 
-# Sixteen branches, the most there can be: after an issue of slot s, after a cancel of slot 5, ff.
+
+def wheel_lines():
+    """A ring of 120 equations, of which the first alone keeps code 5."""
+    lines = ["patterns 2", "p 0 0 256", "p 1 5 1", "equations 120", "0 0 255 1"]
+    for turn in range(1, 120):
+        follows = (turn + 1) % 120
+        lines += [f"{turn} 0 4 {follows}", f"{turn} 5 5 drop", f"{turn} 6 255 {follows}"]
+    return lines
+
+
+# Sixteen branches, the most for which there are nodes: after an issue of slot s, after a cancel of slot 5, ff.
 SIXTEEN = "".join(f"1 1 {slot} {slot} " for slot in range(16)) + "1 2 5 5 " + "4 " * 15 + "".join(f"5 {slot} 5 16 3 " for slot in range(16))
 SIXTEEN_PATTERNS = ["patterns 17"] + [f"p {slot} {slot} 1" for slot in range(16)] + ["p 16 37 1"]
 
-# Eleven branches, each of ten slots and one slot further than the one before: so each of the slots 0 to 19 takes some of them that no other slot takes.
+# Eleven branches of ten slots, each one slot further than the one before: so no two of the slots 0 to 19 are in the same branches.
 TWENTY = "".join(f"1 1 {slot} {slot + 9} " for slot in range(11)) + "1 2 5 5 " + "4 " * 10 + "".join(f"5 {part} 5 11 3 " for part in range(11))
 TWENTY_PATTERNS = ["patterns 12"] + [f"p {slot} {slot} 10" for slot in range(11)] + ["p 11 37 1"]
 
@@ -76,7 +82,7 @@ LISTINGS = [
         2,
         ["patterns 2", "p 0 0 256", "p 1 6 1", "equations 1", "0 0 5 0", "0 6 6 drop", "0 7 255 0"],
     ),
-    # where both are dropped for good, it doesn't matter what would come after
+    # equations 1 and 2 drop every code, whatever would come after
     (
         ANY + SIX + "4 5 1 5 0 5 1 3 5 0 5 0 3",
         3,
@@ -86,7 +92,7 @@ LISTINGS = [
     (TWENTY, 22, TWENTY_PATTERNS + branch_lines(20)),
     (CHAIN + "2", 64, ["patterns 1", "p 0 0 256", "equations 1", "0 0 255 0"]),
     (counted(7), 128, ["patterns 2", "p 0 0 256", "p 1 5 1", "equations 1", "0 0 255 0"]),
-    # the first 5 is what counts: after seven more codes everything is dropped
+    # the first 5 is what counts: seven codes later everything is dropped
     (
         counted(7, "3"),
         128,
@@ -96,7 +102,7 @@ LISTINGS = [
     ),
     (HARD, 127, ["patterns 2", "p 0 0 256", "p 1 32 145", "equations 1", "0 0 255 0"]),
     (LATER, 128, later_lines()),
-    (WHEELS, 120, WHEEL_LINES),
+    (WHEELS, 120, wheel_lines()),
 ]
 
 # Rules of which no two equations drop alike: the listing is the one that known_equations.py has.

@@ -19,7 +19,6 @@ MOST_BYTES = 1024
 
 def typed_files():
     typed = known_equations.listings() + known_equations.buildings() + known.answers()
-    typed += known_short.listings() + known_short.buildings()
     every = [file for file, *answer in typed + known_equations.verdicts() + known_equations.violations()]
     return [file for file in every if len(file) <= MOST_BYTES]
 
@@ -30,13 +29,19 @@ def rule_files(random):
     for nodes in range(1, 6):
         files += small_rules(nodes)
     files += small_rules(6)[::9] + small_rules(7)[::41]
-    return files + drawn(random, counters, 250) + drawn(random, tangled, 350) + limit_rules(random) + merging_rules(random)
+    return files + drawn(random, counters, 250) + drawn(random, tangled, 350) + limit_rules(random)
 
 
 def files():
     """Every file, none of them twice, with some of those on which reading is tried, most of which are refused."""
     some_read = [file for file in cases.files()[::37] if len(file) <= MOST_BYTES]
     return list(dict.fromkeys(typed_files() + rule_files(Random(2)) + some_read))
+
+
+def with_merging():
+    """These files and more, which are for the short build."""
+    typed = [file for file, *answer in known_short.listings() + known_short.buildings()]
+    return list(dict.fromkeys(files() + typed + merging_rules(Random("merging"))))
 
 
 def with_sizes(every):

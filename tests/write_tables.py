@@ -54,7 +54,7 @@ def line_of(case, size, data):
 
 def main():
     checks = is_check(__doc__)
-    files = table_cases.files()
+    files = table_cases.with_merging()
     rules, lists = check(files)
     tally = compare_short.check(files)
     cases = table_cases.with_sizes(files)
