@@ -68,7 +68,7 @@ numberedAnswer y k c = cases (y .answer (getD (y .equations) k 0) c) dropped (λ
 abbrev pub classesOf : Synthesis → List ℕ
 classesOf y = rounds 256 (numberedAnswer y) (length (y .equations)) (length (y .equations))
 
--- the same rule with the first equation of each class for its equations
+-- The same rule, merged. Its equations are numbers: of each class, that of its first equation.
 unfoldable pub shortened : Synthesis → Synthesis
 shortened y = record {
   rule = y .rule;
