@@ -10,3 +10,4 @@ pub mod ShortTables
 pub mod ShortBuilds
 pub mod Minimal
 pub mod ShortOrder
+pub mod OnlyTable

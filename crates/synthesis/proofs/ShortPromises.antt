@@ -4,6 +4,7 @@ use Rattle.synthesis.proofs.Quotients.ShortBuilds.{short-refuses-alike,
 use Rattle.synthesis.proofs.Quotients.ShortBuilds.{short-monitors, short-drops, short-in-range, short-rest}
 use Rattle.synthesis.proofs.Quotients.Minimal.{short-is-minimal, shortest-monitor}
 use Rattle.synthesis.proofs.Quotients.ShortOrder.{short-as-found}
+use Rattle.synthesis.proofs.Quotients.OnlyTable.{short-is-only}
 
 pub short-promises : ShortPromises
 short-promises = record {
@@ -16,6 +17,7 @@ short-promises = record {
   short-is-minimal = short-is-minimal;
   shortest-monitor = shortest-monitor;
   short-as-found = short-as-found;
+  short-is-only = short-is-only;
   short-in-range = short-in-range;
   short-rest = short-rest;
 }

@@ -6,7 +6,7 @@ use mathlib.Core.Logic.{_↔_}
 use mathlib.Core.List.{List}
 use lib.ListN.{length}
 use Rattle.reading.specs.Rule.{Rule, Bytes}
-use Rattle.synthesis.specs.Monitor.{kept, verdicts, Monitors, lookup}
+use Rattle.synthesis.specs.Monitor.{kept, verdicts, Monitors, rowOf, lookup}
 use Rattle.synthesis.specs.Search.{tabulate}
 use Rattle.synthesis.specs.Table.{WellFormedTable}
 use Rattle.synthesis.specs.Merging.{DropAlike}
@@ -88,6 +88,14 @@ ShortAsFound =
     (limit mark : ℕ) (s table : List ℕ) (r : Rule) (n : ℕ) (left : List ℕ) → BuildsShort limit mark s table r n left
     → AsFound 256 (lookup 256 mark left) 0 (numbersBelow n)
 
+-- So the short table is the only one: a well-formed table with as many rows, whose row 0 drops alike and whose rows are numbered as found, has the same
+-- rows, byte for byte.
+abbrev pub ShortIsOnly : Type 0
+ShortIsOnly =
+    (limit mark : ℕ) (s table : List ℕ) (r : Rule) (n : ℕ) (left : List ℕ) → BuildsShort limit mark s table r n left
+    → (rival : List ℕ) → WellFormedTable n mark n rival → DropAlike 256 (lookup 256 mark left) 0 (lookup 256 mark rival) 0
+    → AsFound 256 (lookup 256 mark rival) 0 (numbersBelow n) → (k : ℕ) → k < n → rowOf 256 rival k ≡ rowOf 256 left k
+
 -- 6. The table is well formed for the short count. Behind its last row nothing changes, and it keeps its length.
 abbrev pub ShortInRange : Type 0
 ShortInRange =
@@ -112,5 +120,6 @@ pub record ShortPromises : Type 0 where
   pub short-is-minimal : ShortIsMinimal
   pub shortest-monitor : ShortestMonitor
   pub short-as-found : ShortAsFound
+  pub short-is-only : ShortIsOnly
   pub short-in-range : ShortInRange
   pub short-rest : ShortRest

@@ -3,6 +3,7 @@ use Prim.Native.Nat.{ℕ, _<_}
 use mathlib.Core.Path.{_≡_, refl, ap}
 use mathlib.Core.Logic.{_↔_}
 use mathlib.Core.List.{List, [], _∷_}
+use native.Mathlib.Omega.{arith}
 use Rattle.reading.specs.Rule.{Rule, All}
 use Rattle.synthesis.specs.Monitor.{Answer, dropped, next, kept, verdicts, ended, Suppresses, now, later, Monitors}
 use Rattle.synthesis.proofs.Monitors.Runs.{run-induction}
@@ -19,6 +20,14 @@ pub record Renames {E F : Type 0} (codes : ℕ) (Ok : E → Type 0) (answer : E 
 
 module _ {E F : Type 0} (codes : ℕ) (Ok : E → Type 0) (answer : E → ℕ → Answer E) (answer′ : F → ℕ → Answer F) (f : E → F)
     (renames : Renames codes Ok answer answer′ f) where
+  -- where a new name leads, its equation leads to one with that name
+  pub renamed-from : (e : E) (c : ℕ) (n : F) → Ok e → c < codes → answer′ (f e) c ≡ next n → (e′ : E) × (answer e c ≡ next e′) × (f e′ ≡ n)
+  renamed-from e c n ok b q = on (answer e c) refl
+    where
+      on : (a : Answer E) → answer e c ≡ a → (e′ : E) × (answer e c ≡ next e′) × (f e′ ≡ n)
+      on dropped p = let z : _≡_ {A = ℕ} 0 1 = cc (renames .drops e c ok b p) in absurd (omega arith)
+      on (next e′) p = (e′, p, cc (renames .follows e e′ c ok b p))
+
   -- What holds of every run of equations that are renamed, from the answers of both monitors to each code.
   renamed-induction : (P : E → List ℕ → Type 0) → ((e : E) → Ok e → P e [])
       → ((e : E) (c : ℕ) (w : List ℕ) → answer e c ≡ dropped → answer′ (f e) c ≡ dropped → P e w → P e (c ∷ w))

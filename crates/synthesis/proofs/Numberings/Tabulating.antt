@@ -1,5 +1,5 @@
 -- Tabulated functions, by recursion over the bound. A function that takes different numbers below m to different numbers below n tabulates distinct
--- numbers, which all stand in a list of n: so m is no more than n.
+-- numbers, which all stand in a list of n: so m is no more than n. Where m is n, no number is left out, as the others are fewer.
 use Prim.Native.Nat.{ℕ, zero, suc, _≤_, _<_}
 use mathlib.Core.Path.{_≡_, refl, sym, _∙_, subst}
 use mathlib.Core.List.{List, [], _∷_, _++_}
@@ -8,7 +8,8 @@ use native.Mathlib.Omega.{arith}
 use lib.ListN.{length, getD, length-append, List·getD-append}
 use lib.Seq.{getD-at}
 use Rattle.synthesis.specs.Search.{indexOf, tabulate}
-use Rattle.synthesis.proofs.Numberings.Indices.{Member, index-is, member-at, Distinct, distinct-last, distinct-fits}
+use Rattle.synthesis.proofs.Numberings.Indices.{Member, index-is, member-at, Distinct, distinct-last}
+use Rattle.synthesis.proofs.Numberings.Indices.{without, without-length, without-member, distinct-fits}
 
 module _ (f : ℕ → ℕ) where
   pub tabulate-length : (n : ℕ) → length (tabulate f n) ≡ n
@@ -51,12 +52,32 @@ tabulate-cong f g (suc n) h = rw (tabulate-cong f g n (λ i b. h i (omega arith)
 pub number-member : (n i : ℕ) → i < n → Member i (tabulate (λ i. i) n)
 number-member n i h = member-at i (tabulate (λ i. i) n) i (omega (arith, tabulate-length (λ i. i) n)) (tabulate-at (λ i. i) n i h)
 
--- the pigeonhole principle
-pub injective-fits : (f : ℕ → ℕ) (m n : ℕ) → Injective f m → ((i : ℕ) → i < m → f i < n) → m ≤ n
-injective-fits f m n apart below =
-    omega (arith, tabulate-length f m, tabulate-length (λ i. i) n, distinct-fits (tabulate f m) (tabulate (λ i. i) n) (tabulate-distinct f m apart) inside)
+-- ---- the pigeonhole principle
+
+injective-listed : (f : ℕ → ℕ) (m : ℕ) (l : List ℕ) → Injective f m → ((i : ℕ) → i < m → Member (f i) l) → m ≤ length l
+injective-listed f m l apart listed = omega (arith, tabulate-length f m, distinct-fits (tabulate f m) l (tabulate-distinct f m apart) inside)
   where
-    inside : (i : ℕ) → i < length (tabulate f m) → Member (getD (tabulate f m) i 0) (tabulate (λ i. i) n)
+    inside : (i : ℕ) → i < length (tabulate f m) → Member (getD (tabulate f m) i 0) l
     inside i h =
         let b : i < m = omega (arith, tabulate-length f m, h) in
-        subst (λ (e : ℕ). Member e (tabulate (λ i. i) n)) (sym (tabulate-at f m i b)) (number-member n (f i) (below i b))
+        subst (λ (e : ℕ). Member e l) (sym (tabulate-at f m i b)) (listed i b)
+
+pub injective-fits : (f : ℕ → ℕ) (m n : ℕ) → Injective f m → ((i : ℕ) → i < m → f i < n) → m ≤ n
+injective-fits f m n apart below =
+    omega (arith, tabulate-length (λ i. i) n, injective-listed f m (tabulate (λ i. i) n) apart (λ i h. number-member n (f i) (below i h)))
+
+-- as many as there are leave none out
+pub injective-onto : (f : ℕ → ℕ) (n : ℕ) → Injective f n → ((i : ℕ) → i < n → f i < n) → (j : ℕ) → j < n → (i : ℕ) × (i < n) × (f i ≡ j)
+injective-onto f n apart below j h = on (decLt (indexOf j (tabulate f n)) (length (tabulate f n)))
+  where
+    on : Dec (Member j (tabulate f n)) → (i : ℕ) × (i < n) × (f i ≡ j)
+    on (yes a) =
+        let i = indexOf j (tabulate f n) in
+        let b : i < n = omega (arith, tabulate-length f n) in
+        (i, b, sym (tabulate-at f n i b) ∙ index-is j (tabulate f n) a)
+    on (no a) =
+        let all = tabulate (λ i. i) n in
+        let fits = injective-listed f n (without j all) apart (λ i b.
+        without-member j (f i) all (λ e. a (member-at j (tabulate f n) i (omega (arith, tabulate-length f n)) (tabulate-at f n i b ∙ e)))
+        (number-member n (f i) (below i b))) in
+        absurd (omega (arith, without-length j all (number-member n j h), tabulate-length (λ i. i) n))

@@ -17,7 +17,7 @@ use Rattle.synthesis.proofs.Monitors.Runs.{run-induction}
 use Rattle.synthesis.proofs.Monitors.Renaming.{renamed-runs}
 use Rattle.synthesis.proofs.Monitors.DroppingAlike.{alike-after, monitors-drop-alike}
 use Rattle.synthesis.proofs.Numberings.Indices.{Member}
-use Rattle.synthesis.proofs.Numberings.Tabulating.{injective-fits}
+use Rattle.synthesis.proofs.Numberings.Tabulating.{Injective, injective-fits}
 use Rattle.synthesis.proofs.Tables.WellFormedTables.{lookup-inside}
 use Rattle.synthesis.proofs.Tables.Equations.{first-index, first-member, equations-distinct, equations-reached}
 use Rattle.synthesis.proofs.Quotients.NumberedAnswers.{numbered-renames}
@@ -38,23 +38,37 @@ ended-inside codes answer rows inside =
     (λ e c w q ih h all. rw q (ih h (all .1)))
     (λ e e′ c w q ih h all. rw q (ih (inside e c e′ h (all .0) q) (all .1)))
 
--- Words lead from the first equation to n equations of which no two drop alike.
-record Separated {E : Type 0} (codes : ℕ) (answer : E → ℕ → Answer E) (first : E) (n : ℕ) : Type 0 where
-  word : ℕ → List ℕ
-  fits : (i : ℕ) → i < n → All (λ c. c < codes) (word i)
-  apart : (i j : ℕ) → i < n → j < n → DropAlike codes answer (ended answer first (word i)) answer (ended answer first (word j)) → i ≡ j
+-- Words lead from row 0 to each of n rows, of which no two drop alike.
+pub record Separated (codes : ℕ) (answer : ℕ → ℕ → Answer ℕ) (n : ℕ) : Type 0 where
+  pub word : ℕ → List ℕ
+  pub fits : (i : ℕ) → i < n → All (λ c. c < codes) (word i)
+  pub ends : (i : ℕ) → i < n → ended answer 0 (word i) ≡ i
+  pub apart : (i j : ℕ) → i < n → j < n → DropAlike codes answer i answer j → i ≡ j
 
-no-fewer : {E : Type 0} (codes : ℕ) (answer : E → ℕ → Answer E) (first : E) (n : ℕ) → Separated codes answer first n
-    → (rival : ℕ → ℕ → Answer ℕ) (rows : ℕ) → Inside codes rival rows → 0 < rows → DropAlike codes answer first rival 0 → n ≤ rows
-no-fewer codes answer first n separated rival rows inside some alike =
-    injective-fits (λ i. ended rival 0 (separated .word i)) n rows injective
-    (λ i h. ended-inside codes rival rows inside 0 (separated .word i) some (separated .fits i h))
-  where
-    after : (i : ℕ) → i < n → DropAlike codes answer (ended answer first (separated .word i)) rival (ended rival 0 (separated .word i))
-    after i h = alike-after codes answer rival first 0 alike (separated .word i) (separated .fits i h)
+-- the row of a rival for row i
+abbrev pub rivalRow : {codes : ℕ} {answer : ℕ → ℕ → Answer ℕ} {n : ℕ} → Separated codes answer n → (rival : ℕ → ℕ → Answer ℕ) → ℕ → ℕ
+rivalRow separated rival i = ended rival 0 (separated .word i)
 
-    injective : (i j : ℕ) → i < n → j < n → ended rival 0 (separated .word i) ≡ ended rival 0 (separated .word j) → i ≡ j
-    injective i j h h′ same = separated .apart i j h h′ (λ w all. after i h w all ∙ rw same (sym (after j h′ w all)))
+-- a row of a rival drops as one row alone
+pub rival-apart : {codes : ℕ} {answer : ℕ → ℕ → Answer ℕ} {n : ℕ} → Separated codes answer n → (rival : ℕ → ℕ → Answer ℕ) (i i′ j : ℕ) → i < n → i′ < n
+    → DropAlike codes answer i rival j → DropAlike codes answer i′ rival j → i ≡ i′
+rival-apart separated rival i i′ j h h′ one other = separated .apart i i′ h h′ (λ w all. one w all ∙ sym (other w all))
+
+module _ {codes : ℕ} {answer : ℕ → ℕ → Answer ℕ} {n : ℕ} (separated : Separated codes answer n) (rival : ℕ → ℕ → Answer ℕ)
+    (alike : DropAlike codes answer 0 rival 0) where
+  pub rival-alike : (i : ℕ) → i < n → DropAlike codes answer i rival (rivalRow separated rival i)
+  rival-alike i h = rw (separated .ends i h) at (alike-after codes answer rival 0 0 alike (separated .word i) (separated .fits i h))
+
+  pub rival-injective : Injective (rivalRow separated rival) n
+  rival-injective i j h h′ same =
+      rival-apart separated rival i j (rivalRow separated rival j) h h′ (rw same at (rival-alike i h)) (rival-alike j h′)
+
+  module _ (rows : ℕ) (inside : Inside codes rival rows) (some : 0 < rows) where
+    pub rival-below : (i : ℕ) → i < n → rivalRow separated rival i < rows
+    rival-below i h = ended-inside codes rival rows inside 0 (separated .word i) some (separated .fits i h)
+
+    no-fewer : n ≤ rows
+    no-fewer = injective-fits (rivalRow separated rival) n rows rival-injective rival-below
 
 -- ---- the short table
 
@@ -106,18 +120,19 @@ module _ {limit mark : ℕ} {s table : List ℕ} {r : Rule} {n : ℕ} {short : L
       rw (shortens b .filled-is, shortens b .count-is)
       (rows-apart (rule-settled limit r few) (rule-inside limit r few) mark table (short-room (shortens b)) (omega (arith, firsts-few (shortens b), b .below)))
 
-  separated : Separated 256 (lookup 256 mark short) 0 n
+  pub separated : Separated 256 (lookup 256 mark short) n
   separated =
       let (word, leads) = choose LeadsTo n [] row-reached in
       record {
         word = word;
         fits = λ i h. leads i h .bytes;
-        apart = λ i j h h′ alike. rows-differ i j h h′ (rw (leads i h .ends, leads j h′ .ends) at alike);
+        ends = λ i h. leads i h .ends;
+        apart = rows-differ;
       }
 
 pub short-is-minimal : ShortIsMinimal
 short-is-minimal limit mark s table r n short b rows rival wf alike =
-    no-fewer 256 (lookup 256 mark short) 0 n (separated b) (lookup 256 mark rival) rows (λ k c j h code. lookup-inside wf k c j h) (wf .some) alike
+    no-fewer (separated b) (lookup 256 mark rival) alike rows (λ k c j h code. lookup-inside wf k c j h) (wf .some)
 
 pub shortest-monitor : ShortestMonitor
 shortest-monitor limit mark s table r n short b rows rival wf monitors =

@@ -14,7 +14,7 @@ use Rattle.synthesis.specs.Merging.{firsts}
 use Rattle.synthesis.specs.Building.{Synthesis, withEquations, numberedAnswer, BuildsShort}
 use Rattle.synthesis.specs.Promises.{Before, FoundBy, AsFound}
 use Rattle.synthesis.specs.ShortPromises.{numbersBelow, ShortAsFound}
-use Rattle.synthesis.proofs.Monitors.Renaming.{Renames}
+use Rattle.synthesis.proofs.Monitors.Renaming.{Renames, renamed-from}
 use Rattle.synthesis.proofs.Numberings.Indices.{Distinct, index-is}
 use Rattle.synthesis.proofs.Numberings.Tabulating.{tabulate-length, tabulate-at}
 use Rattle.synthesis.proofs.Numberings.FindingOrder.{before-le, numbered-as-found}
@@ -129,7 +129,10 @@ module _ {codes : ℕ} {answer : ℕ → ℕ → Answer ℕ} {n : ℕ} {classes 
       earlier = earlier-class i (f .row) h (f .earlier)
 
       before : (j c e : ℕ) → Before j c (classNumber classes n (f .row)) (f .code) → c < codes → short j c ≡ next e → e < i
-      before j c e p b q = on (answer (getD fs j 0) c) refl
+      before j c e p b q =
+          let (l, z, is) = renamed-from codes (λ k. k < n) answer short (classNumber classes n) renames (getD fs j 0) c e k-below b (rw is-j q) in
+          let less = f .before (getD fs j 0) c l (asked-before j c (f .row) (f .code) below inside-j p) b z in
+          omega (arith, earlier-class i l h less)
         where
           inside-j : j < length fs
           inside-j = omega (arith, before-le p, earlier)
@@ -139,16 +142,6 @@ module _ {codes : ℕ} {answer : ℕ → ℕ → Answer ℕ} {n : ℕ} {classes 
 
           is-j : classNumber classes n (getD fs j 0) ≡ j
           is-j = number-of-first settled inside j inside-j
-
-          on : (a : Answer ℕ) → answer (getD fs j 0) c ≡ a → e < i
-          on dropped z =
-              let d : short j c ≡ dropped = rw is-j at (renames .drops (getD fs j 0) c k-below b z) in
-              absurd (let o : _≡_ {A = ℕ} 0 1 = cc in omega arith)
-          on (next l) z =
-              let d : short j c ≡ next (classNumber classes n l) = rw is-j at (renames .follows (getD fs j 0) l c k-below b z) in
-              let same : classNumber classes n l ≡ e = cc in
-              let less = f .before (getD fs j 0) c l (asked-before j c (f .row) (f .code) below inside-j p) b z in
-              omega (arith, earlier-class i l h less)
 
 -- ---- the short table
 
