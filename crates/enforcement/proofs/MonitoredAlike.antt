@@ -2,12 +2,11 @@
 -- alike, since each code is dropped by both or by neither, and they go on alike.
 use Prim.Native.Nat.{ℕ}
 use mathlib.Core.Path.{_≡_, refl, sym}
-use native.Mathlib.Omega.{arith}
 use Rattle.synthesis.specs.Monitor.{Answer, dropped, next}
 use Rattle.synthesis.specs.Merging.{DropAlike}
 use Rattle.synthesis.proofs.Monitors.DroppingAlike.{StepAlike, both-dropped, both-next, alike-step}
-use Rattle.enforcement.specs.Model.{Label, silent, code, Model, ByteCodes, Bisimulation, suppressing}
-use Rattle.enforcement.specs.Model.{Behind, silent-step, passed-step, suppressed-step, monitored}
+use Rattle.enforcement.specs.Model.{Label, Model, ByteCodes, suppressing}
+use Rattle.enforcement.specs.Model.{Behind, silent-step, passed-step, suppressed-step}
 use Rattle.enforcement.specs.Promises.{AlikeBisimilar}
 use Rattle.enforcement.proofs.Responses.{suppressed-dropped, dropped-suppressed, suppressing-passes}
 

@@ -1,7 +1,6 @@
 -- Demand 3: a table that monitors a rule enforces it on the model of every file that isn't refused, and loses no walk, by what is proved of every monitor
 -- and every model; and both builds leave such a table. The two drop alike, and so a model is bisimilar to itself behind them.
 use Prim.Native.Nat.{ℕ}
-use mathlib.Core.Path.{_≡_}
 use Rattle.synthesis.specs.Monitor.{lookup}
 use Rattle.synthesis.proofs.Tables.Built.{table-monitors}
 use Rattle.synthesis.proofs.Quotients.ShortBuilds.{short-monitors, short-drops-alike}

@@ -2,7 +2,6 @@
 -- class, so it is enough to ask first equations. After a round that changes nothing no other does.
 use Prim.Native.Nat.{ℕ, zero, suc, _+_, _-_, _≤_, _<_}
 use mathlib.Core.Path.{_≡_, refl, sym, _∙_, ap}
-use mathlib.Core.Logic.{inl, inr}
 use mathlib.Core.Bool.{Bool, true, false, _&&_, true≢false}
 use mathlib.Core.List.{List}
 use native.Mathlib.Decide.{decLt}
@@ -15,16 +14,10 @@ use Rattle.reading.specs.Pattern.{least, every}
 use Rattle.reading.proofs.Basics.ListLaws.{getD-inside}
 use Rattle.reading.proofs.Measures.Counting.{least-is, least-holds, least-le}
 use Rattle.synthesis.specs.Monitor.{Answer, rowOf, meaning, lookup}
-use Rattle.synthesis.specs.Table.{InRange}
 use Rattle.synthesis.specs.Merging.{upTo, sameAnswer, together, refined, rounds}
 use Rattle.synthesis.proofs.Quotients.Together.{answer-same, together-agree, agree-together, agree-trans, refined-at, rounds-next}
 
 -- ---- two entries
-
--- an entry in range that isn't the mark
-pub not-mark : {mark n x : ℕ} → InRange mark n x → (x ≡ mark → ⊥) → x < n
-not-mark (inl e) n = absurd (n e)
-not-mark (inr h) n = h
 
 module _ (mark : ℕ) (classes : List ℕ) where
   -- they are the same up to classes

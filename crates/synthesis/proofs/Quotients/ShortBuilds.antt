@@ -1,19 +1,19 @@
 -- What the short build answers and leaves. It is refused as building is; its table is filled, as the long one is, from a closed list; and under the
 -- renaming from the long table it drops, keeps and monitors alike.
 use Prim.Native.Nat.{ℕ, _≤_, _<_}
-use mathlib.Core.Path.{_≡_, refl, sym, _∙_, ap, subst}
+use mathlib.Core.Path.{_≡_, refl, ap, subst}
 use mathlib.Core.List.{List}
 use native.Mathlib.Omega.{arith}
 use lib.ListN.{length}
-use Rattle.reading.specs.Rule.{Rule, Bytes}
+use Rattle.reading.specs.Rule.{Rule}
 use Rattle.reading.specs.File.{accepted, refused, ruleOf}
 use Rattle.synthesis.specs.Monitor.{Monitors, lookup}
 use Rattle.synthesis.specs.Table.{WellFormedTable}
 use Rattle.synthesis.specs.Building.{Synthesis, withEquations, buildingOf, countedOf, tableAfter, tableLeft, shortened, shortBuildingOf}
 use Rattle.synthesis.specs.Promises.{SameAfterRows}
-use Rattle.synthesis.specs.ShortPromises.{RefusesAlike, ShortRefusesAlike, ShortRefusedUnchanged, ShortBuildsAccepted, RunAlike, ShortDropsAlike}
+use Rattle.synthesis.specs.ShortPromises.{RefusesAlike, ShortRefusesAlike, ShortRefusedUnchanged, ShortBuildsAccepted, ShortDropsAlike}
 use Rattle.synthesis.specs.ShortPromises.{ShortMonitors, ShortDrops, ShortInRange, ShortRest}
-use Rattle.synthesis.specs.declared.Counted.the-variants.{Equations, Refused}
+use Rattle.synthesis.specs.declared.Counted.the-variants.{Equations}
 use Rattle.synthesis.proofs.Monitors.MonitorLaws.{drops-violations}
 use Rattle.synthesis.proofs.Monitors.Renaming.{renamed-runs, renamed-monitors}
 use Rattle.synthesis.proofs.Tables.SynthesisOutcomes.{synthesis-accepts, building-accepts, counted-accepts, counted-refuses}

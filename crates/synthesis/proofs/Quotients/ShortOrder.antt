@@ -1,7 +1,7 @@
 -- The rows of the short table are numbered as found. The first equation k of a class is found, in the long numbering, by a code of some equation before
 -- it. The class of that one comes before that of k, and all that is asked before of first equations is asked before there too: it leads to equations
 -- before k, and so to classes before that of k.
-use Prim.Native.Nat.{ℕ, _≤_, _<_}
+use Prim.Native.Nat.{ℕ, _<_}
 use mathlib.Core.Path.{_≡_, refl, sym, _∙_, ap}
 use mathlib.Core.Logic.{inl, inr}
 use mathlib.Core.List.{List}
@@ -11,7 +11,7 @@ use lib.ListN.{length, getD}
 use Rattle.synthesis.specs.Monitor.{Answer, dropped, next, cases, lookup}
 use Rattle.synthesis.specs.Search.{indexOf}
 use Rattle.synthesis.specs.Merging.{firsts}
-use Rattle.synthesis.specs.Building.{Synthesis, withEquations, numberedAnswer, BuildsShort}
+use Rattle.synthesis.specs.Building.{Synthesis, withEquations, numberedAnswer}
 use Rattle.synthesis.specs.Promises.{Before, FoundBy, AsFound}
 use Rattle.synthesis.specs.ShortPromises.{numbersBelow, ShortAsFound}
 use Rattle.synthesis.proofs.Monitors.Renaming.{Renames, renamed-from}

@@ -15,6 +15,11 @@ use Rattle.synthesis.specs.Monitor.{dropped, next, rowOf, lookup}
 use Rattle.synthesis.specs.Table.{InRange, RowInRange, WellFormedTable}
 use Rattle.synthesis.proofs.Tables.Rows.{row-length, row-inside, row-at}
 
+-- an entry in range that isn't the mark
+pub not-mark : {mark count x : ℕ} → InRange mark count x → (x ≡ mark → ⊥) → x < count
+not-mark (inl e) other = absurd (other e)
+not-mark (inr h) other = h
+
 -- a row in range for a count is so for any greater one
 pub row-in-range-weaken : (mark count most : ℕ) → count ≤ most → (row : List ℕ) → RowInRange mark count row → RowInRange mark most row
 row-in-range-weaken mark count most h row fits = record { whole = fits .whole; range = λ c b. wider (getD row c 0) (fits .range c b) }
@@ -62,8 +67,7 @@ module _ {limit mark count : ℕ} {table : List ℕ} (wf : WellFormedTable limit
 
       on : (b : Bool) → eqb x mark ≡ b → InRange mark count x → cond b dropped (next x) ≡ next j → j < count
       on true q r e = let z : _≡_ {A = ℕ} 0 1 = cc in absurd (omega arith)
-      on false q (inl z) e = absurd (eqb-false x mark q z)
-      on false q (inr l) e = let same : x ≡ j = cc in omega arith
+      on false q r e = let same : x ≡ j = cc in omega (arith, not-mark r (eqb-false x mark q))
 
 pub well-formed-by-bytes : (limit mark count : ℕ) (table : List ℕ) → 1 ≤ count → count ≤ limit → 256 * count ≤ length table
     → ((i : ℕ) → i < 256 * count → InRange mark count (getD table i 0)) → WellFormedTable limit mark count table

@@ -1,7 +1,8 @@
 -- `merging::is_same` meets its contract.
 use mathlib.Core.Path.{sym}
 use borrow.Author.Needs.{needs}
-use Rattle.synthesis.proofs.Functions.MergingRounds.{same-equal, same-first, same-second, same-neither, not-mark}
+use Rattle.synthesis.proofs.Tables.WellFormedTables.{not-mark}
+use Rattle.synthesis.proofs.Functions.MergingRounds.{same-equal, same-first, same-second, same-neither}
 use Rattle.synthesis.proofs.merging.is_same.Statement.{statement}
 use Rattle.synthesis.proofs.merging.is_same.Tie as tie
 

@@ -6,7 +6,7 @@ use borrow.Author.Needs.{needs}
 use borrow.Author.Tests.{eq-eqb, ne-eqb}
 use Rattle.reading.proofs.Basics.AllLaws.{all-at}
 use Rattle.synthesis.specs.Monitor.{most}
-use Rattle.synthesis.proofs.Functions.MergingRounds.{not-mark}
+use Rattle.synthesis.proofs.Tables.WellFormedTables.{not-mark}
 use Rattle.synthesis.proofs.renumbering.renumbered.Statement.{statement}
 use Rattle.synthesis.proofs.renumbering.renumbered.Tie as tie
 
