@@ -12,9 +12,9 @@ use Rattle.reading.specs.File.{accepted, recordsAt, formulaAt, formulaOf, ruleO
 use Rattle.synthesis.specs.Violation.{ViolatesRule, by-first, by-second, by-code}
 use Rattle.synthesis.specs.Monitor.{Answer, dropped, rowOf, lookup}
 use Rattle.synthesis.specs.Answering.{firstOf, answerOf, unsatisfiable}
-use Rattle.synthesis.specs.Search.{tabulate, explored, found}
+use Rattle.synthesis.specs.Search.{explored, found}
 use Rattle.synthesis.specs.Table.{entriesOf, filled}
-use Rattle.synthesis.specs.Merging.{DropAlike, merged, together, refined, rounds, firsts}
+use Rattle.synthesis.specs.Merging.{tabulate, DropAlike, merged, together, refined, rounds, firsts}
 use Rattle.synthesis.specs.Building.{equationsOf, Synthesis, withEquations, countedOf, numberedAnswer, classesOf, shortened, shortBuildingOf}
 use Rattle.synthesis.specs.Reason.{openedFalsities}
 use Rattle.reading.proofs.Measures.BoundedTests.{every-is}

@@ -1,8 +1,8 @@
 -- Each promise of the short build, by its theorem.
 use Rattle.synthesis.specs.ShortPromises.{ShortPromises}
-use Rattle.synthesis.proofs.Quotients.ShortBuilds.{short-refuses-alike, short-refused-unchanged, short-builds-accepted, short-drops-alike}
+use Rattle.synthesis.proofs.Quotients.ShortBuilds.{short-refuses-alike, short-refused-unchanged, short-builds-accepted, short-of-rule, short-drops-alike}
 use Rattle.synthesis.proofs.Quotients.ShortBuilds.{short-monitors, short-drops, short-in-range, short-rest}
-use Rattle.synthesis.proofs.Quotients.Minimal.{short-is-minimal, shortest-monitor}
+use Rattle.synthesis.proofs.Quotients.Minimal.{short-merges, short-is-minimal, shortest-monitor}
 use Rattle.synthesis.proofs.Quotients.ShortOrder.{short-as-found}
 use Rattle.synthesis.proofs.Quotients.OnlyTable.{short-is-only}
 
@@ -11,7 +11,9 @@ short-promises = record {
   short-refuses-alike = short-refuses-alike;
   short-refused-unchanged = short-refused-unchanged;
   short-builds-accepted = short-builds-accepted;
+  short-of-rule = short-of-rule;
   short-drops-alike = short-drops-alike;
+  short-merges = short-merges;
   short-monitors = short-monitors;
   short-drops = short-drops;
   short-is-minimal = short-is-minimal;

@@ -19,7 +19,8 @@ use Rattle.synthesis.specs.declared.Counted.the-variants.{Equations, Ref
 unfoldable pub equationsOf : (limit : ℕ) → Rule → List ℕ
 equationsOf limit r = found 256 (answerOf r) limit (firstOf r)
 
--- a rule, its equations, and what each of these answers to a code
+-- A rule, its equations as numbers, and what each of these answers to a code. By the first build the numbers are sets of nodes; by the short one they are
+-- the numbers of equations of the first.
 pub record Synthesis : Type 0 where
   pub rule : Rule
   pub equations : List ℕ

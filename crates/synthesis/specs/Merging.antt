@@ -10,7 +10,6 @@ use lib.ListN.{getD, replicate}
 use Rattle.reading.specs.Rule.{All}
 use Rattle.reading.specs.Pattern.{least, every}
 use Rattle.synthesis.specs.Monitor.{Answer, dropped, next, cases, verdicts}
-use Rattle.synthesis.specs.Search.{tabulate}
 
 -- ---- what is merged
 
@@ -36,6 +35,11 @@ sameAnswer (next i) dropped = false
 sameAnswer (next i) (next j) = eqb i j
 
 -- ---- rounds
+
+-- the values of f at the numbers below n, in order
+unfoldable pub tabulate : (f : ℕ → ℕ) → (n : ℕ) → List ℕ
+tabulate f zero = []
+tabulate f (suc n) = tabulate f n ++ (f n ∷ [])
 
 module _ (codes : ℕ) (answer : ℕ → ℕ → Answer ℕ) where
   -- Equations k and l stay together: they are of one class, and answer every code the same up to classes.

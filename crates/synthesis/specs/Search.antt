@@ -7,11 +7,6 @@ use lib.Dec.{eqb, ltb}
 use lib.ListN.{length, getD}
 use Rattle.synthesis.specs.Monitor.{Answer, cases}
 
--- the values of f at the numbers below n, in order
-unfoldable pub tabulate : (f : ℕ → ℕ) → (n : ℕ) → List ℕ
-tabulate f zero = []
-tabulate f (suc n) = tabulate f n ++ (f n ∷ [])
-
 -- the index of e in a list; the list's length where it isn't there
 abbrev pub indexOf : ℕ → List ℕ → ℕ
 indexOf e [] = 0

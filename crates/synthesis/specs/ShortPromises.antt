@@ -6,11 +6,11 @@ use mathlib.Core.Logic.{_↔_}
 use mathlib.Core.List.{List}
 use lib.ListN.{length}
 use Rattle.reading.specs.Rule.{Rule, Bytes}
+use Rattle.reading.specs.File.{accepted, ruleOf}
 use Rattle.synthesis.specs.Monitor.{kept, verdicts, Monitors, rowOf, lookup}
-use Rattle.synthesis.specs.Search.{tabulate}
 use Rattle.synthesis.specs.Table.{WellFormedTable}
-use Rattle.synthesis.specs.Merging.{DropAlike}
-use Rattle.synthesis.specs.Building.{buildingOf, shortBuildingOf, countedOf, tableAfter, Builds, BuildsShort}
+use Rattle.synthesis.specs.Merging.{DropAlike, tabulate}
+use Rattle.synthesis.specs.Building.{Synthesis, buildingOf, shortBuildingOf, countedOf, tableAfter, Builds, BuildsShort}
 use Rattle.synthesis.specs.Promises.{DropsViolations, AsFound, SameAfterRows, TableUnchanged}
 use Rattle.synthesis.specs.declared.Counted.the-variants.{Equations, Refused}
 
@@ -38,6 +38,10 @@ ShortBuildsAccepted =
     (limit mark : ℕ) (s table : List ℕ) (n : ℕ) → limit ≤ mark → Bytes s → countedOf (shortBuildingOf limit s (length table)) ≡ Equations n
     → (r : Rule) × BuildsShort limit mark s table r n (tableAfter mark (shortBuildingOf limit s (length table)) table)
 
+-- What it accepts is of the file's rule.
+abbrev pub ShortOfRule : Type 0
+ShortOfRule = (limit : ℕ) (s : List ℕ) (capacity : ℕ) (y : Synthesis) → shortBuildingOf limit s capacity ≡ accepted y → ruleOf s ≡ accepted (y .rule)
+
 -- ---- the short table as a monitor
 
 -- 2. The tables that the two builds leave drop and keep alike: from row 0, every list of bytes has the same verdicts and the same kept scans on both.
@@ -50,6 +54,18 @@ ShortDropsAlike =
     (limit mark : ℕ) (s table : List ℕ) (r : Rule) (n : ℕ) (long : List ℕ) → Builds limit mark s table r n long
     → (table′ : List ℕ) (m : ℕ) (short : List ℕ) → BuildsShort limit mark s table′ r m short
     → (w : List ℕ) → Bytes w → RunAlike mark long short w
+
+-- Equations that drop alike are merged, and no others: each row of the long table drops as some row of the short one, row 0 as row 0; and no two rows of the
+-- short one drop alike.
+pub record MergesRows (mark n : ℕ) (long : List ℕ) (m : ℕ) (short : List ℕ) : Type 0 where
+  pub start : DropAlike 256 (lookup 256 mark long) 0 (lookup 256 mark short) 0
+  pub each : (k : ℕ) → k < n → (i : ℕ) × (i < m) × DropAlike 256 (lookup 256 mark long) k (lookup 256 mark short) i
+  pub apart : (i j : ℕ) → i < m → j < m → DropAlike 256 (lookup 256 mark short) i (lookup 256 mark short) j → i ≡ j
+
+abbrev pub ShortMerges : Type 0
+ShortMerges =
+    (limit mark : ℕ) (s table : List ℕ) (r : Rule) (n : ℕ) (long : List ℕ) → Builds limit mark s table r n long
+    → (table′ : List ℕ) (m : ℕ) (short : List ℕ) → BuildsShort limit mark s table′ r m short → MergesRows mark n long m short
 
 -- 3. The short table monitors the rule, and so it drops exactly what would violate it.
 abbrev pub ShortMonitors : Type 0
@@ -64,7 +80,8 @@ ShortDrops =
 
 -- ---- none is shorter
 
--- 4. A rival is any table that is well formed for some rows, however many. One whose row 0 drops alike has at least as many rows as the short table.
+-- 4. A rival is any table that is well formed for its rows, at least one and however many. One whose row 0 drops alike has at least as many rows as the
+-- short table.
 abbrev pub ShortIsMinimal : Type 0
 ShortIsMinimal =
     (limit mark : ℕ) (s table : List ℕ) (r : Rule) (n : ℕ) (left : List ℕ) → BuildsShort limit mark s table r n left
@@ -114,7 +131,9 @@ pub record ShortPromises : Type 0 where
   pub short-refuses-alike : ShortRefusesAlike
   pub short-refused-unchanged : ShortRefusedUnchanged
   pub short-builds-accepted : ShortBuildsAccepted
+  pub short-of-rule : ShortOfRule
   pub short-drops-alike : ShortDropsAlike
+  pub short-merges : ShortMerges
   pub short-monitors : ShortMonitors
   pub short-drops : ShortDrops
   pub short-is-minimal : ShortIsMinimal

@@ -8,9 +8,9 @@ use native.Mathlib.Decide.{decLt}
 use native.Mathlib.Omega.{arith}
 use lib.ListN.{length, getD}
 use lib.Seq.{ext-getD}
+use Rattle.synthesis.specs.Merging.{tabulate}
 use Rattle.synthesis.specs.Monitor.{Answer, next}
 use Rattle.synthesis.specs.Answering.{firstOf, answerOf}
-use Rattle.synthesis.specs.Search.{tabulate}
 use Rattle.synthesis.specs.Promises.{Before, FoundBy, AsFound, OneNumbering}
 use Rattle.synthesis.proofs.Monitors.Renaming.{Renames, renamed-from}
 use Rattle.synthesis.proofs.Numberings.Tabulating.{tabulate-length, tabulate-at}

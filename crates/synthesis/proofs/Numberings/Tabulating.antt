@@ -7,7 +7,8 @@ use native.Mathlib.Decide.{decLt}
 use native.Mathlib.Omega.{arith}
 use lib.ListN.{length, getD, length-append, List·getD-append}
 use lib.Seq.{getD-at}
-use Rattle.synthesis.specs.Search.{indexOf, tabulate}
+use Rattle.synthesis.specs.Search.{indexOf}
+use Rattle.synthesis.specs.Merging.{tabulate}
 use Rattle.synthesis.proofs.Numberings.Indices.{Member, index-is, member-at, Distinct, distinct-last}
 use Rattle.synthesis.proofs.Numberings.Indices.{without, without-length, without-member, distinct-fits}
 

@@ -12,20 +12,21 @@ use Rattle.synthesis.specs.Answering.{firstOf, answerOf}
 use Rattle.synthesis.specs.Search.{indexOf}
 use Rattle.synthesis.specs.Merging.{DropAlike}
 use Rattle.synthesis.specs.Building.{equationsOf, withEquations, BuildsShort}
-use Rattle.synthesis.specs.ShortPromises.{ShortIsMinimal, ShortestMonitor}
+use Rattle.synthesis.specs.ShortPromises.{MergesRows, ShortMerges, ShortIsMinimal, ShortestMonitor}
 use Rattle.synthesis.proofs.Monitors.Runs.{run-induction}
 use Rattle.synthesis.proofs.Monitors.Renaming.{renamed-runs}
-use Rattle.synthesis.proofs.Monitors.DroppingAlike.{alike-after, monitors-drop-alike}
+use Rattle.synthesis.proofs.Monitors.DroppingAlike.{alike-after, renamed-alike, monitors-drop-alike}
 use Rattle.synthesis.proofs.Numberings.Indices.{Member}
 use Rattle.synthesis.proofs.Numberings.Tabulating.{Injective, injective-fits}
 use Rattle.synthesis.proofs.Tables.WellFormedTables.{lookup-inside}
 use Rattle.synthesis.proofs.Tables.Equations.{first-index, first-member, equations-distinct, equations-reached}
+use Rattle.synthesis.proofs.Tables.Built.{builds-count}
 use Rattle.synthesis.proofs.Quotients.NumberedAnswers.{numbered-renames}
-use Rattle.synthesis.proofs.Quotients.Quotient.{number-of-first, rows-apart}
+use Rattle.synthesis.proofs.Quotients.Quotient.{class-member, number-of-first, rows-apart}
 use Rattle.synthesis.proofs.Quotients.Firsts.{first-at}
 use Rattle.synthesis.proofs.Quotients.Settled.{Inside}
 use Rattle.synthesis.proofs.Quotients.ShortTables.{count, classes, numbered, classFirsts, number, count-some, rule-closed, rule-inside, rule-settled, number-zero}
-use Rattle.synthesis.proofs.Quotients.ShortTables.{shortens, firsts-few, short-room, short-renames}
+use Rattle.synthesis.proofs.Quotients.ShortTables.{shortens, firsts-few, short-room, short-renames, rows-rename}
 use Rattle.synthesis.proofs.Quotients.ShortBuilds.{short-monitors}
 
 -- ---- rivals of any monitor
@@ -129,6 +130,21 @@ module _ {limit mark : ℕ} {s table : List ℕ} {r : Rule} {n : ℕ} {short : L
         ends = λ i h. leads i h .ends;
         apart = rows-differ;
       }
+
+pub short-merges : ShortMerges
+short-merges limit mark s table r n long b table′ m short b′ =
+    let renames = rows-rename b′ table long n b in
+    let zero : DropAlike 256 (lookup 256 mark long) 0 (lookup 256 mark short) (number limit r 0) =
+    renamed-alike 256 (lookup 256 mark long) (lookup 256 mark short) (λ k. k < n) (number limit r) renames 0 (omega (arith, builds-count b, count-some limit r)) in
+    record {
+      start = rw (number-zero limit r (shortens b′ .rows .few)) at zero;
+      each = λ k h. (
+        number limit r k,
+        omega (arith, class-member (rule-settled limit r (few b′)) (rule-inside limit r (few b′)) k (omega (arith, builds-count b)), shortens b′ .count-is),
+        renamed-alike 256 (lookup 256 mark long) (lookup 256 mark short) (λ k. k < n) (number limit r) renames k h,
+      );
+      apart = rows-differ b′;
+    }
 
 pub short-is-minimal : ShortIsMinimal
 short-is-minimal limit mark s table r n short b rows rival wf alike =

@@ -1,7 +1,7 @@
 -- What the short build answers and leaves. It is refused as building is; its table is filled, as the long one is, from a closed list; and under the
 -- renaming from the long table it drops, keeps and monitors alike.
 use Prim.Native.Nat.{ℕ, _≤_, _<_}
-use mathlib.Core.Path.{_≡_, refl, ap, subst}
+use mathlib.Core.Path.{_≡_, refl, sym, _∙_, ap, subst}
 use mathlib.Core.List.{List}
 use native.Mathlib.Omega.{arith}
 use lib.ListN.{length}
@@ -11,7 +11,7 @@ use Rattle.synthesis.specs.Monitor.{Monitors, lookup}
 use Rattle.synthesis.specs.Table.{WellFormedTable}
 use Rattle.synthesis.specs.Building.{Synthesis, withEquations, buildingOf, countedOf, tableAfter, tableLeft, shortened, shortBuildingOf}
 use Rattle.synthesis.specs.Promises.{SameAfterRows}
-use Rattle.synthesis.specs.ShortPromises.{RefusesAlike, ShortRefusesAlike, ShortRefusedUnchanged, ShortBuildsAccepted, ShortDropsAlike}
+use Rattle.synthesis.specs.ShortPromises.{RefusesAlike, ShortRefusesAlike, ShortRefusedUnchanged, ShortBuildsAccepted, ShortOfRule, ShortDropsAlike}
 use Rattle.synthesis.specs.ShortPromises.{ShortMonitors, ShortDrops, ShortInRange, ShortRest}
 use Rattle.synthesis.specs.declared.Counted.the-variants.{Equations}
 use Rattle.synthesis.proofs.Monitors.MonitorLaws.{drops-violations}
@@ -69,6 +69,16 @@ short-builds-accepted limit mark s table n below bytes e =
     let (y, built, made) = short-accepted limit s (length table) z is in
     let (r, b) = builds-accepted limit mark s table (length (y .equations)) below bytes (ap countedOf built) in
     (r, record { below = below; bytes = bytes; read = b .read; counted = e; left-is = refl })
+
+shortened-rule : (y : Synthesis) → shortened y .rule ≡ y .rule
+unfolding shortened
+shortened-rule y = refl
+
+pub short-of-rule : ShortOfRule
+short-of-rule limit s capacity z e =
+    let (y, built, made) = short-accepted limit s capacity z e in
+    let read = synthesis-accepts limit s (λ y. ruleOf s ≡ accepted (y .rule)) (λ r read h few. read) y (building-accepts limit s capacity y built .1) in
+    read ∙ ap accepted (sym (shortened-rule y) ∙ ap (λ (y : Synthesis). y .rule) made)
 
 -- ---- the short table as a monitor
 

@@ -7,8 +7,7 @@ use borrow.Author.Needs.{needs}
 use lib.ListN.{length, take}
 use lib.Seq.{take-suc-set, take-all}
 use Rattle.synthesis.specs.Monitor.{mark, lookup}
-use Rattle.synthesis.specs.Search.{tabulate}
-use Rattle.synthesis.specs.Merging.{refined}
+use Rattle.synthesis.specs.Merging.{tabulate, refined}
 use Rattle.synthesis.proofs.merging.refine.Statement.{statement}
 use Rattle.synthesis.proofs.merging.refine.Tie as tie
 
