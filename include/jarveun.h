@@ -61,7 +61,7 @@ uint8_t jarveun_build(const uint8_t *rule, size_t rule_len, uint8_t *table, size
 /* Builds the shortest table of a rule: equations that drop alike on every list of scans are one, and the rows are numbered as a search from row 0
    finds them. A run over it keeps and drops what one over the table of jarveun_build does. The table has at least JARVEUN_TABLE bytes here too.
    Refusals: 10, then 1 to 9, where 9 counts the equations before they are merged.
-   0: *value is the count of rows, 1 to 128, and they are as jarveun_build has them. The bytes after the last row are as they were.
+   0: *value is the count of rows, 1 to 128, and they are of the form that jarveun_build has. The bytes after the last row are as they were.
    Refused: *value is the place, and the table is as it was. *value is never read. */
 uint8_t jarveun_build_short(const uint8_t *rule, size_t rule_len, uint8_t *table, size_t table_len, size_t *value);
 

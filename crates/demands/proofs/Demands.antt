@@ -22,11 +22,13 @@ use Rattle.running.proofs.BuiltTables.{never-unfit, short-never-unfit}
 use Rattle.running.proofs.Leaving as leaving
 use Rattle.running.proofs.DemandTwo.{drops-exactly, short-drops-exactly}
 use Rattle.running.proofs.Reasons.{reasons-of-runs, short-reasons-of-runs}
-use Rattle.models.proofs.Files.Encoding.{accepts-phones, encode-bytes, answers-accepted}
+use Rattle.models.specs.Phone.{modelOf}
+use Rattle.models.proofs.Phones.PhoneCodes.{phone-codes}
+use Rattle.models.proofs.Files.Encoding.{accepts-phones, encode-bytes, answers-accepted, phone-within-limits}
 use Rattle.models.proofs.Files.FileFaults as models
 use Rattle.models.proofs.Judgments.Accepting.{accepts-exactly}
 use Rattle.models.proofs.Judgments.JudgingLaws as judging
-use Rattle.models.proofs.Judgments.TablesEnforce.{tables-enforce, short-tables-enforce}
+use Rattle.models.proofs.Judgments.TablesEnforce.{tables-enforce, short-tables-enforce, short-bisimilar}
 use Rattle.demands.specs.Outcomes.{running}
 use Rattle.demands.specs.Refusals.{RunRefused, short-buffer, unfit}
 use Rattle.demands.specs.Demands.{DemandOne, DemandTwo, DemandTwoShort, DemandThree}
@@ -116,4 +118,9 @@ demand-two-short = record {
 -- ---- demand 3
 
 pub demand-three : DemandThree
-demand-three = record { enforces = tables-enforce 128 255; short-enforces = short-tables-enforce 128 255 }
+demand-three = record {
+  enforces = tables-enforce 128 255;
+  short-enforces = short-tables-enforce 128 255;
+  short-bisimilar = λ s table r n long b table′ m short b′ f y bytes read.
+      short-bisimilar 128 255 s table r n long b table′ m short b′ (modelOf y) (phone-codes y (phone-within-limits f y bytes read .well-formed));
+}

@@ -11,6 +11,7 @@ use Rattle.reading.specs.File.{accepted, ruleOf}
 use Rattle.reading.specs.Faults.{Fault as RuleFault}
 use Rattle.reading.specs.Numbered.{numbered, readingOf}
 use Rattle.reading.specs.declared.FileRead.the-variants as Reading
+use Rattle.synthesis.specs.Monitor.{lookup}
 use Rattle.synthesis.specs.Building.{countedOf, Builds, BuildsShort}
 use Rattle.synthesis.specs.Reason.{reasonOf}
 use Rattle.synthesis.specs.ReasonPromises.{Placed, Reasons}
@@ -22,7 +23,8 @@ use Rattle.running.specs.Calls.{Call, History, Calls, OnTable, OnTableOrRefused
 use Rattle.running.specs.Promises.{Sifts, ReasonsOn, RunUnchanged, OnlyFronts}
 use Rattle.running.specs.declared.State.{State}
 use Rattle.running.specs.declared.Checked.the-variants as Checked
-use Rattle.models.specs.Phone.{Phone, PhoneWithinLimits, encodePhone, phoneOf}
+use Rattle.enforcement.specs.Model.{Bisimilar, suppressing, monitored}
+use Rattle.models.specs.Phone.{Phone, modelOf, PhoneWithinLimits, encodePhone, phoneOf}
 use Rattle.models.specs.Faults.{Fault as ModelFault}
 use Rattle.models.specs.Judging.{stored, modelReadingOf, JudgedAs}
 use Rattle.models.specs.Promises.{EnforcesRule, Acceptable, JudgedExactly}
@@ -120,3 +122,7 @@ pub record DemandTwoShort : Type 1 where
 pub record DemandThree : Type 1 where
   pub enforces : (s table : List ℕ) (r : Rule) (n : ℕ) (left : List ℕ) → Builds 128 255 s table r n left → EnforcesRule 255 r left
   pub short-enforces : (s table : List ℕ) (r : Rule) (n : ℕ) (left : List ℕ) → BuildsShort 128 255 s table r n left → EnforcesRule 255 r left
+  -- and a phone behind the short table is strongly bisimilar to itself behind the long one
+  pub short-bisimilar : (s table : List ℕ) (r : Rule) (n : ℕ) (long : List ℕ) → Builds 128 255 s table r n long
+      → (table′ : List ℕ) (m : ℕ) (short : List ℕ) → BuildsShort 128 255 s table′ r m short → (f : List ℕ) (y : Phone) → Bytes f → phoneOf f ≡ accepted y
+      → Bisimilar (monitored (suppressing (lookup 256 255 short)) 0 (modelOf y)) (monitored (suppressing (lookup 256 255 long)) 0 (modelOf y))

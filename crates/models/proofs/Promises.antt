@@ -8,6 +8,7 @@ use Rattle.models.proofs.Files.Encoding.{accepts-phones, one-phone, sto
 use Rattle.models.proofs.Files.FileFaults.{refuses-at-the-fault, has-one-fault}
 use Rattle.models.proofs.Files.Settled.{settled-by-first-bytes, not-by-fewer}
 use Rattle.models.proofs.Phones.PhoneStates.{phones-finite}
+use Rattle.models.proofs.Phones.PhoneCodes.{phone-codes}
 
 pub promises : Promises
 promises = record {
@@ -28,5 +29,6 @@ promises = record {
   has-one-fault = has-one-fault;
   settled-by-first-bytes = settled-by-first-bytes;
   not-by-fewer = not-by-fewer;
+  phones-byte-codes = λ y within. phone-codes y (within .well-formed);
   phones-finite = phones-finite;
 }

@@ -23,13 +23,13 @@ use Rattle.models.specs.declared.Judged.the-variants.{Meets, Breaks, Ref
 
 -- ---- enforcing
 
--- 1. Demand 3 holds for the table that building leaves, whatever the table held before, and every model file that isn't refused, with
--- dropped scans in the claim.
+-- 1. A table enforces a rule: demand 3 holds for it and every model file that isn't refused, with dropped scans in the claim.
 abbrev pub EnforcesRule : (mark : ℕ) → Rule → (table : List ℕ) → Type 1
 EnforcesRule mark r table =
     (f : List ℕ) (y : Phone) → Bytes f → phoneOf f ≡ accepted y
     → Enforces r (suppressing (lookup 256 mark table)) 0 (modelOf y) × WalksBehind (lookup 256 mark table) 0 (modelOf y)
 
+-- The table that building leaves does, whatever the table held before.
 abbrev pub TablesEnforce : Type 1
 TablesEnforce =
     (limit mark : ℕ) (s table : List ℕ) (r : Rule) (n : ℕ) (left : List ℕ) → Builds limit mark s table r n left → EnforcesRule mark r left
@@ -149,6 +149,10 @@ abbrev pub NotByFewer : Type 0
 NotByFewer =
     (f : List ℕ) × (y : Phone) × Bytes f × (phoneOf (take 2050 f) ≡ accepted y) × (phoneOf f ≡ refused 14 2050)
 
+-- The codes of a model within the limits are bytes.
+abbrev pub PhonesByteCodes : Type 0
+PhonesByteCodes = (y : Phone) → PhoneWithinLimits y → ByteCodes (modelOf y)
+
 -- The model of a file is finite.
 abbrev pub PhonesFinite : Type 0
 PhonesFinite = (y : Phone) → Finite (modelOf y)
@@ -174,4 +178,5 @@ pub record Promises : Type 1 where
   pub has-one-fault : HasOneFault
   pub settled-by-first-bytes : SettledByFirstBytes
   pub not-by-fewer : NotByFewer
+  pub phones-byte-codes : PhonesByteCodes
   pub phones-finite : PhonesFinite

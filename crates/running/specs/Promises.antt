@@ -117,17 +117,18 @@ RunsOnTables =
     (limit mark : ℕ) (table : List ℕ) (count : ℕ) (s : State) (scans : List ℕ) (output verdicts : ℕ)
     → RunsOn limit mark table count s scans output verdicts
 
--- No call on the table that building leaves is refused with 16, after any calls as in 1.
+-- No call on a table is refused with 16, after any calls on it as in 1.
 abbrev pub NotUnfit : (limit mark n : ℕ) → (table : List ℕ) → Type 0
 NotUnfit limit mark n table =
     (h : History) → Calls limit mark (OnTableOrRefused limit mark table n) h → (c : Call) → OnTable table n c
     → checkedOf (outcomeOf limit mark (h .state) c) ≡ Refused 16 0 → ⊥
 
+-- So it is with the table that building leaves.
 abbrev pub NeverUnfit : Type 0
 NeverUnfit =
     (limit mark : ℕ) (s table : List ℕ) (r : Rule) (n : ℕ) (left : List ℕ) → Builds limit mark s table r n left → NotUnfit limit mark n left
 
--- Nor is one on the table that the short build leaves, or on any other well-formed table.
+-- So too with the table that the short build leaves, and with any other well-formed table.
 abbrev pub ShortNeverUnfit : Type 0
 ShortNeverUnfit =
     (limit mark : ℕ) (s table : List ℕ) (r : Rule) (n : ℕ) (left : List ℕ) → BuildsShort limit mark s table r n left → NotUnfit limit mark n left

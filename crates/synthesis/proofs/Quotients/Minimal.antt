@@ -12,7 +12,7 @@ use Rattle.synthesis.specs.Answering.{firstOf, answerOf}
 use Rattle.synthesis.specs.Search.{indexOf}
 use Rattle.synthesis.specs.Merging.{DropAlike}
 use Rattle.synthesis.specs.Building.{equationsOf, withEquations, BuildsShort}
-use Rattle.synthesis.specs.ShortPromises.{MergesRows, ShortMerges, ShortIsMinimal, ShortestMonitor}
+use Rattle.synthesis.specs.ShortPromises.{ShortMerges, ShortIsMinimal, ShortestMonitor}
 use Rattle.synthesis.proofs.Monitors.Runs.{run-induction}
 use Rattle.synthesis.proofs.Monitors.Renaming.{renamed-runs}
 use Rattle.synthesis.proofs.Monitors.DroppingAlike.{alike-after, renamed-alike, monitors-drop-alike}
