@@ -39,37 +39,44 @@ given r sets = record { rule = r; equations = sets; answer = answerOf r }
 abbrev shortAnswer : Rule → (sets classes : List ℕ) → ℕ → ℕ → Answer ℕ
 shortAnswer r sets classes = merged classes (numberedAnswer (given r sets))
 
-module _ (s : List ℕ) (r : Rule) (sets classes : List ℕ) (read : ruleOf s ≡ accepted r) (satisfiable : unsatisfiable r ≡ false)
-    (equations : equationsOf 128 r ≡ sets) (few : length sets ≤ 128) (classes-are : classesOf (given r sets) ≡ classes) where
+-- the file's rule, its equations and their classes
+record Classified (s : List ℕ) (r : Rule) (sets classes : List ℕ) : Type 0 where
+  read : ruleOf s ≡ accepted r
+  satisfiable : unsatisfiable r ≡ false
+  equations : equationsOf 128 r ≡ sets
+  few : length sets ≤ 128
+  classes-are : classesOf (given r sets) ≡ classes
+
+module _ {s : List ℕ} {r : Rule} {sets classes : List ℕ} (known : Classified s r sets classes) where
   with-sets : withEquations 128 r ≡ given r sets
-  with-sets = ap (given r) equations
+  with-sets = ap (given r) (known .equations)
 
   abbrev fs : List ℕ
   fs = firsts classes (length sets)
 
   outcome : (table : List ℕ) → 32768 ≤ length table → shortBuildingOf 128 s (length table) ≡ accepted (shortened (given r sets))
   outcome table room =
+      let few : length (equationsOf 128 r) ≤ 128 = rw (known .equations) (known .few) in
       short-accepts 128 s (length table)
-      (building-enough 128 s (length table) room ∙ accepts-with-equations 128 s r read satisfiable (rw equations few) ∙ ap accepted with-sets)
+      (building-enough 128 s (length table) room ∙ accepts-with-equations 128 s r (known .read) (known .satisfiable) few ∙ ap accepted with-sets)
 
   short-left : (table : List ℕ) → 32768 ≤ length table → shortTable s table ≡ filled 255 (shortAnswer r sets classes) fs 256 table
   unfolding shortened
-  short-left table room = rw (outcome table room, classes-are)
+  short-left table room = rw (outcome table room, known .classes-are)
 
   short-count : (table : List ℕ) → 32768 ≤ length table → countedOf (shortBuildingOf 128 s (length table)) ≡ Equations (length fs)
   unfolding shortened
-  short-count table room = rw (outcome table room, classes-are)
+  short-count table room = rw (outcome table room, known .classes-are)
 
-  pub short-row : length fs ≤ 128 → (table : List ℕ) → 32768 ≤ length table → (k : ℕ) → k < length fs
+  short-row : length fs ≤ 128 → (table : List ℕ) → 32768 ≤ length table → (k : ℕ) → k < length fs
       → rowOf 256 (shortTable s table) k ≡ entriesOf 255 (shortAnswer r sets classes) fs (getD fs k 0) 256
   short-row small table room k h = rw (short-left table room) (filled-row 255 (shortAnswer r sets classes) fs 256 table (omega arith) k h)
 
-  pub merges : (n : ℕ) (lines : List ℕ) → length fs ≡ n → n ≤ 128 → listingOf r (shortAnswer r sets classes) fs ≡ lines
-      → Merges s r sets classes n lines
+  merges : (n : ℕ) (lines : List ℕ) → length fs ≡ n → n ≤ 128 → listingOf r (shortAnswer r sets classes) fs ≡ lines → Merges s r sets classes n lines
   merges n lines count small is = record {
-    file = reads s r read satisfiable sets equations few;
-    equations = equations;
-    classes-are = ap classesOf with-sets ∙ classes-are;
+    file = reads s r (known .read) (known .satisfiable) sets (known .equations) (known .few);
+    equations = known .equations;
+    classes-are = ap classesOf with-sets ∙ known .classes-are;
     counted = λ table room. short-count table room ∙ ap Equations count;
     listed = λ table room.
         rw (← count) (listed-of (shortAnswer r sets classes) fs (shortTable s table) (short-row (omega arith) table room) r ∙ is);
@@ -77,30 +84,44 @@ module _ (s : List ℕ) (r : Rule) (sets classes : List ℕ) (read : ruleOf s �
 
 -- ---- the rules
 
-record MergedRules : Type 0 where
-  branches : Merges branchesFile branchesRule branchesSets (0 ∷ 1 ∷ 2 ∷ 2 ∷ []) 3 branchesListing
-  pool : Merges poolFile poolRule (2 ∷ 0 ∷ 40 ∷ []) (0 ∷ 1 ∷ 2 ∷ []) 3 poolListing
-  idle : Merges idleFile idleRule (1 ∷ 0 ∷ []) (0 ∷ 0 ∷ []) 1 idleListing
-  closed : Merges closedFile closedRule (1 ∷ []) (0 ∷ []) 1 closedListing
+record Rules : Type 0 where
+  branches : Classified branchesFile branchesRule branchesSets (0 ∷ 1 ∷ 2 ∷ 2 ∷ [])
+  pool : Classified poolFile poolRule (2 ∷ 0 ∷ 40 ∷ []) (0 ∷ 1 ∷ 2 ∷ [])
+  idle : Classified idleFile idleRule (1 ∷ 0 ∷ []) (0 ∷ 0 ∷ [])
+  closed : Classified closedFile closedRule (1 ∷ []) (0 ∷ [])
 
-merged-rules : MergedRules
-unfolding ruleOf recordsAt formulaOf formulaAt unsatisfiable equationsOf found explored firstOf answerOf bit covers least countBelow rounds refined tabulate together firsts entriesOf decimal decimalIn
-merged-rules = record {
-  branches =
-      merges branchesFile branchesRule branchesSets (0 ∷ 1 ∷ 2 ∷ 2 ∷ []) refl refl refl (omega arith) refl 3 branchesListing refl (omega arith) refl;
-  pool = merges poolFile poolRule (2 ∷ 0 ∷ 40 ∷ []) (0 ∷ 1 ∷ 2 ∷ []) refl refl refl (omega arith) refl 3 poolListing refl (omega arith) refl;
-  idle = merges idleFile idleRule (1 ∷ 0 ∷ []) (0 ∷ 0 ∷ []) refl refl refl (omega arith) refl 1 idleListing refl (omega arith) refl;
-  closed = merges closedFile closedRule (1 ∷ []) (0 ∷ []) refl refl refl (omega arith) refl 1 closedListing refl (omega arith) refl;
+rules : Rules
+unfolding ruleOf recordsAt formulaOf formulaAt unsatisfiable equationsOf found explored firstOf answerOf bit covers least rounds refined tabulate together
+rules = record {
+  branches = record { read = refl; satisfiable = refl; equations = refl; few = omega arith; classes-are = refl };
+  pool = record { read = refl; satisfiable = refl; equations = refl; few = omega arith; classes-are = refl };
+  idle = record { read = refl; satisfiable = refl; equations = refl; few = omega arith; classes-are = refl };
+  closed = record { read = refl; satisfiable = refl; equations = refl; few = omega arith; classes-are = refl };
 }
+
+branches : Merges branchesFile branchesRule branchesSets (0 ∷ 1 ∷ 2 ∷ 2 ∷ []) 3 branchesListing
+unfolding firsts entriesOf answerOf bit covers least countBelow decimal decimalIn
+branches = merges (rules .branches) 3 branchesListing refl (omega arith) refl
+
+pool : Merges poolFile poolRule (2 ∷ 0 ∷ 40 ∷ []) (0 ∷ 1 ∷ 2 ∷ []) 3 poolListing
+unfolding firsts entriesOf answerOf bit covers least countBelow decimal decimalIn
+pool = merges (rules .pool) 3 poolListing refl (omega arith) refl
+
+idle : Merges idleFile idleRule (1 ∷ 0 ∷ []) (0 ∷ 0 ∷ []) 1 idleListing
+unfolding firsts entriesOf answerOf bit covers least countBelow decimal decimalIn
+idle = merges (rules .idle) 1 idleListing refl (omega arith) refl
+
+closed : Merges closedFile closedRule (1 ∷ []) (0 ∷ []) 1 closedListing
+unfolding firsts entriesOf answerOf bit covers least countBelow decimal decimalIn
+closed = merges (rules .closed) 1 closedListing refl (omega arith) refl
 
 -- ---- one equation and two reasons
 
 -- the first row of the short table
 branches-row : (table : List ℕ) → 32768 ≤ length table
     → rowOf 256 (shortTable branchesFile table) 0 ≡ entriesOf 255 (shortAnswer branchesRule branchesSets (0 ∷ 1 ∷ 2 ∷ 2 ∷ [])) (0 ∷ 1 ∷ 2 ∷ []) 0 256
-unfolding ruleOf recordsAt formulaOf formulaAt unsatisfiable equationsOf found explored firstOf answerOf bit covers least rounds refined tabulate together firsts
-branches-row table room =
-    short-row branchesFile branchesRule branchesSets (0 ∷ 1 ∷ 2 ∷ 2 ∷ []) refl refl refl (omega arith) refl (omega arith) table room 0 (omega arith)
+unfolding firsts
+branches-row table room = short-row (rules .branches) (omega arith) table room 0 (omega arith)
 
 -- one scan is no violation: the formula after it is a necessity
 one-scan : (c : ℕ) → ViolatesRule branchesRule (c ∷ []) → ⊥
@@ -113,8 +134,8 @@ merged-reasons = record {
   one-equation = λ table room. rw (branches-row table room);
   safe-5 = one-scan 5;
   safe-7 = one-scan 7;
-  after-5 = by-rule branchesRule (merged-rules .branches .file) (5 ∷ []) 6;
-  after-7 = by-rule branchesRule (merged-rules .branches .file) (7 ∷ []) 6;
+  after-5 = by-rule branchesRule (branches .file) (5 ∷ []) 6;
+  after-7 = by-rule branchesRule (branches .file) (7 ∷ []) 6;
 }
 
 -- ---- a table without rows
@@ -126,22 +147,28 @@ drop-all answer answer′ drops drops′ [] all = refl
 drop-all answer answer′ drops drops′ (c ∷ w) all =
     rw (drops c (all .0), drops′ c (all .0)) (ap (λ (l : List ℕ). 1 ∷ l) (drop-all answer answer′ drops drops′ w (all .1)))
 
--- every entry of the only row is the mark
-closed-row : (table : List ℕ) → 32768 ≤ length table → (c : ℕ) → c < 256 → lookup 256 255 (shortTable closedFile table) 0 c ≡ dropped
-unfolding ruleOf recordsAt formulaOf formulaAt unsatisfiable equationsOf found explored firstOf answerOf bit covers least rounds refined tabulate together firsts entriesOf
-closed-row table room c b =
-    let row = short-row closedFile closedRule (1 ∷ []) (0 ∷ []) refl refl refl (omega arith) refl (omega arith) table room 0 (omega arith) in
-    let entries = entriesOf 255 (shortAnswer closedRule (1 ∷ []) (0 ∷ [])) (0 ∷ []) 0 256 in
-    let marks : every 256 (λ c. eqb (getD entries c 255) 255) ≡ true = refl in
-    rw (row, every-is 256 (λ c. eqb (getD entries c 255) 255) .0 marks c b)
+-- the only row of the rule that drops everything
+abbrev closedRow : List ℕ
+closedRow = entriesOf 255 (shortAnswer closedRule (1 ∷ []) (0 ∷ [])) (0 ∷ []) 0 256
+
+closed-marks : every 256 (λ c. eqb (getD closedRow c 255) 255) ≡ true
+unfolding entriesOf answerOf bit covers least
+closed-marks = refl
+
+closed-row : (table : List ℕ) → 32768 ≤ length table → rowOf 256 (shortTable closedFile table) 0 ≡ closedRow
+unfolding firsts
+closed-row table room = short-row (rules .closed) (omega arith) table room 0 (omega arith)
+
+closed-drops : (table : List ℕ) → 32768 ≤ length table → (c : ℕ) → c < 256 → lookup 256 255 (shortTable closedFile table) 0 c ≡ dropped
+closed-drops table room c b = rw (closed-row table room, every-is 256 (λ c. eqb (getD closedRow c 255) 255) .0 closed-marks c b)
 
 pub short-examples : ShortExamples
 unfolding rowOf
 short-examples = record {
-  branches = merged-rules .branches;
+  branches = branches;
   merged-reasons = merged-reasons;
-  pool = merged-rules .pool;
-  idle = merged-rules .idle;
-  closed = merged-rules .closed;
-  needs-a-row = λ table room. drop-all (lookup 256 255 (shortTable closedFile table)) (lookup 256 255 []) (closed-row table room) (λ c b. refl);
+  pool = pool;
+  idle = idle;
+  closed = closed;
+  needs-a-row = λ table room. drop-all (lookup 256 255 (shortTable closedFile table)) (lookup 256 255 []) (closed-drops table room) (λ c b. refl);
 }
