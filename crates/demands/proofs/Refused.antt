@@ -17,7 +17,7 @@ use Rattle.reading.proofs.Refusing.FaultsRefused.{answer-refused, refuses-at-th
 use Rattle.synthesis.specs.Answering.{unsatisfiable}
 use Rattle.synthesis.specs.Building.{equationsOf, synthesisOfRule, synthesisOf, buildingOf, countedOf}
 use Rattle.synthesis.specs.declared.Counted.the-variants as Counted
-use Rattle.synthesis.proofs.Tables.SynthesisOutcomes.{building-enough, building-short, synthesis-of, counted-refuses}
+use Rattle.synthesis.proofs.Tables.SynthesisOutcomes.{building-enough, building-too-short, synthesis-of, counted-refuses}
 use Rattle.synthesis.proofs.Tables.Equations.{refuses-too-many}
 use Rattle.enforcement.specs.Model.{Model, Finite, Satisfies}
 use Rattle.models.proofs.Judgments.Accepting.{unrefused-satisfiable, refuses-unsatisfiable}
@@ -79,7 +79,7 @@ module _ (s : List ℕ) (bytes : Bytes s) where
         on : (b : Bool) → ltb capacity 32768 ≡ b → BuildRefused s capacity number place
         on true t =
             let short : capacity < 32768 = ltb-true capacity 32768 t in
-            let same : Counted.Refused 10 0 ≡ Counted.Refused number place = rw (building-short 128 s capacity short) at e in
+            let same : Counted.Refused 10 0 ≡ Counted.Refused number place = rw (building-too-short 128 s capacity short) at e in
             let number-is : 10 ≡ number = cc in
             let place-is : 0 ≡ place = cc in
             rw (← number-is, ← place-is) (short-table short)
@@ -88,7 +88,7 @@ module _ (s : List ℕ) (bytes : Bytes s) where
             in-rule long (count-refusal-clause number place (rw (building-enough 128 s capacity long) at e))
 
     build-clause-refuses : {number place : ℕ} → BuildRefused s capacity number place → countedOf (buildingOf 128 s capacity) ≡ Counted.Refused number place
-    build-clause-refuses (short-table short) = rw (building-short 128 s capacity short)
+    build-clause-refuses (short-table short) = rw (building-too-short 128 s capacity short)
     build-clause-refuses (in-rule long fault) = rw (building-enough 128 s capacity long) (count-clause-refuses fault)
 
     pub build-refused : RefusedIff (countedOf (buildingOf 128 s capacity)) Counted.Refused (BuildRefused s capacity)

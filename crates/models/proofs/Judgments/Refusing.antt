@@ -6,7 +6,7 @@ use Rattle.reading.specs.declared.FileRead.{FileRead}
 use Rattle.synthesis.specs.Building.{synthesisOf, buildingOf, countedOf}
 use Rattle.synthesis.specs.declared.Counted.{Counted}
 use Rattle.synthesis.specs.declared.Counted.the-variants.{Equations, Refused}
-use Rattle.synthesis.proofs.Tables.SynthesisOutcomes.{building-short, building-enough}
+use Rattle.synthesis.proofs.Tables.SynthesisOutcomes.{building-too-short, building-enough}
 use Rattle.models.specs.Readings.{ruleRefusal, modelRefusal, refusalBefore}
 use Rattle.models.specs.declared.Judged.{Judged}
 use Rattle.models.specs.declared.Judged as Judged′
@@ -17,7 +17,7 @@ module _ (s : List ℕ) (capacity : ℕ) (answer : FileRead) where
   Refuses r = r ≡ refusalBefore (countedOf (buildingOf 128 s capacity)) answer
 
   pub short-refuses : capacity < 32768 → Refuses (Judged′.the-variants.Refused 10 0)
-  short-refuses h = rw (building-short 128 s capacity h)
+  short-refuses h = rw (building-too-short 128 s capacity h)
 
   module _ {counted : Counted} {r : Judged} (enough : 32768 ≤ capacity) (counts : counted ≡ countedOf (synthesisOf 128 s)) where
     pub rule-refuses : {number place : ℕ} → counted ≡ Refused number place → r ≡ ruleRefusal counted → Refuses r

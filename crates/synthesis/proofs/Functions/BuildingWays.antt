@@ -15,7 +15,7 @@ use Rattle.synthesis.specs.declared.Counted.{Counted}
 use Rattle.synthesis.specs.declared.Counted.the-variants.{Equations, Refused}
 use Rattle.synthesis.specs.declared.Plan.{Plan}
 use Rattle.synthesis.proofs.Tables.FilledTables.{filled-cong}
-use Rattle.synthesis.proofs.Tables.SynthesisOutcomes.{building-enough, building-short}
+use Rattle.synthesis.proofs.Tables.SynthesisOutcomes.{building-enough, building-too-short}
 use Rattle.synthesis.proofs.Functions.GraphLaws.{graph-answers}
 
 -- ---- a table that is too short
@@ -25,8 +25,8 @@ abbrev pub BuildLeaves : (s table : List ℕ) → (answer : Counted) → (after 
 BuildLeaves s table answer after =
     (answer ≡ countedOf (buildingOf most s (length table))) × (after ≡ tableAfter mark (buildingOf most s (length table)) table)
 
-pub short-leaves : (s table : List ℕ) → length table < 32768 → BuildLeaves s table (Refused 10 0) table
-short-leaves s table h = rw (building-short most s (length table) h) (refl, refl)
+pub too-short-leaves : (s table : List ℕ) → length table < 32768 → BuildLeaves s table (Refused 10 0) table
+too-short-leaves s table h = rw (building-too-short most s (length table) h) (refl, refl)
 
 -- ---- a plan that is refused
 

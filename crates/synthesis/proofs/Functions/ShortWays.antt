@@ -37,9 +37,7 @@ module _ {n : ℕ} {long : List ℕ} (wf : WellFormedTable most mark n long) whe
   long-inside k c j h b = lookup-inside wf k c j h
 
   pub long-classes : AreClasses n (rounds 256 (lookup 256 mark long) n n)
-  long-classes =
-      let s = settled 256 (lookup 256 mark long) n long-inside in
-      record { le = s .le; again = s .again }
+  long-classes = settled 256 (lookup 256 mark long) n long-inside .are-classes
 
 -- ---- a refusal
 
@@ -48,10 +46,10 @@ abbrev ShortLeaves : (s table : List ℕ) → (answer : Counted) → (after : Li
 ShortLeaves s table answer after =
     (answer ≡ countedOf (shortBuildingOf most s (length table))) × (after ≡ tableAfter mark (shortBuildingOf most s (length table)) table)
 
-pub refuses-alike : (s table : List ℕ) (answer : Counted) {number place : ℕ} → answer ≡ Refused number place → BuildLeaves s table answer table
+pub refusal-leaves : (s table : List ℕ) (answer : Counted) {number place : ℕ} → answer ≡ Refused number place → BuildLeaves s table answer table
     → ShortLeaves s table answer table
 unfolding shortBuildingOf
-refuses-alike s table answer {number} {place} e leaves =
+refusal-leaves s table answer {number} {place} e leaves =
     let refusal = counted-refuses (buildingOf most s (length table)) number place (sym (leaves .0) ∙ e) in
     rw refusal (e, refl)
 

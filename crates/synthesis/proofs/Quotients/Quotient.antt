@@ -26,13 +26,13 @@ module _ {codes : ℕ} {answer : ℕ → ℕ → Answer ℕ} {count : ℕ} {clas
   -- ---- each equation renamed to the first of its class
 
   class-below : (k : ℕ) → k < count → getD classes k 0 < count
-  class-below k h = omega (arith, settled .le k h)
+  class-below k h = omega (arith, settled .are-classes .le k h)
 
   pub class-member : (k : ℕ) → k < count → Member (getD classes k 0) (firsts classes count)
-  class-member k h = first-member classes count (getD classes k 0) (record { below = class-below k h; own = settled .again k h })
+  class-member k h = first-member classes count (getD classes k 0) (record { below = class-below k h; own = settled .are-classes .again k h })
 
   merged-first : (k c : ℕ) → k < count → c < codes → merged classes answer (getD classes k 0) c ≡ merged classes answer k c
-  merged-first k c h b = settled .alike (getD classes k 0) k c (class-below k h) h b (settled .again k h)
+  merged-first k c h b = settled .alike (getD classes k 0) k c (class-below k h) h b (settled .are-classes .again k h)
 
   merged-renames : Renames codes (λ k. k < count) answer (merged classes answer) (λ k. getD classes k 0)
   merged-renames = record {

@@ -156,8 +156,10 @@ module _ (codes : ℕ) (answer : ℕ → ℕ → Answer ℕ) (count : ℕ) where
 pub settled : (codes : ℕ) (answer : ℕ → ℕ → Answer ℕ) (count : ℕ) → Inside codes answer count
     → Settled codes answer count (rounds codes answer count count)
 settled codes answer count inside = record {
-  le = rounds-le codes answer count count;
-  again = λ k h. rw still at (refined-again codes answer count classes k h);
+  are-classes = record {
+    le = rounds-le codes answer count count;
+    again = λ k h. rw still at (refined-again codes answer count classes k h);
+  };
   alike = λ k l c h h′ b e. refined-class codes answer count classes k l h h′ .0 (rw still e) .alike c b;
   parts = never-parted codes answer count inside count;
 }

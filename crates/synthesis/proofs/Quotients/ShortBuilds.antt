@@ -19,7 +19,7 @@ use Rattle.synthesis.proofs.Monitors.Renaming.{renamed-runs, renamed-mo
 use Rattle.synthesis.proofs.Tables.SynthesisOutcomes.{synthesis-accepts, building-accepts, counted-accepts, counted-refuses}
 use Rattle.synthesis.proofs.Tables.SynthesisOutcomes.{short-accepts, short-accepted, short-refused}
 use Rattle.synthesis.proofs.Tables.TableMonitors.{filled-well-formed, filled-same-after}
-use Rattle.synthesis.proofs.Tables.Built.{builds-accepted, builds-count, table-monitors}
+use Rattle.synthesis.proofs.Tables.Built.{outcome-unchanged, builds-accepted, builds-count, table-monitors}
 use Rattle.synthesis.proofs.Quotients.Firsts.{firsts-length}
 use Rattle.synthesis.proofs.Quotients.Quotient.{firsts-closed}
 use Rattle.synthesis.proofs.Quotients.ShortTables.{count, classes, number, count-some, rule-inside, rule-settled, some-class, number-zero}
@@ -60,8 +60,7 @@ pub short-refuses-alike : ShortRefusesAlike
 short-refuses-alike = refuses-alike
 
 pub short-refused-unchanged : ShortRefusedUnchanged
-short-refused-unchanged limit mark s table number place e =
-    rw (counted-refuses (shortBuildingOf limit s (length table)) number place e) (record { table = refl })
+short-refused-unchanged limit mark s table = outcome-unchanged mark table (shortBuildingOf limit s (length table))
 
 pub short-builds-accepted : ShortBuildsAccepted
 short-builds-accepted limit mark s table n below bytes e =

@@ -95,14 +95,14 @@ module _ {codes : ℕ} {answer : ℕ → ℕ → Answer ℕ} {n : ℕ} {classes 
       let below : k < n = omega (arith, f .below) in
       let member = class-member settled inside k below in
       let own : indexOf (getD fs i 0) fs ≡ i = firsts-distinct classes n i h in
-      let order = firsts-index classes n (getD classes k 0) (getD fs i 0) member (rw own h) (omega (arith, settled .le k below)) in
+      let order = firsts-index classes n (getD classes k 0) (getD fs i 0) member (rw own h) (omega (arith, settled .are-classes .le k below)) in
       omega arith
 
   -- what is asked before of first equations is asked before of the equations themselves
   asked-before : (j c k d : ℕ) → k < n → j < length fs → Before j c (classNumber classes n k) d → Before (getD fs j 0) c k d
   asked-before j c k d h b (inl less) =
       let at = index-is (getD classes k 0) fs (class-member settled inside k h) in
-      inl (omega (arith, settled .le k h, firsts-ascend classes n j (classNumber classes n k) less (class-member settled inside k h)))
+      inl (omega (arith, settled .are-classes .le k h, firsts-ascend classes n j (classNumber classes n k) less (class-member settled inside k h)))
   asked-before j c k d h b (inr (same, less)) = on (decLt (getD classes k 0) k)
     where
       at : getD fs j 0 ≡ getD classes k 0
@@ -110,7 +110,7 @@ module _ {codes : ℕ} {answer : ℕ → ℕ → Answer ℕ} {n : ℕ} {classes 
 
       on : Dec (getD classes k 0 < k) → Before (getD fs j 0) c k d
       on (yes l) = inl (omega (arith, at))
-      on (no l) = inr (omega (arith, at, settled .le k h), less)
+      on (no l) = inr (omega (arith, at, settled .are-classes .le k h), less)
 
   class-found : (i : ℕ) → i < length fs → RowFound codes answer (getD fs i 0) → RowFound codes short i
   class-found i h f = record {

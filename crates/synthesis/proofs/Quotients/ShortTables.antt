@@ -15,14 +15,14 @@ use Rattle.synthesis.specs.Merging.{merged, firsts}
 use Rattle.synthesis.specs.Building.{equationsOf, Synthesis, withEquations, buildingOf, countedOf, tableAfter, tableLeft}
 use Rattle.synthesis.specs.Building.{numberedAnswer, classesOf, shortened, shortBuildingOf, Builds, BuildsShort}
 use Rattle.synthesis.specs.declared.Counted.the-variants.{Equations}
-use Rattle.synthesis.proofs.Monitors.Renaming.{Renames, renames-twice}
+use Rattle.synthesis.proofs.Monitors.Renaming.{Renames}
 use Rattle.synthesis.proofs.Numberings.Indices.{index-first}
 use Rattle.synthesis.proofs.Numberings.Finding.{ClosedUnder}
 use Rattle.synthesis.proofs.Tables.SynthesisOutcomes.{synthesis-accepts, building-accepts, counted-accepts, accepts-as, short-accepted}
 use Rattle.synthesis.proofs.Tables.Equations.{first-member, equations-closed}
-use Rattle.synthesis.proofs.Tables.Built.{builds-outcome, builds-count}
+use Rattle.synthesis.proofs.Tables.Built.{built-numbers, builds-outcome, builds-count}
 use Rattle.synthesis.proofs.Quotients.Settled.{Inside, Settled}
-use Rattle.synthesis.proofs.Quotients.NumberedAnswers.{numbered-inside, long-renames}
+use Rattle.synthesis.proofs.Quotients.NumberedAnswers.{numbered-inside}
 use Rattle.synthesis.proofs.Quotients.Refinement.{settled}
 use Rattle.synthesis.proofs.Quotients.Firsts.{firsts-length, firsts-some, firsts-first}
 use Rattle.synthesis.proofs.Quotients.Quotient.{classNumber, quotient-renames}
@@ -61,7 +61,7 @@ module _ (limit : ℕ) (r : Rule) where
 
     -- row 0 is that of the first class
     zero-class : getD classes 0 0 ≡ 0
-    zero-class = omega (arith, rule-settled .le 0 count-some)
+    zero-class = omega (arith, rule-settled .are-classes .le 0 count-some)
 
     pub some-class : 0 < length classFirsts
     some-class = firsts-some classes count count-some zero-class
@@ -70,7 +70,7 @@ module _ (limit : ℕ) (r : Rule) where
     number-zero =
         rw zero-class (omega (arith, index-first 0 classFirsts 0 some-class (firsts-first classes count count-some zero-class)))
 
--- ---- what the two builds leave
+-- ---- what the short build leaves
 
 -- The rule is accepted with a table that has room for its rows.
 pub record HasRows (limit : ℕ) (s table : List ℕ) (r : Rule) : Type 0 where
@@ -89,13 +89,7 @@ has-rows limit s table r read y e =
       room = room;
     }
 
--- what the first build leaves
-pub record Lengthens (limit mark : ℕ) (s table : List ℕ) (r : Rule) (n : ℕ) (left : List ℕ) : Type 0 where
-  pub rows : HasRows limit s table r
-  pub count-is : n ≡ count limit r
-  pub filled-is : left ≡ filled mark (answerOf r) (equationsOf limit r) 256 table
-
--- and the short one
+-- what the short build leaves
 pub record Shortens (limit mark : ℕ) (s table : List ℕ) (r : Rule) (n : ℕ) (left : List ℕ) : Type 0 where
   pub rows : HasRows limit s table r
   pub count-is : n ≡ length (classFirsts limit r)
@@ -134,11 +128,6 @@ module _ {limit mark : ℕ} {s table : List ℕ} {r : Rule} {n : ℕ} {left : Li
   short-room = omega (arith, firsts-few, x .rows .room)
 
 module _ {limit mark : ℕ} {s table : List ℕ} {r : Rule} {n : ℕ} {left : List ℕ} where
-  pub lengthens : Builds limit mark s table r n left → Lengthens limit mark s table r n left
-  lengthens b =
-      let rows = has-rows limit s table r (b .read) (withEquations limit r) (builds-outcome b) in
-      record { rows = rows; count-is = builds-count b; filled-is = b .left-is ∙ ap (λ (o : Outcome Synthesis). tableAfter mark o table) (rows .outcome) }
-
   pub shortens : BuildsShort limit mark s table r n left → Shortens limit mark s table r n left
   shortens b = rw (b .left-is) (counted-shortens limit mark s table r n (b .read) (b .counted))
 
@@ -165,12 +154,21 @@ module _ {limit mark : ℕ} {s table : List ℕ} {r : Rule} {n : ℕ} {short : L
       (quotient-renames (rule-settled limit r few) (rule-inside limit r few) mark table (short-room (shortens b))
       (omega (arith, firsts-few (shortens b), b .below)))
 
-  -- the rows of any table that the first build left
+  -- a row of any table that the first build left answers as its equation does, by numbers
+  long-answers : (table′ long : List ℕ) (m : ℕ) → Builds limit mark s table′ r m long → (k c : ℕ) → k < m → c < 256
+      → lookup 256 mark long k c ≡ numbered limit r k c
+  long-answers table′ long m b′ k c h code =
+      rw (b′ .left-is)
+      (built-numbers limit mark s table′ (b .below) k c code (withEquations limit r) (builds-outcome b′) (omega (arith, builds-count b′)))
+
+  -- so the rows of that table are renamed too
   pub rows-rename : (table′ long : List ℕ) (m : ℕ) → Builds limit mark s table′ r m long
       → Renames 256 (λ k. k < m) (lookup 256 mark long) (lookup 256 mark short) (number limit r)
   rows-rename table′ long m b′ =
-      let l = lengthens b′ in
-      let y = withEquations limit r in
-      rw (l .filled-is, l .count-is)
-      (renames-twice 256 (λ k. k < count limit r) (λ k. k < count limit r) _ (numbered limit r) (lookup 256 mark short) (λ k. k) (number limit r)
-      (long-renames y (rule-closed limit r few) mark table′ (omega (arith, l .rows .room, few)) (omega (arith, b .below, few))) short-renames (λ k h. h))
+      let same = long-answers table′ long m b′ in
+      let within : (k : ℕ) → k < m → k < count limit r = λ k h. omega (arith, builds-count b′) in
+      record {
+        invariant = λ k j c h code q. omega (arith, builds-count b′, short-renames .invariant k j c (within k h) code (sym (same k c h code) ∙ q));
+        drops = λ k c h code q. short-renames .drops k c (within k h) code (sym (same k c h code) ∙ q);
+        follows = λ k j c h code q. short-renames .follows k j c (within k h) code (sym (same k c h code) ∙ q);
+      }

@@ -19,8 +19,8 @@ use Rattle.synthesis.specs.Search.{indexOf}
 use Rattle.synthesis.specs.Table.{filled, WellFormedTable}
 use Rattle.synthesis.specs.Building.{equationsOf, Synthesis, withEquations, synthesisOf, buildingOf, countedOf, tableAfter, tableLeft}
 use Rattle.synthesis.specs.Building.{numberedAnswer, BuildsBy, Builds}
-use Rattle.synthesis.specs.declared.Counted.the-variants.{Equations}
-use Rattle.synthesis.specs.Promises.{TableMonitors, TableDrops, RefusesViolatedByEmpty, RefusedUnchanged}
+use Rattle.synthesis.specs.declared.Counted.the-variants.{Equations, Refused}
+use Rattle.synthesis.specs.Promises.{TableMonitors, TableDrops, RefusesViolatedByEmpty, TableUnchanged, RefusedUnchanged}
 use Rattle.synthesis.specs.Promises.{BuildsAccepted, BuiltWellFormed, EntryAnswers, EntriesAnswer, SameAfterRows, TableRest}
 use Rattle.synthesis.proofs.Unfolding.AnsweringLaws.{answers-as-defined}
 use Rattle.synthesis.proofs.Monitors.RuleMonitor.{rule-monitors, unsatisfiable-iff}
@@ -205,8 +205,13 @@ entries-answer limit mark s table r n after b k c h code =
     rw (b .left-is)
     (built-answers limit mark s table (b .below) (b .bytes) k c code (withEquations limit r) (builds-outcome b) (omega (arith, builds-count b, h)))
 
+-- a refusal leaves any table as it was, whichever build is refused
+pub outcome-unchanged : (mark : ℕ) (table : List ℕ) (o : Outcome Synthesis) (number place : ℕ) → countedOf o ≡ Refused number place
+    → TableUnchanged mark table o
+outcome-unchanged mark table o number place e = rw (counted-refuses o number place e) (record { table = refl })
+
 pub refused-unchanged : RefusedUnchanged
-refused-unchanged limit mark s table number place e = rw (counted-refuses (buildingOf limit s (length table)) number place e) (record { table = refl })
+refused-unchanged limit mark s table = outcome-unchanged mark table (buildingOf limit s (length table))
 
 pub refuses-violated-by-empty : RefusesViolatedByEmpty
 refuses-violated-by-empty limit s bytes r read =

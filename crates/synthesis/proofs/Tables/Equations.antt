@@ -28,7 +28,7 @@ use Rattle.synthesis.proofs.Numberings.Finding.{found-first, found-dist
 use Rattle.synthesis.proofs.Unfolding.AnsweringLaws.{answers-as-defined}
 use Rattle.synthesis.proofs.Unfolding.EquationLaws.{tracks-violation}
 use Rattle.synthesis.proofs.Monitors.RuleMonitor.{unsatisfiable-iff}
-use Rattle.synthesis.proofs.Tables.SynthesisOutcomes.{synthesis-accepts, building-short, building-enough, refused-nine, refuses-eight, refuses-nine}
+use Rattle.synthesis.proofs.Tables.SynthesisOutcomes.{synthesis-accepts, building-too-short, building-enough, refused-nine, refuses-eight, refuses-nine}
 use Rattle.synthesis.proofs.Tables.SynthesisOutcomes.{counted-accepts, counted-refuses, accepts-as}
 
 -- a file that is read is a rule with a well-formed formula
@@ -149,7 +149,7 @@ answers-count limit s n e =
     }) (y .0) (y .1) (y .2)
 
 pub checks-table : (limit : ℕ) (s : List ℕ) (capacity : ℕ) → ChecksTable limit s capacity
-checks-table limit s capacity = record { short = building-short limit s capacity; enough = building-enough limit s capacity }
+checks-table limit s capacity = record { short = building-too-short limit s capacity; enough = building-enough limit s capacity }
 
 pub reaches-equations : ReachesEquations
 reaches-equations limit s bytes r n read e =

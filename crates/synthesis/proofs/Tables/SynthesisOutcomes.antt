@@ -34,9 +34,9 @@ pub building-enough : (limit : ℕ) (s : List ℕ) (capacity : ℕ) → 256 * li
 unfolding buildingOf
 building-enough limit s capacity h = rw (le-ltb capacity (256 * limit) h)
 
-pub building-short : (limit : ℕ) (s : List ℕ) (capacity : ℕ) → capacity < 256 * limit → buildingOf limit s capacity ≡ refused 10 0
+pub building-too-short : (limit : ℕ) (s : List ℕ) (capacity : ℕ) → capacity < 256 * limit → buildingOf limit s capacity ≡ refused 10 0
 unfolding buildingOf
-building-short limit s capacity h = rw (lt-ltb capacity (256 * limit) h)
+building-too-short limit s capacity h = rw (lt-ltb capacity (256 * limit) h)
 
 -- building accepts where there is room for the rows and synthesis accepts
 pub building-accepts : (limit : ℕ) (s : List ℕ) (capacity : ℕ) (y : Synthesis) → buildingOf limit s capacity ≡ accepted y

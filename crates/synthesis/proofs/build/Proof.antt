@@ -2,7 +2,7 @@
 use borrow.Author.Needs.{needs}
 use Rattle.synthesis.specs.Monitor.{most}
 use Rattle.synthesis.specs.Building.{synthesisOf}
-use Rattle.synthesis.proofs.Functions.BuildingWays.{short-leaves, refused-plan-leaves, CountedPlan, plan-counted, counted-fills, filled-leaves}
+use Rattle.synthesis.proofs.Functions.BuildingWays.{too-short-leaves, refused-plan-leaves, CountedPlan, plan-counted, counted-fills, filled-leaves}
 use Rattle.synthesis.proofs.build.Statement.{statement}
 use Rattle.synthesis.proofs.build.Tie as tie
 
@@ -12,7 +12,7 @@ counted : (c : tie.After-answer) → let p = c .before .before in
 counted c = plan-counted _ _ (c .before .before .plan-of .ensures) (c .answer .given .1)
 
 returns : tie.Need-returns
-returns c = short-leaves _ _ (c .if1 .taken)
+returns c = too-short-leaves _ _ (c .if1 .taken)
 
 plan-of-requires : tie.Need-plan-of-requires
 plan-of-requires c κs = search needs

@@ -4,8 +4,8 @@ use native.Mathlib.Omega.{arith}
 use borrow.Author.Needs.{needs}
 use Rattle.synthesis.specs.Monitor.{most}
 use Rattle.synthesis.specs.Building.{synthesisOf}
-use Rattle.synthesis.proofs.Functions.BuildingWays.{short-leaves, refused-plan-leaves, CountedPlan, plan-counted, counted-fills}
-use Rattle.synthesis.proofs.Functions.ShortWays.{refuses-alike, long-well-formed, shortened-leaves}
+use Rattle.synthesis.proofs.Functions.BuildingWays.{too-short-leaves, refused-plan-leaves, CountedPlan, plan-counted, counted-fills}
+use Rattle.synthesis.proofs.Functions.ShortWays.{refusal-leaves, long-well-formed, shortened-leaves}
 use Rattle.synthesis.proofs.build_short.Statement.{statement}
 use Rattle.synthesis.proofs.build_short.Tie as tie
 
@@ -15,7 +15,7 @@ counted : (c : tie.After-answer) → let p = c .before .before in
 counted c = plan-counted _ _ (c .before .before .plan-of .ensures) (c .answer .given .1)
 
 returns : tie.Need-returns
-returns c = refuses-alike _ _ _ refl (short-leaves _ _ (c .if1 .taken))
+returns c = refusal-leaves _ _ _ refl (too-short-leaves _ _ (c .if1 .taken))
 
 plan-of-requires : tie.Need-plan-of-requires
 plan-of-requires c κs = search needs
@@ -30,7 +30,7 @@ returns-2 : tie.Need-returns-2
 returns-2 c =
     let p = c .before .before in
     let e = c .enum-told .given .1 in
-    refuses-alike _ _ _ e (refused-plan-leaves _ _ _ (p .plan-of .ensures) e (p .before .if1 .left))
+    refusal-leaves _ _ _ e (refused-plan-leaves _ _ _ (p .plan-of .ensures) e (p .before .if1 .left))
 
 slice-aggregate-fill-table : tie.Need-slice-aggregate-fill-table
 slice-aggregate-fill-table c = search needs
