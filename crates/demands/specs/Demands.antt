@@ -20,7 +20,7 @@ use Rattle.synthesis.specs.declared.Counted.the-variants as Counted
 use Rattle.synthesis.specs.declared.Reason.the-variants as Reason
 use Rattle.running.specs.Running.{resultOf}
 use Rattle.running.specs.Calls.{Call, History, Calls, OnTable, OnTableOrRefused}
-use Rattle.running.specs.Promises.{Sifts, ReasonsOn, RunUnchanged, OnlyFronts}
+use Rattle.running.specs.Promises.{SiftsOn, ReasonsOn, RunUnchanged, OnlyFronts}
 use Rattle.running.specs.declared.State.{State}
 use Rattle.running.specs.declared.Checked.the-variants as Checked
 use Rattle.enforcement.specs.Model.{Bisimilar, suppressing, monitored}
@@ -87,7 +87,7 @@ Takes n table =
 -- and then as that one. It builds exactly where it is read and its equations are counted. With a table that is long enough, exactly the rules of the
 -- grammar within the limits are accepted, except those that no finite model satisfies. A model is said to meet a rule exactly when it satisfies it.
 pub record DemandTwo : Type 1 where
-  pub drops : (s table : List ℕ) (r : Rule) (n : ℕ) (left : List ℕ) → Builds 128 255 s table r n left → Sifts 128 255 r n left
+  pub drops : (s table : List ℕ) (r : Rule) (n : ℕ) (left : List ℕ) → Builds 128 255 s table r n left → SiftsOn 128 255 r n left
   pub takes : (s table : List ℕ) (r : Rule) (n : ℕ) (left : List ℕ) → Builds 128 255 s table r n left → Takes n left
   pub explains : (s : List ℕ) → Bytes s → (kept : List ℕ) (scan : ℕ) → Reasons 128 s kept scan
   pub places : (s : List ℕ) → Bytes s → (r : Rule) → ruleOf s ≡ accepted r → Placed r
@@ -106,7 +106,7 @@ pub record DemandTwo : Type 1 where
 
 -- The same of the table that the short build leaves, and of the files that it accepts.
 pub record DemandTwoShort : Type 1 where
-  pub drops : (s table : List ℕ) (r : Rule) (n : ℕ) (left : List ℕ) → BuildsShort 128 255 s table r n left → Sifts 128 255 r n left
+  pub drops : (s table : List ℕ) (r : Rule) (n : ℕ) (left : List ℕ) → BuildsShort 128 255 s table r n left → SiftsOn 128 255 r n left
   pub takes : (s table : List ℕ) (r : Rule) (n : ℕ) (left : List ℕ) → BuildsShort 128 255 s table r n left → Takes n left
   pub explains-runs : (s table : List ℕ) (r : Rule) (n : ℕ) (left : List ℕ) → BuildsShort 128 255 s table r n left → ReasonsOn 128 255 s n left
   pub builds : (s table : List ℕ) (r : Rule) (n : ℕ) (left : List ℕ) → BuildsShort 128 255 s table r n left

@@ -35,22 +35,22 @@ pub record Sifted (r : Rule) (h : History) : Type 0 where
       ↔ ViolatesRule r (keptBefore h i ++ (getD (h .scans) i 0 ∷ []))
   pub safe : ViolatesRule r (h .kept) → ⊥
 
-abbrev pub Sifts : (limit mark : ℕ) → Rule → (n : ℕ) → (table : List ℕ) → Type 0
-Sifts limit mark r n table = (h : History) → Calls limit mark (OnTableOrRefused limit mark table n) h → Sifted r h
+abbrev pub SiftsOn : (limit mark : ℕ) → Rule → (n : ℕ) → (table : List ℕ) → Type 0
+SiftsOn limit mark r n table = (h : History) → Calls limit mark (OnTableOrRefused limit mark table n) h → Sifted r h
 
 abbrev pub DropsExactly : Type 0
 DropsExactly =
-    (limit mark : ℕ) (s table : List ℕ) (r : Rule) (n : ℕ) (left : List ℕ) → Builds limit mark s table r n left → Sifts limit mark r n left
+    (limit mark : ℕ) (s table : List ℕ) (r : Rule) (n : ℕ) (left : List ℕ) → Builds limit mark s table r n left → SiftsOn limit mark r n left
 
 -- So too on the table that the short build leaves, and on any other that is well formed and monitors a rule.
 abbrev pub ShortDropsExactly : Type 0
 ShortDropsExactly =
-    (limit mark : ℕ) (s table : List ℕ) (r : Rule) (n : ℕ) (left : List ℕ) → BuildsShort limit mark s table r n left → Sifts limit mark r n left
+    (limit mark : ℕ) (s table : List ℕ) (r : Rule) (n : ℕ) (left : List ℕ) → BuildsShort limit mark s table r n left → SiftsOn limit mark r n left
 
 abbrev pub MonitorsSift : Type 0
 MonitorsSift =
     (limit mark : ℕ) (r : Rule) (n : ℕ) (table : List ℕ) → WellFormedTable limit mark n table → Monitors r (lookup 256 mark table) 0
-    → Sifts limit mark r n table
+    → SiftsOn limit mark r n table
 
 -- ---- runs over some scans and then over others
 
