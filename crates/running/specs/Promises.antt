@@ -11,7 +11,7 @@ use Rattle.reading.specs.File.{Outcome, accepted}
 use Rattle.synthesis.specs.Violation.{ViolatesRule}
 use Rattle.synthesis.specs.Monitor.{dropped, cases, next, ended, Monitors, meaning, lookup}
 use Rattle.synthesis.specs.Table.{WellFormedTable}
-use Rattle.synthesis.specs.Building.{Builds, BuildsShort}
+use Rattle.synthesis.specs.Building.{Fills, FillsShort}
 use Rattle.synthesis.specs.Reason.{explanationOf, reasonOf}
 use Rattle.synthesis.specs.declared.Reason.{Reason}
 use Rattle.synthesis.specs.declared.Reason.the-variants.{Kept, Node}
@@ -40,12 +40,12 @@ SiftsOn limit mark r n table = (h : History) → Calls limit mark (OnTableOrRefu
 
 abbrev pub DropsExactly : Type 0
 DropsExactly =
-    (limit mark : ℕ) (s table : List ℕ) (r : Rule) (n : ℕ) (left : List ℕ) → Builds limit mark s table r n left → SiftsOn limit mark r n left
+    (limit mark : ℕ) (s table : List ℕ) (r : Rule) (n : ℕ) (left : List ℕ) → Fills limit mark s table r n left → SiftsOn limit mark r n left
 
 -- So too on the table that the short build leaves, and on any other that is well formed and monitors a rule.
 abbrev pub ShortDropsExactly : Type 0
 ShortDropsExactly =
-    (limit mark : ℕ) (s table : List ℕ) (r : Rule) (n : ℕ) (left : List ℕ) → BuildsShort limit mark s table r n left → SiftsOn limit mark r n left
+    (limit mark : ℕ) (s table : List ℕ) (r : Rule) (n : ℕ) (left : List ℕ) → FillsShort limit mark s table r n left → SiftsOn limit mark r n left
 
 abbrev pub MonitorsSift : Type 0
 MonitorsSift =
@@ -126,12 +126,12 @@ NotUnfit limit mark n table =
 -- So it is with the table that building leaves.
 abbrev pub NeverUnfit : Type 0
 NeverUnfit =
-    (limit mark : ℕ) (s table : List ℕ) (r : Rule) (n : ℕ) (left : List ℕ) → Builds limit mark s table r n left → NotUnfit limit mark n left
+    (limit mark : ℕ) (s table : List ℕ) (r : Rule) (n : ℕ) (left : List ℕ) → Fills limit mark s table r n left → NotUnfit limit mark n left
 
 -- So too with the table that the short build leaves, and with any other well-formed table.
 abbrev pub ShortNeverUnfit : Type 0
 ShortNeverUnfit =
-    (limit mark : ℕ) (s table : List ℕ) (r : Rule) (n : ℕ) (left : List ℕ) → BuildsShort limit mark s table r n left → NotUnfit limit mark n left
+    (limit mark : ℕ) (s table : List ℕ) (r : Rule) (n : ℕ) (left : List ℕ) → FillsShort limit mark s table r n left → NotUnfit limit mark n left
 
 abbrev pub WellFormedNotUnfit : Type 0
 WellFormedNotUnfit = (limit mark n : ℕ) (table : List ℕ) → WellFormedTable limit mark n table → NotUnfit limit mark n table
@@ -190,17 +190,17 @@ ReasonsOn limit mark s n table = (h : History) → Calls limit mark (OnTableOrRe
 
 abbrev pub ReasonsOfRuns : Type 0
 ReasonsOfRuns =
-    (limit mark : ℕ) (s table : List ℕ) (r : Rule) (n : ℕ) (left : List ℕ) → Builds limit mark s table r n left → ReasonsOn limit mark s n left
+    (limit mark : ℕ) (s table : List ℕ) (r : Rule) (n : ℕ) (left : List ℕ) → Fills limit mark s table r n left → ReasonsOn limit mark s n left
 
 abbrev pub ShortReasonsOfRuns : Type 0
 ShortReasonsOfRuns =
-    (limit mark : ℕ) (s table : List ℕ) (r : Rule) (n : ℕ) (left : List ℕ) → BuildsShort limit mark s table r n left → ReasonsOn limit mark s n left
+    (limit mark : ℕ) (s table : List ℕ) (r : Rule) (n : ℕ) (left : List ℕ) → FillsShort limit mark s table r n left → ReasonsOn limit mark s n left
 
 -- Any list that doesn't violate the rule and ends, over the table of the first build, in the equation of the caller's state gives every scan the reason
 -- that what was kept gives. Over the short table this fails: merged equations drop alike, but not for the same reasons (`MergedReasons` of `examples`).
 abbrev pub ReasonsByState : Type 0
 ReasonsByState =
-    (limit mark : ℕ) (s table : List ℕ) (r : Rule) (n : ℕ) (left : List ℕ) → Builds limit mark s table r n left
+    (limit mark : ℕ) (s table : List ℕ) (r : Rule) (n : ℕ) (left : List ℕ) → Fills limit mark s table r n left
     → (h : History) → Calls limit mark (OnTableOrRefused limit mark left n) h
     → (w : List ℕ) → Bytes w → (ViolatesRule r w → ⊥) → ended (lookup 256 mark left) 0 w ≡ h .state .equation
     → (c : ℕ) → reasonOf (explanationOf limit s w c) ≡ reasonOf (explanationOf limit s (h .kept) c)

@@ -45,7 +45,7 @@ fn fill_row(
 }
 
 // Fills the rows of all n equations.
-fn fill(after: &[u64], enabled: &[u64], falsities: u64, found: &[u64], n: usize, table: &mut [u8])
+fn fill_rows(after: &[u64], enabled: &[u64], falsities: u64, found: &[u64], n: usize, table: &mut [u8])
     requires { ⌜ (length (now after) ≡ 64) × (length (now enabled) ≡ 256) × (n ≤ most) × (n ≤ length (now found)) × (256 * n ≤ length (now table)) ⌝ }
     ensures { λ _. ⌜ now (table .exit)
         ≡ filled mark (answerBy (now (after .entry)) (now (enabled .entry)) falsities) (take n (now (found .entry))) 256 (now (table .entry)) ⌝ }
@@ -68,5 +68,5 @@ pub(crate) fn fill_table(graph: Graph, found: [u64; 128], n: usize, table: &mut 
 {
     let after = graph.after;
     let enabled = graph.enabled;
-    fill(&after, &enabled, graph.falsities, &found, n, table);
+    fill_rows(&after, &enabled, graph.falsities, &found, n, table);
 }

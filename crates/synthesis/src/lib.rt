@@ -1,10 +1,11 @@
-// Builds the monitor of a rule as a table, and explains why it drops a scan. The definitions that the contracts cite stand in specs/.
+// Counts the equations of a rule, fills tables with its monitor, and explains why it drops a scan. The definitions that the contracts cite stand in specs/.
 mod explaining;
 mod filling;
 mod graph;
 mod merging;
 mod renumbering;
 mod search;
+mod shortening;
 
 use explaining::Followed;
 use graph::Graph;
@@ -12,7 +13,7 @@ use reading::FileRead;
 ghost use mathlib.Core.Path.{_≡_};
 ghost use lib.ListN.{length};
 ghost use Rattle.synthesis.specs.Monitor.{mark, most, rowOf};
-ghost use Rattle.synthesis.specs.Building.{synthesisOf, buildingOf, shortBuildingOf, countedOf, tableAfter};
+ghost use Rattle.synthesis.specs.Building.{synthesisOf, fillingOf, shortOf, shortFillingOf, countedOf, tableAfter};
 ghost use Rattle.synthesis.specs.Reason.{explanationOf, reasonOf};
 ghost use Rattle.synthesis.specs.Plans.{refusalOf, IsPlan};
 
@@ -96,41 +97,52 @@ pub fn count(rule: &[u8]) -> Counted
     plan_of(rule).answer
 }
 
-// Fills a table with a row for each equation of the rule of a file, and answers how many there are. A refused call leaves the table as it was.
-pub fn build(rule: &[u8], table: &mut [u8]) -> Counted
-    ensures { λ r. ⌜ r ≡ countedOf (buildingOf most (now (rule .entry)) (length (now (table .entry)))) ⌝ }
-    ensures { λ _. ⌜ now (table .exit) ≡ tableAfter mark (buildingOf most (now (rule .entry)) (length (now (table .entry)))) (now (table .entry)) ⌝ }
+// Fills a table with a row for each equation of the rule of a file, and answers how many there are: 1 to 9 as counting has it, and 10 where the rows don't
+// fit. A refused call leaves the table as it was.
+pub fn fill(rule: &[u8], table: &mut [u8]) -> Counted
+    ensures { λ r. ⌜ r ≡ countedOf (fillingOf most (now (rule .entry)) (length (now (table .entry)))) ⌝ }
+    ensures { λ _. ⌜ now (table .exit) ≡ tableAfter mark (fillingOf most (now (rule .entry)) (length (now (table .entry)))) (now (table .entry)) ⌝ }
 {
-    if table.len() < 32768 {
-        return Counted::Refused(10, 0);
-    }
     let plan = plan_of(rule);
     let answer = plan.answer;
     let Counted::Equations(n) = answer else {
         return answer;
     };
+    if table.len() < 256 * n {
+        return Counted::Refused(10, 0);
+    }
     let found = plan.found;
     filling::fill_table(plan.graph, found, n, table);
     answer
 }
 
-// Fills a table with a row for each class of equations that drop alike, and answers how many there are. A refused call leaves the table as it was.
-pub fn build_short(rule: &[u8], table: &mut [u8]) -> Counted
-    ensures { λ r. ⌜ r ≡ countedOf (shortBuildingOf most (now (rule .entry)) (length (now (table .entry)))) ⌝ }
-    ensures { λ _. ⌜ now (table .exit) ≡ tableAfter mark (shortBuildingOf most (now (rule .entry)) (length (now (table .entry)))) (now (table .entry)) ⌝ }
+// Answers how many equations the short table of the rule of a file has, one for each class of equations that drop alike, or a refusal of 1 to 9.
+pub fn count_short(rule: &[u8]) -> Counted
+    ensures { λ r. ⌜ r ≡ countedOf (shortOf most (now (rule .entry))) ⌝ }
 {
-    if table.len() < 32768 {
-        return Counted::Refused(10, 0);
-    }
-    let plan = plan_of(rule);
+    let mut long = [0u8; 32768];
+    shortening::short_plan_of(rule, &mut long).answer
+}
+
+// Fills a table with a row for each of these classes, and answers how many there are: 1 to 9 as counting has it, and 10 where the rows don't fit. A
+// refused call leaves the table as it was.
+pub fn fill_short(rule: &[u8], table: &mut [u8]) -> Counted
+    ensures { λ r. ⌜ r ≡ countedOf (shortFillingOf most (now (rule .entry)) (length (now (table .entry)))) ⌝ }
+    ensures { λ _. ⌜ now (table .exit) ≡ tableAfter mark (shortFillingOf most (now (rule .entry)) (length (now (table .entry)))) (now (table .entry)) ⌝ }
+{
+    let mut long = [0u8; 32768];
+    let plan = shortening::short_plan_of(rule, &mut long);
     let answer = plan.answer;
-    let Counted::Equations(count) = answer else {
+    let Counted::Equations(m) = answer else {
         return answer;
     };
-    let mut long = [0u8; 32768];
-    let found = plan.found;
-    filling::fill_table(plan.graph, found, count, &mut long);
-    Counted::Equations(renumbering::shorten(&long, count, table))
+    if table.len() < 256 * m {
+        return Counted::Refused(10, 0);
+    }
+    let firsts = plan.firsts;
+    let numbers = plan.numbers;
+    renumbering::fill_short_rows(&long, plan.equations, &firsts, m, &numbers, table);
+    answer
 }
 
 // The row of equation k, a part of the table; empty where it isn't wholly inside.
