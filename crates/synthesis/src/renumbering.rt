@@ -1,5 +1,6 @@
 // Numbers the classes of the equations of a table, and fills the short table, which has a row for each class.
 use crate::DROPPED;
+use crate::MOST;
 use crate::merging::merge_first;
 use crate::row;
 ghost use mathlib.Core.Path.{_≡_};
@@ -96,11 +97,11 @@ pub(crate) fn shorten(long: &[u8], n: usize, table: &mut [u8]) -> usize
         ≡ filled mark (merged (rounds 256 (lookup 256 mark (now (long .entry))) n n) (lookup 256 mark (now (long .entry))))
         (firsts (rounds 256 (lookup 256 mark (now (long .entry))) n n) n) 256 (now (table .entry)) ⌝ }
 {
-    let mut classes = [0u16; 128];
-    let mut next = [0u16; 128];
+    let mut classes = [0u16; MOST];
+    let mut next = [0u16; MOST];
     merge_first(long, n, &mut classes, &mut next);
-    let mut firsts = [0u16; 128];
-    let mut numbers = [0u16; 128];
+    let mut firsts = [0u16; MOST];
+    let mut numbers = [0u16; MOST];
     let m = number(&classes, n, &mut firsts, &mut numbers);
     fill_short(long, n, &firsts, m, &numbers, table);
     m
