@@ -11,6 +11,7 @@ use explaining::Followed;
 use graph::Graph;
 use reading::FileRead;
 ghost use mathlib.Core.Path.{_≡_};
+ghost use Prim.Native.Nat.{_≤_};
 ghost use lib.ListN.{length};
 ghost use Rattle.synthesis.specs.Monitor.{mark, most, rowOf};
 ghost use Rattle.synthesis.specs.Building.{synthesisOf, fillingOf, shortOf, shortFillingOf, countedOf, tableAfter};
@@ -19,6 +20,9 @@ ghost use Rattle.synthesis.specs.Plans.{refusalOf, IsPlan};
 
 // The entry of a code that is dropped.
 pub const DROPPED: u8 = 255;
+
+// The most equations that a rule may have.
+pub const MOST: usize = 128;
 
 // What is said of a rule file: how many equations its rule has, or a refusal with a number and a place.
 pub enum Counted {
@@ -37,7 +41,7 @@ pub enum Reason {
 struct Plan {
     answer: Counted,
     graph: Graph,
-    found: [u64; 128],
+    found: [u64; MOST],
 }
 
 // The refusal of a rule file that couldn't be read.
@@ -55,7 +59,7 @@ fn no_plan(answer: Counted) -> Plan
     ensures { λ r. ⌜ r .answer ≡ answer ⌝ }
 {
     let graph = graph::empty();
-    let found = [0u64; 128];
+    let found = [0u64; MOST];
     Plan {
         answer,
         graph,
@@ -64,8 +68,9 @@ fn no_plan(answer: Counted) -> Plan
 }
 
 // Reads a rule file and finds the equations of its rule.
-fn plan_of(rule: &[u8]) -> Plan
-    ensures { λ r. ⌜ IsPlan (synthesisOf most (now (rule .entry))) r ⌝ }
+fn plan_of(rule: &[u8], limit: usize) -> Plan
+    requires { ⌜ limit ≤ most ⌝ }
+    ensures { λ r. ⌜ IsPlan (synthesisOf limit (now (rule .entry))) r ⌝ }
 {
     let reading = reading::read_rule(rule);
     let answer = reading.answer;
@@ -76,11 +81,18 @@ fn plan_of(rule: &[u8]) -> Plan
     if graph.first & graph.falsities != 0 {
         return no_plan(Counted::Refused(8, 0));
     }
-    let mut found = [0u64; 128];
+    let mut found = [0u64; MOST];
     let after = graph.after;
     let enabled = graph.enabled;
-    let count = search::search(&after, &enabled, graph.falsities, graph.first, &mut found);
-    if 128 < count {
+    let count = search::search(
+        &after,
+        &enabled,
+        graph.falsities,
+        graph.first,
+        &mut found,
+        limit,
+    );
+    if limit < count {
         return no_plan(Counted::Refused(9, 0));
     }
     Plan {
@@ -94,7 +106,7 @@ fn plan_of(rule: &[u8]) -> Plan
 pub fn count(rule: &[u8]) -> Counted
     ensures { λ r. ⌜ r ≡ countedOf (synthesisOf most (now (rule .entry))) ⌝ }
 {
-    plan_of(rule).answer
+    plan_of(rule, MOST).answer
 }
 
 // Fills a table with a row for each equation of the rule of a file, and answers how many there are: 1 to 9 as counting has it, and 10 where the rows don't
@@ -103,7 +115,7 @@ pub fn fill(rule: &[u8], table: &mut [u8]) -> Counted
     ensures { λ r. ⌜ r ≡ countedOf (fillingOf most (now (rule .entry)) (length (now (table .entry)))) ⌝ }
     ensures { λ _. ⌜ now (table .exit) ≡ tableAfter mark (fillingOf most (now (rule .entry)) (length (now (table .entry)))) (now (table .entry)) ⌝ }
 {
-    let plan = plan_of(rule);
+    let plan = plan_of(rule, MOST);
     let answer = plan.answer;
     let Counted::Equations(n) = answer else {
         return answer;
@@ -162,7 +174,7 @@ pub fn row(table: &[u8], k: usize) -> &[u8]
 pub fn explain(rule: &[u8], kept: &[u8], scan: u8) -> Reason
     ensures { λ r. ⌜ r ≡ reasonOf (explanationOf most (now (rule .entry)) (now (kept .entry)) scan) ⌝ }
 {
-    let plan = plan_of(rule);
+    let plan = plan_of(rule, MOST);
     let answer = plan.answer;
     let Counted::Equations(_) = answer else {
         return explaining::unexplained(answer);

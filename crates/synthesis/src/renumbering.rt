@@ -1,5 +1,6 @@
 // Numbers the classes of the equations of a table, and fills the short table, which has a row for each class.
 use crate::DROPPED;
+use crate::MOST;
 use crate::merging::merge_first;
 use crate::row;
 ghost use mathlib.Core.Path.{_≡_};
@@ -50,8 +51,8 @@ pub(crate) fn number_classes(long: &[u8], n: usize, firsts: &mut [u16], numbers:
     requires { ⌜ WellFormedTable most mark n (now long) × (n ≤ length (now firsts)) × (n ≤ length (now numbers)) ⌝ }
     ensures { λ r. ⌜ ClassesNumbered n (rounds 256 (lookup 256 mark (now (long .entry))) n n) r (now (firsts .exit)) (now (numbers .exit)) ⌝ }
 {
-    let mut classes = [0u16; 128];
-    let mut next = [0u16; 128];
+    let mut classes = [0u16; MOST];
+    let mut next = [0u16; MOST];
     merge_first(long, n, &mut classes, &mut next);
     number(&classes, n, firsts, numbers)
 }

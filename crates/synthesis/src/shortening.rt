@@ -1,5 +1,6 @@
 // What the short table of a rule is filled from.
 use crate::Counted;
+use crate::MOST;
 use crate::filling::fill_table;
 use crate::plan_of;
 use crate::renumbering::number_classes;
@@ -12,8 +13,8 @@ ghost use Rattle.synthesis.specs.Plans.{IsShortPlan};
 pub(crate) struct ShortPlan {
     pub(crate) answer: Counted,
     pub(crate) equations: usize,
-    pub(crate) firsts: [u16; 128],
-    pub(crate) numbers: [u16; 128],
+    pub(crate) firsts: [u16; MOST],
+    pub(crate) numbers: [u16; MOST],
 }
 
 // Reads a rule file, fills its long table, and numbers the classes of equations that drop alike.
@@ -21,9 +22,9 @@ pub(crate) fn short_plan_of(rule: &[u8], long: &mut [u8]) -> ShortPlan
     requires { ⌜ length (now long) ≡ 32768 ⌝ }
     ensures { λ r. ⌜ IsShortPlan (now (rule .entry)) r (now (long .exit)) ⌝ }
 {
-    let plan = plan_of(rule);
-    let mut firsts = [0u16; 128];
-    let mut numbers = [0u16; 128];
+    let plan = plan_of(rule, MOST);
+    let mut firsts = [0u16; MOST];
+    let mut numbers = [0u16; MOST];
     let answer = plan.answer;
     let Counted::Equations(equations) = answer else {
         return ShortPlan {

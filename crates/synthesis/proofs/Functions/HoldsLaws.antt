@@ -4,6 +4,7 @@ use mathlib.Core.Path.{_≡_, refl}
 use mathlib.Core.Logic.{inl, inr}
 use mathlib.Core.List.{List, [], _∷_, _++_}
 use native.Mathlib.Numerals.{add-one}
+use native.Mathlib.Decide.{decLe}
 use native.Mathlib.Omega.{arith}
 use lib.ListN.{length, getD, take, set, length-append}
 use lib.Seq.{getD-take, take-suc-set, length-take-le}
@@ -12,6 +13,14 @@ use Rattle.synthesis.specs.Search.{indexOf, insert, explored, expanded}
 use Rattle.synthesis.specs.Arrays.{Holds}
 use Rattle.synthesis.proofs.Numberings.Indices.{insert-old, insert-new}
 use Rattle.synthesis.proofs.Numberings.Finding.{Grows, grows-length, expanded-some, expanded-none}
+
+-- the array with the first equation alone
+pub held-first : (limit : ℕ) (a : List ℕ) (first : ℕ) → 0 < length a → Holds limit (set a 0 first) 1 (first ∷ [])
+held-first limit a first h = on (decLe 1 limit)
+  where
+    on : Dec (1 ≤ limit) → Holds limit (set a 0 first) 1 (first ∷ [])
+    on (yes b) = inl (b, take-suc-set a 0 first h)
+    on (no b) = inr (omega arith, omega arith)
 
 -- ---- what the count says
 
@@ -29,7 +38,7 @@ module _ (limit : ℕ) (a : List ℕ) (n : ℕ) (l : List ℕ) where
   held-over-limit m (inl p) h g = absurd (omega arith)
   held-over-limit m (inr p) h g = inr (p .0, omega (arith, grows-length l m g))
 
-module _ (limit : ℕ) (a : List ℕ) (n : ℕ) (l : List ℕ) (room : length a ≡ limit) (held : Holds limit a n l) where
+module _ (limit : ℕ) (a : List ℕ) (n : ℕ) (l : List ℕ) (room : limit ≤ length a) (held : Holds limit a n l) where
   held-list : n ≤ limit → take n a ≡ l
   held-list = held-few limit a n l held
 
