@@ -24,6 +24,9 @@ pub const DROPPED: u8 = 255;
 // The most equations that a rule may have.
 pub const MOST: usize = 128;
 
+// The bytes of the rows of so many.
+const LONGEST: usize = 256 * MOST;
+
 // What is said of a rule file: how many equations its rule has, or a refusal with a number and a place.
 pub enum Counted {
     Equations(usize),
@@ -132,7 +135,7 @@ pub fn fill(rule: &[u8], table: &mut [u8]) -> Counted
 pub fn count_short(rule: &[u8]) -> Counted
     ensures { λ r. ⌜ r ≡ countedOf (shortOf most (now (rule .entry))) ⌝ }
 {
-    let mut long = [0u8; 32768];
+    let mut long = [0u8; LONGEST];
     shortening::short_plan_of(rule, &mut long).answer
 }
 
@@ -142,7 +145,7 @@ pub fn fill_short(rule: &[u8], table: &mut [u8]) -> Counted
     ensures { λ r. ⌜ r ≡ countedOf (shortFillingOf most (now (rule .entry)) (length (now (table .entry)))) ⌝ }
     ensures { λ _. ⌜ now (table .exit) ≡ tableAfter mark (shortFillingOf most (now (rule .entry)) (length (now (table .entry)))) (now (table .entry)) ⌝ }
 {
-    let mut long = [0u8; 32768];
+    let mut long = [0u8; LONGEST];
     let plan = shortening::short_plan_of(rule, &mut long);
     let answer = plan.answer;
     let Counted::Equations(m) = answer else {

@@ -5,7 +5,9 @@ use crate::filling::fill_table;
 use crate::plan_of;
 use crate::renumbering::number_classes;
 ghost use mathlib.Core.Path.{_≡_};
+ghost use Prim.Native.Nat.{_*_};
 ghost use lib.ListN.{length};
+ghost use Rattle.synthesis.specs.Monitor.{most};
 ghost use Rattle.synthesis.specs.Plans.{IsShortPlan};
 
 // The answer to a rule file for its short table; how many equations its long table has, the first of each class of them, and the number of each one's
@@ -19,7 +21,7 @@ pub(crate) struct ShortPlan {
 
 // Reads a rule file, fills its long table, and numbers the classes of equations that drop alike.
 pub(crate) fn short_plan_of(rule: &[u8], long: &mut [u8]) -> ShortPlan
-    requires { ⌜ length (now long) ≡ 32768 ⌝ }
+    requires { ⌜ length (now long) ≡ 256 * most ⌝ }
     ensures { λ r. ⌜ IsShortPlan (now (rule .entry)) r (now (long .exit)) ⌝ }
 {
     let plan = plan_of(rule, MOST);
