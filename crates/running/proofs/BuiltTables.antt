@@ -1,4 +1,4 @@
--- No call on a well-formed table is unfit, since a run on it stays inside it; and both builds leave one.
+-- No call on a well-formed table is unfit, since a run on it stays inside it; and both fillings leave one.
 use lib.ListN.{length}
 use Rattle.synthesis.proofs.Tables.WellFormedTables.{same-rows-well-formed}
 use Rattle.synthesis.proofs.Tables.Built.{built-well-formed}

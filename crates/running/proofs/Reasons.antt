@@ -19,7 +19,7 @@ use Rattle.synthesis.proofs.Tables.Equations.{file-well-formed}
 use Rattle.synthesis.proofs.Monitors.Runs.{kept-all, ended-kept}
 use Rattle.synthesis.proofs.Monitors.Renaming.{renamed-runs}
 use Rattle.synthesis.proofs.Tables.Built.{built-well-formed, fills-counted}
-use Rattle.synthesis.proofs.Quotients.ShortTables.{fills-long}
+use Rattle.synthesis.proofs.Quotients.ShortTables.{short-fills-counted}
 use Rattle.synthesis.proofs.Reasons.Fronts.{extended, first-violates}
 use Rattle.synthesis.proofs.Reasons.Alone.{violates-somewhere}
 use Rattle.synthesis.proofs.Reasons.Explained.{reasons-exactly}
@@ -111,7 +111,7 @@ reasons-of-runs limit mark s table r n left b h calls =
 
 pub short-reasons-of-runs : ShortReasonsOfRuns
 short-reasons-of-runs limit mark s table r n left b h calls =
-    sifted-reasoned (b .bytes) (b .read) (fills-counted (fills-long b)) h (short-drops-exactly limit mark s table r n left b h calls)
+    sifted-reasoned (b .bytes) (b .read) (short-fills-counted b) h (short-drops-exactly limit mark s table r n left b h calls)
 
 -- ---- another list to the same equation
 

@@ -2,6 +2,7 @@
 use crate::Checked;
 use crate::State;
 use synthesis::DROPPED;
+use synthesis::MOST;
 ghost use mathlib.Core.Path.{_≡_};
 ghost use Rattle.synthesis.specs.Monitor.{mark, most};
 ghost use Rattle.running.specs.Running.{inRange, entriesInRange, isWellFormed, fits, hasRoom, runOf, checkedOf};
@@ -37,7 +38,7 @@ fn is_well_formed(table: &[u8], count: usize) -> bool
     if count == 0 {
         return false;
     }
-    if 128 < count {
+    if MOST < count {
         return false;
     }
     let end = 256 * count;

@@ -46,7 +46,14 @@ fn fill_row(
 }
 
 // Fills the rows of all n equations.
-fn fill_rows(after: &[u64], enabled: &[u64], falsities: u64, found: &[u64], n: usize, table: &mut [u8])
+fn fill_rows(
+    after: &[u64],
+    enabled: &[u64],
+    falsities: u64,
+    found: &[u64],
+    n: usize,
+    table: &mut [u8],
+)
     requires { ⌜ (length (now after) ≡ 64) × (length (now enabled) ≡ 256) × (n ≤ most) × (n ≤ length (now found)) × (256 * n ≤ length (now table)) ⌝ }
     ensures { λ _. ⌜ now (table .exit)
         ≡ filled mark (answerBy (now (after .entry)) (now (enabled .entry)) falsities) (take n (now (found .entry))) 256 (now (table .entry)) ⌝ }

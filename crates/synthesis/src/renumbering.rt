@@ -47,7 +47,12 @@ fn number(classes: &[u16], n: usize, firsts: &mut [u16], numbers: &mut [u16]) ->
 }
 
 // The same for the classes of equations that drop alike in a long table of n rows.
-pub(crate) fn number_classes(long: &[u8], n: usize, firsts: &mut [u16], numbers: &mut [u16]) -> usize
+pub(crate) fn number_classes(
+    long: &[u8],
+    n: usize,
+    firsts: &mut [u16],
+    numbers: &mut [u16],
+) -> usize
     requires { ⌜ WellFormedTable most mark n (now long) × (n ≤ length (now firsts)) × (n ≤ length (now numbers)) ⌝ }
     ensures { λ r. ⌜ ClassesNumbered n (rounds 256 (lookup 256 mark (now (long .entry))) n n) r (now (firsts .exit)) (now (numbers .exit)) ⌝ }
 {
@@ -84,7 +89,14 @@ fn fill_short_row(long: &[u8], k: usize, numbers: &[u16], short: &mut [u8])
 }
 
 // Fills a row for the first equation of each of m classes, with the numbers of the classes of n equations.
-pub(crate) fn fill_short_rows(long: &[u8], n: usize, firsts: &[u16], m: usize, numbers: &[u16], table: &mut [u8])
+pub(crate) fn fill_short_rows(
+    long: &[u8],
+    n: usize,
+    firsts: &[u16],
+    m: usize,
+    numbers: &[u16],
+    table: &mut [u8],
+)
     requires { ⌜ WellFormedTable most mark n (now long) × (m ≤ length (now firsts)) × (n ≤ length (now numbers)) × (256 * m ≤ length (now table))
         × All (λ k. k < n) (take m (now firsts)) × All (λ i. i < most) (take n (now numbers)) ⌝ }
     ensures { λ _. ⌜ ((classes : List ℕ) → AreNumbers n classes (take m (now (firsts .entry))) (now (numbers .entry)) → now (table .exit)

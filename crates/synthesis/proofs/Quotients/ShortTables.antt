@@ -128,7 +128,11 @@ module _ {limit mark : ℕ} {s table : List ℕ} {r : Rule} {n : ℕ} {left : Li
   pub shortens : FillsShort limit mark s table r n left → Shortens limit mark s table r n left
   shortens b = rw (b .left-is) (counted-shortens limit mark s table r n (b .read) (b .counted))
 
-  -- where the short table is filled, so is the long one, if its rows fit
+  -- where the short table is filled, counting answers how many rows the long one has
+  pub short-fills-counted : FillsShort limit mark s table r n left → countedOf (synthesisOf limit s) ≡ Equations (count limit r)
+  short-fills-counted b = ap countedOf (shortens b .counted .outcome)
+
+  -- and that is filled too, if its rows fit
   pub fills-long : FillsShort limit mark s table r n left → (table′ : List ℕ) → 256 * count limit r ≤ length table′
       → Fills limit mark s table′ r (count limit r) (tableLeft limit mark s table′)
   fills-long b table′ room = record {

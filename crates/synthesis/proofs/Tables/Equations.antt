@@ -148,7 +148,6 @@ answers-count limit s n e =
       few = omega (arith, q, few);
     }) (y .0) (y .1) (y .2)
 
-
 pub reaches-equations : ReachesEquations
 reaches-equations limit s bytes r n read e =
     let y = counted-accepts (synthesisOf limit s) n e in
