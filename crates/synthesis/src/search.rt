@@ -136,11 +136,10 @@ pub(crate) fn search(
     list: &mut [u64],
     limit: usize,
 ) -> usize
-    requires { ⌜ (length (now after) ≡ 64) × (length (now enabled) ≡ 256) × (limit ≤ length (now list)) × (0 < length (now list)) ⌝ }
+    requires { ⌜ (length (now after) ≡ 64) × (length (now enabled) ≡ 256) × (limit ≤ length (now list)) ⌝ }
     ensures { λ r. ⌜ Holds limit (now (list .exit)) r (found 256 (answerBy (now (after .entry)) (now (enabled .entry)) falsities) limit first) ⌝ }
 {
-    list[0] = first;
-    let mut n: usize = 1;
+    let mut n = insert(list, limit, 0, first);
     let mut k: usize = 0;
     while k < limit {
         n = expand(after, enabled, falsities, list, limit, n, k);

@@ -1,10 +1,9 @@
 -- Laws of an array that holds the found equations: as long as they are within the limit its front is their list, and then it stays over the limit.
-use Prim.Native.Nat.{ℕ, suc, _+_, _≤_, _<_}
+use Prim.Native.Nat.{ℕ, _+_, _≤_, _<_}
 use mathlib.Core.Path.{_≡_, refl}
 use mathlib.Core.Logic.{inl, inr}
 use mathlib.Core.List.{List, [], _∷_, _++_}
 use native.Mathlib.Numerals.{add-one}
-use native.Mathlib.Decide.{decLe}
 use native.Mathlib.Omega.{arith}
 use lib.ListN.{length, getD, take, set, length-append}
 use lib.Seq.{getD-take, take-suc-set, length-take-le}
@@ -13,14 +12,6 @@ use Rattle.synthesis.specs.Search.{indexOf, insert, explored, expanded}
 use Rattle.synthesis.specs.Arrays.{Holds}
 use Rattle.synthesis.proofs.Numberings.Indices.{insert-old, insert-new}
 use Rattle.synthesis.proofs.Numberings.Finding.{Grows, grows-length, expanded-some, expanded-none}
-
--- the array with the first equation alone
-pub held-first : (limit : ℕ) (a : List ℕ) (first : ℕ) → 0 < length a → Holds limit (set a 0 first) 1 (first ∷ [])
-held-first limit a first h = on (decLe 1 limit)
-  where
-    on : Dec (1 ≤ limit) → Holds limit (set a 0 first) 1 (first ∷ [])
-    on (yes b) = inl (b, take-suc-set a 0 first h)
-    on (no b) = inr (omega arith, omega arith)
 
 -- ---- what the count says
 
@@ -53,9 +44,9 @@ module _ (limit : ℕ) (a : List ℕ) (n : ℕ) (l : List ℕ) (room : limit ≤
   insert-absent : (e : ℕ) → n ≤ limit → n ≤ indexOf e (take n a) → insert l e ≡ take n a ++ (e ∷ [])
   insert-absent e h absent = rw (← held-list h) (insert-new (take n a) e (λ m. omega (arith, length-is h)))
 
-  pub held-insert-full : (e : ℕ) → n ≡ limit → n ≤ indexOf e (take n a) → Holds limit a (suc limit) (insert l e)
+  pub held-insert-full : (e : ℕ) → n ≡ limit → n ≤ indexOf e (take n a) → Holds limit a (limit + 1) (insert l e)
   held-insert-full e h absent =
-      rw (insert-absent e (omega arith) absent) (inr (refl, omega (arith, length-is (omega arith), length-append (take n a) (e ∷ []))))
+      rw (insert-absent e (omega arith) absent) (inr (add-one limit, omega (arith, length-is (omega arith), length-append (take n a) (e ∷ []))))
 
   pub held-insert-new : (e : ℕ) → n < limit → n ≤ indexOf e (take n a) → Holds limit (set a n e) (n + 1) (insert l e)
   held-insert-new e h absent = rw (insert-absent e (omega arith) absent, add-one n) (inl (omega arith, take-suc-set a n e (omega arith)))

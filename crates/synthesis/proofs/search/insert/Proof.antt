@@ -1,5 +1,4 @@
 -- `search::insert` meets its contract.
-use native.Mathlib.Numerals.{add-one}
 use native.Mathlib.Omega.{arith}
 use borrow.Author.Needs.{needs}
 use Rattle.synthesis.proofs.Numberings.Finding.{insert-grows}
@@ -26,7 +25,7 @@ same-length-2 : tie.Need-same-length-2
 same-length-2 c = search needs
 
 returns-3 : tie.Need-returns-3
-returns-3 c l h = rw (add-one _) (held-insert-full _ _ _ l (c .before .before .before .before .before .before .pre) h _ (search needs) (omega arith))
+returns-3 c l h = held-insert-full _ _ _ l (c .before .before .before .before .before .before .pre) h _ (search needs) (omega arith)
 
 mul-list : tie.Need-mul-list
 mul-list c = search needs

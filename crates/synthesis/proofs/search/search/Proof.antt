@@ -1,13 +1,14 @@
 -- `search::search` meets its contract. The array holds the equations found after the expansions so far; the measure is how many are left.
 use Prim.Native.Nat.{_-_, _≤_}
-use mathlib.Core.Path.{_≡_}
+use mathlib.Core.Path.{_≡_, refl}
+use mathlib.Core.Logic.{inl}
+use mathlib.Core.List.{[]}
+use native.Mathlib.Nat.{le-antisymm}
 use native.Mathlib.Numerals.{add-one}
-use native.Mathlib.Omega.{arith}
-use lib.ListN.{length, length-set}
+use lib.ListN.{length}
 use borrow.Author.Needs.{needs}
 use Rattle.synthesis.specs.Search.{found}
 use Rattle.synthesis.specs.Arrays.{answerBy, Holds}
-use Rattle.synthesis.proofs.Functions.HoldsLaws.{held-first}
 use Rattle.synthesis.proofs.search.search.Statement.{statement}
 use Rattle.synthesis.proofs.search.search.Tie as tie
 
@@ -18,23 +19,16 @@ Inv-loop after enabled falsities first list₀ limit n₀ k₀ list n k =
 abbrev μ-loop : tie.MeasureT-loop
 μ-loop after enabled falsities first list₀ limit n₀ k₀ list n k = limit - k
 
-slice-write-list : tie.Need-slice-write-list Inv-loop μ-loop
-slice-write-list c = search needs
+insert-requires : tie.Need-insert-requires Inv-loop μ-loop
+insert-requires c κs = search needs
 
 loop-holds : tie.Need-loop-holds Inv-loop μ-loop
 unfolding found
 loop-holds c =
-    let start = c .before .before .before in (
-      search needs,
-      search needs,
-      held-first (start .args .limit) (start .args .list .now) (start .args .first) (omega arith),
-    )
+    (search needs, search needs, c .before .before .insert .ensures [] (inl (search needs, refl)))
 
 expand-requires : tie.Need-expand-requires Inv-loop μ-loop
-expand-requires c κs =
-    let start = c .before .before .before .before .before .before in
-    let k = length-set (start .args .list .now) 0 (start .args .first) in
-    search needs
+expand-requires c κs = search needs
 
 add-k : tie.Need-add-k Inv-loop μ-loop
 add-k c = search needs
@@ -53,15 +47,10 @@ loop-again c =
     )
 
 same-length : tie.Need-same-length Inv-loop μ-loop
-same-length c =
-    let start = c .before .before .before .before .before in
-    let k = length-set (start .args .list .now) 0 (start .args .first) in
-    search needs
+same-length c = search needs
 
 returns : tie.Need-returns Inv-loop μ-loop
-returns c =
-    let all : c .before .loop .k ≡ c .before .before .before .before .before .args .limit = omega arith in
-    rw all at (c .before .loop .inv .2)
+returns c = rw (le-antisymm (c .before .loop .inv .0) (c .loop-test .left)) at (c .before .loop .inv .2)
 
 pub search-spec : {M : Type 1} → statement M
 search-spec =
@@ -69,7 +58,7 @@ search-spec =
     (tie.spec
     Inv-loop
     μ-loop
-    slice-write-list
+    insert-requires
     loop-holds
     expand-requires
     add-k
