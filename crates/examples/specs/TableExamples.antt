@@ -1,0 +1,41 @@
+-- Where refusal 10 stands: after all that is wrong with a rule, before all that is wrong with a model, and for the long and the short table by the count of
+-- each. By files of the paper and by one whose two tables differ.
+use Prim.Native.Nat.{ℕ, _<_}
+use mathlib.Core.Path.{_≡_}
+use mathlib.Core.List.{List, [], _∷_}
+use Rattle.reading.specs.File.{Outcome}
+use Rattle.synthesis.specs.Monitor.{most}
+use Rattle.synthesis.specs.Building.{Synthesis, fillingOf, countedOf, shortFillingOf}
+use Rattle.synthesis.specs.declared.Counted.the-variants.{Equations, Refused}
+use Rattle.models.specs.declared.Judged.the-variants.{Refused as NotJudged}
+use Rattle.examples.specs.Examples.{poolFile}
+use Rattle.examples.specs.ShortExamples.{branchesFile}
+use Rattle.examples.specs.ModelExamples.{JudgesIn}
+
+-- With a table of no bytes, be it for the long or the short one, the file is refused by its own number.
+pub record RefusedBare (s : List ℕ) (number place : ℕ) : Type 0 where
+  pub long : countedOf (fillingOf most s 0) ≡ Refused number place
+  pub short : countedOf (shortFillingOf most s 0) ≡ Refused number place
+
+-- With so many bytes filling answers n, and with fewer 10 at 0.
+pub record Needs (filling : (capacity : ℕ) → Outcome Synthesis) (bytes n : ℕ) : Type 0 where
+  pub fits : countedOf (filling bytes) ≡ Equations n
+  pub too-short : (capacity : ℕ) → capacity < bytes → countedOf (filling capacity) ≡ Refused 10 0
+
+pub record TableExamples : Type 0 where
+  -- the empty file, 6 7 0 and 3
+  pub empty : RefusedBare [] 1 0
+  pub not-guarded : RefusedBare (6 ∷ 7 ∷ 0 ∷ []) 7 1
+  pub falsity-alone : RefusedBare (3 ∷ []) 8 0
+  -- 2 has one equation, and the number-pool rule three in either table
+  pub truth-alone : Needs (fillingOf most (2 ∷ [])) 256 1
+  pub pool : Needs (fillingOf most poolFile) 768 3
+  pub short-pool : Needs (shortFillingOf most poolFile) 768 3
+  -- A rule with four equations, of which two drop alike. So in 768 bytes filling is refused with 10 for the long table, and answers 3 for the short one.
+  pub branches : Needs (fillingOf most branchesFile) 1024 4
+  pub short-branches : Needs (shortFillingOf most branchesFile) 768 3
+  -- under the number-pool rule in fewer bytes, every model file is 10 at 0: the paper's model, and also an empty one, which in 768 bytes is 11 at 0
+  pub any-model : (f : List ℕ) (capacity : ℕ) → capacity < 768 → JudgesIn poolFile capacity f (NotJudged 10 0)
+  pub empty-model : JudgesIn poolFile 768 [] (NotJudged 11 0)
+  -- under 3, whatever the table and the model file: 8 at 0
+  pub refused-rule : (f : List ℕ) (capacity : ℕ) → JudgesIn (3 ∷ []) capacity f (NotJudged 8 0)
