@@ -31,7 +31,7 @@ behind s table = monitored (suppressing (lookup 256 mark (tableLeft most mark s 
 abbrev pub JudgesIn : (s : List ℕ) → (capacity : ℕ) → (model : List ℕ) → Judged → Type 0
 JudgesIn s capacity f answer = (r : Judged) → JudgedAs (judgingOf most s capacity f) r ↔ (r ≡ answer)
 
--- so it is with every table of at least the bytes that the rule needs
+-- the same with every table of at least so many bytes
 abbrev pub Judges : (s : List ℕ) → (bytes : ℕ) → (model : List ℕ) → Judged → Type 0
 Judges s bytes f answer = (capacity : ℕ) → bytes ≤ capacity → JudgesIn s capacity f answer
 

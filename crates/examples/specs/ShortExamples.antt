@@ -16,7 +16,7 @@ use Rattle.listing.specs.Lines.{listing}
 use Rattle.examples.specs.Examples.{pattern, rule, ReadAs, poolFile, poolRule, poolListing}
 use Rattle.examples.specs.ReasonExamples.{reason}
 
--- what filling leaves in a table, for the short one
+-- what the filling of the short table leaves
 abbrev pub shortTable : (s table : List ℕ) → List ℕ
 shortTable s table = tableAfter mark (shortFillingOf most s (length table)) table
 

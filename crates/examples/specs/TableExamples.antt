@@ -1,5 +1,5 @@
--- Where refusal 10 stands: after all that is wrong with a rule, before all that is wrong with a model, and for the long and the short table by the count of
--- each. By files of the paper and by one whose two tables differ.
+-- Where refusal 10 stands: after all that is wrong with a rule and before all that is wrong with a model, and for the long and the short table by
+-- the count of each. Shown by files of the paper, and by one whose two tables differ.
 use Prim.Native.Nat.{ℕ, _<_}
 use mathlib.Core.Path.{_≡_}
 use mathlib.Core.List.{List, [], _∷_}
@@ -12,7 +12,7 @@ use Rattle.examples.specs.Examples.{poolFile}
 use Rattle.examples.specs.ShortExamples.{branchesFile}
 use Rattle.examples.specs.ModelExamples.{JudgesIn}
 
--- With a table of no bytes, be it for the long or the short one, the file is refused by its own number.
+-- Where no bytes are lent, filling is refused by the file's own number, for the long table and for the short one.
 pub record RefusedBare (s : List ℕ) (number place : ℕ) : Type 0 where
   pub long : countedOf (fillingOf most s 0) ≡ Refused number place
   pub short : countedOf (shortFillingOf most s 0) ≡ Refused number place
@@ -31,11 +31,11 @@ pub record TableExamples : Type 0 where
   pub truth-alone : Needs (fillingOf most (2 ∷ [])) 256 1
   pub pool : Needs (fillingOf most poolFile) 768 3
   pub short-pool : Needs (shortFillingOf most poolFile) 768 3
-  -- A rule with four equations, of which two drop alike. So in 768 bytes filling is refused with 10 for the long table, and answers 3 for the short one.
+  -- a rule with four equations, of which two drop alike: with 768 bytes filling the long table is 10 at 0, and filling the short one answers 3
   pub branches : Needs (fillingOf most branchesFile) 1024 4
   pub short-branches : Needs (shortFillingOf most branchesFile) 768 3
-  -- under the number-pool rule in fewer bytes, every model file is 10 at 0: the paper's model, and also an empty one, which in 768 bytes is 11 at 0
+  -- judging under the number-pool rule: 10 at 0 for every model file, the paper's and an empty one too; with 768 bytes the empty one is 11 at 0
   pub any-model : (f : List ℕ) (capacity : ℕ) → capacity < 768 → JudgesIn poolFile capacity f (NotJudged 10 0)
   pub empty-model : JudgesIn poolFile 768 [] (NotJudged 11 0)
-  -- under 3, whatever the table and the model file: 8 at 0
+  -- judging under 3: 8 at 0, whatever the table and the model file
   pub refused-rule : (f : List ℕ) (capacity : ℕ) → JudgesIn (3 ∷ []) capacity f (NotJudged 8 0)
