@@ -23,7 +23,7 @@ pub record Needs (filling : (capacity : ℕ) → Outcome Synthesis) (bytes n : �
   pub too-short : (capacity : ℕ) → capacity < bytes → countedOf (filling capacity) ≡ Refused 10 0
 
 pub record TableExamples : Type 0 where
-  -- the empty file, 6 7 0 and 3
+  -- the empty file, 6 7 0, and 3: their numbers and places are those of specs/Examples.antt
   pub empty : RefusedBare [] 1 0
   pub not-guarded : RefusedBare (6 ∷ 7 ∷ 0 ∷ []) 7 1
   pub falsity-alone : RefusedBare (3 ∷ []) 8 0
@@ -34,7 +34,7 @@ pub record TableExamples : Type 0 where
   -- a rule with four equations, of which two drop alike: with 768 bytes filling the long table is 10 at 0, and filling the short one answers 3
   pub branches : Needs (fillingOf most branchesFile) 1024 4
   pub short-branches : Needs (shortFillingOf most branchesFile) 768 3
-  -- judging under the number-pool rule: 10 at 0 for every model file, the paper's and an empty one too; with 768 bytes the empty one is 11 at 0
+  -- judging under the number-pool rule: with fewer bytes 10 at 0 for every model file, the paper's and an empty one too; with 768 the latter is 11 at 0
   pub any-model : (f : List ℕ) (capacity : ℕ) → capacity < 768 → JudgesIn poolFile capacity f (NotJudged 10 0)
   pub empty-model : JudgesIn poolFile 768 [] (NotJudged 11 0)
   -- judging under 3: 8 at 0, whatever the table and the model file
