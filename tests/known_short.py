@@ -136,6 +136,9 @@ FILLINGS += [
     (counted(8), 0, "refused 9 at 0"),
     (counted(8, "3"), 40000, "refused 9 at 0"),
     (counted(8, "3"), 2303, "refused 9 at 0"),
+    # over 128 for which there would be room
+    (late(28), 33024, "refused 9 at 0"),
+    (counted(8), 65536, "refused 9 at 0"),
     # so does each other refusal of the file
     ("", 0, "refused 1 at 0"),
     ("0", 1, "refused 2 at 0"),

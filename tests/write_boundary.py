@@ -42,24 +42,25 @@ LINES = [
     "count_short 0 3",
     "count_short 7 1",
     "count_short 9 0",
-    # 767 bytes
+    # 255 bytes: less than a row
+    "fill 7 1 255",
+    "fill 9 0 255",
+    "fill_short 7 1 255",
+    "fill_short 9 0 255",
+    "judge 7 1 255",
+    "judge 9 0 255",
+    # 767: a byte less than 3 rows
     "fill 10 0 767",
-    "fill 7 1 767",
-    "fill 9 0 767",
     "fill_short 10 0 767",
     "fill_short 10 0 767",
-    "fill_short 7 1 767",
-    "fill_short 9 0 767",
     "judge 10 0 767",
     "judge 10 0 767",
-    "judge 7 1 767",
-    "judge 9 0 767",
-    # 769, one more than 3 rows take
-    "judge 7 1 769",
+    # 769: a byte more
     "judge 11 4 769",
     "judge 0 0 1",
     "judge 0 1 1",
-    # 1,023, enough for 3 rows, and 1,024
+    "fill 0 3 1",
+    # 1,023: enough for 3 rows, and a byte less than 4; and 1,024
     "fill 10 0 1023",
     "judge 10 0 1023",
     "fill_short 0 3 255",
@@ -74,7 +75,8 @@ LINES = [
     "explain 0 4",
     "explain 0 64",
     "explain 17 0",
-    # 768, first of the number-pool rule and then of the other one's short rows
+    # 768: first the number-pool rule, and then the short rows of the other
+    "judge 0 1 0",
     "fill 0 3 0",
     "run 0 1 5 1 37 128 5 37 5 7 7 7 0 1 0 0 0 0 7 7",
     "run 16 3 0 0 7 7 7 7 7 7 7 7 0 1 0 0 0 0 7 7",
@@ -129,23 +131,23 @@ def untouched(size):
 
 
 def table_lines():
-    """Fillings and judgments with tables that are a byte too small, and others."""
-    small, larger, almost = untouched(767), untouched(769), untouched(1023)
-    lines = [filled_line(fill, rule, small) for rule in (POOL, UNGUARDED, MANY)]
-    lines += [filled_line(fill_short, rule, small) for rule in (POOL, ALIKE, UNGUARDED, MANY)]
-    cases = [(POOL, MEETING, small), (POOL, CUT, small), (UNGUARDED, CUT, small), (MANY, CUT, small)]
-    cases += [(UNGUARDED, CUT, larger), (POOL, CUT, larger), (POOL, PAPER, larger), (POOL, MEETING, larger)]
-    lines += [judged_line(*case) for case in cases]
+    """Fillings and judgments with tables of several sizes."""
+    least, less, more, almost, whole = [untouched(size) for size in (255, 767, 769, 1023, 1024)]
+    lines = [filled_line(by, rule, least) for by in (fill, fill_short) for rule in (UNGUARDED, MANY)]
+    lines += [judged_line(rule, CUT, least) for rule in (UNGUARDED, MANY)]
+    lines += [filled_line(by, rule, less) for by, rule in ((fill, POOL), (fill_short, POOL), (fill_short, ALIKE))]
+    lines += [judged_line(POOL, model, less) for model in (MEETING, CUT)]
+    lines += [judged_line(POOL, model, more) for model in (CUT, PAPER, MEETING)] + [filled_line(fill, POOL, more)]
     lines += [filled_line(fill, ALIKE, almost), judged_line(ALIKE, MEETING, almost), filled_line(fill_short, ALIKE, almost)]
-    whole = untouched(1024)
     return lines + [filled_line(by, ALIKE, whole) for by in (fill_short, fill)]
 
 
 def run_lines():
     """Runs over tables that just fit."""
     table, verdicts = untouched(768), bytearray([7] * 8)
-    lines = [filled_line(fill, POOL, table), ran_line(table, 0, verdicts), ran_line(table, 3, verdicts)]
-    lines += [ran_line(table, 2, bytearray([7] * 5)), filled_line(fill_short, ALIKE, table)]
+    lines = [judged_line(POOL, MEETING, table), filled_line(fill, POOL, table)]
+    lines += [ran_line(table, 0, verdicts), ran_line(table, 3, verdicts), ran_line(table, 2, bytearray([7] * 5))]
+    lines.append(filled_line(fill_short, ALIKE, table))
     verdicts = bytearray([7] * 8)
     return lines + [ran_line(table, state, verdicts) for state in (0, 2)]
 
