@@ -7,6 +7,7 @@ use lib.ListN.{length}
 use Rattle.reading.specs.Rule.{Bytes}
 use Rattle.reading.specs.File.{Outcome, accepted, refused}
 use Rattle.reading.proofs.Accepting.Accepted.{accepts-encodings}
+use Rattle.synthesis.specs.Monitor.{most}
 use Rattle.synthesis.specs.Building.{Synthesis, synthesisOf, countedOf}
 use Rattle.synthesis.specs.Reason.{explanationOf, reasonOf}
 use Rattle.synthesis.specs.declared.Reason.the-variants.{Node, Refused}
@@ -14,17 +15,17 @@ use Rattle.synthesis.proofs.Tables.Equations.{answers-count}
 use Rattle.synthesis.proofs.Reasons.Explained.{reasons-exactly}
 use Rattle.boundary.specs.Results.{keptValue}
 
-pub kept-is-no-node : (s w : List ℕ) (c m : ℕ) → Bytes s → reasonOf (explanationOf 128 s w c) ≡ Node m → m < keptValue
-kept-is-no-node s w c m bytes e = on (synthesisOf 128 s) refl
+pub kept-is-no-node : (s w : List ℕ) (c m : ℕ) → Bytes s → reasonOf (explanationOf most s w c) ≡ Node m → m < keptValue
+kept-is-no-node s w c m bytes e = on (synthesisOf most s) refl
   where
-    on : (o : Outcome Synthesis) → synthesisOf 128 s ≡ o → m < keptValue
+    on : (o : Outcome Synthesis) → synthesisOf most s ≡ o → m < keptValue
     on (accepted y) q =
         let n = length (y .equations) in
         let counted = ap countedOf q in
-        let counts = answers-count 128 s n counted in
+        let counts = answers-count most s n counted in
         let within = accepts-encodings s bytes (counts .rule) .0 (counts .is) .0 in
-        omega (arith, reasons-exactly 128 s bytes w c .explained (counts .rule) n (counts .is) counted .inside m e, within .few-nodes)
+        omega (arith, reasons-exactly most s bytes w c .explained (counts .rule) n (counts .is) counted .inside m e, within .few-nodes)
     on (refused number place) q =
-        let same : Refused number place ≡ Node m = sym (reasons-exactly 128 s bytes w c .refused number place (ap countedOf q)) ∙ e in
+        let same : Refused number place ≡ Node m = sym (reasons-exactly most s bytes w c .refused number place (ap countedOf q)) ∙ e in
         let z : _≡_ {A = ℕ} 0 1 = cc in
         absurd (omega arith)

@@ -8,7 +8,8 @@ use synthesis::Counted;
 use synthesis::Reason;
 ghost use mathlib.Core.Path.{_≡_};
 ghost use lib.ListN.{length};
-ghost use Rattle.synthesis.specs.Building.{buildingOf, shortBuildingOf, countedOf, tableAfter};
+ghost use Rattle.synthesis.specs.Monitor.{mark, most};
+ghost use Rattle.synthesis.specs.Building.{fillingOf, shortFillingOf, countedOf, tableAfter};
 ghost use Rattle.synthesis.specs.Reason.{explanationOf, reasonOf};
 ghost use Rattle.running.specs.Running.{runOf, outputAfter, verdictsAfter};
 ghost use Rattle.models.specs.Judging.{judgingOf, JudgedAs, tableJudged};
@@ -36,30 +37,30 @@ fn hand_back(answer: Counted, value: &mut usize) -> u8
 
 // Fills a table as building does, and hands back its answer.
 #[no_mangle]
-pub extern "C" fn jarveun_build(rule: &[u8], table: &mut [u8], value: &mut usize) -> u8
-    ensures { λ r. ⌜ r ≡ countedResult (countedOf (buildingOf 128 (now (rule .entry)) (length (now (table .entry))))) .number ⌝ }
-    ensures { λ _. ⌜ now (value .exit) ≡ countedResult (countedOf (buildingOf 128 (now (rule .entry)) (length (now (table .entry))))) .value ⌝ }
-    ensures { λ _. ⌜ now (table .exit) ≡ tableAfter 255 (buildingOf 128 (now (rule .entry)) (length (now (table .entry)))) (now (table .entry)) ⌝ }
+pub extern "C" fn jarveun_fill(rule: &[u8], table: &mut [u8], value: &mut usize) -> u8
+    ensures { λ r. ⌜ r ≡ countedResult (countedOf (fillingOf most (now (rule .entry)) (length (now (table .entry))))) .number ⌝ }
+    ensures { λ _. ⌜ now (value .exit) ≡ countedResult (countedOf (fillingOf most (now (rule .entry)) (length (now (table .entry))))) .value ⌝ }
+    ensures { λ _. ⌜ now (table .exit) ≡ tableAfter mark (fillingOf most (now (rule .entry)) (length (now (table .entry)))) (now (table .entry)) ⌝ }
 {
-    hand_back(synthesis::build(rule, table), value)
+    hand_back(synthesis::fill(rule, table), value)
 }
 
 // The same by the short build.
 #[no_mangle]
-pub extern "C" fn jarveun_build_short(rule: &[u8], table: &mut [u8], value: &mut usize) -> u8
-    ensures { λ r. ⌜ r ≡ countedResult (countedOf (shortBuildingOf 128 (now (rule .entry)) (length (now (table .entry))))) .number ⌝ }
-    ensures { λ _. ⌜ now (value .exit) ≡ countedResult (countedOf (shortBuildingOf 128 (now (rule .entry)) (length (now (table .entry))))) .value ⌝ }
-    ensures { λ _. ⌜ now (table .exit) ≡ tableAfter 255 (shortBuildingOf 128 (now (rule .entry)) (length (now (table .entry)))) (now (table .entry)) ⌝ }
+pub extern "C" fn jarveun_fill_short(rule: &[u8], table: &mut [u8], value: &mut usize) -> u8
+    ensures { λ r. ⌜ r ≡ countedResult (countedOf (shortFillingOf most (now (rule .entry)) (length (now (table .entry))))) .number ⌝ }
+    ensures { λ _. ⌜ now (value .exit) ≡ countedResult (countedOf (shortFillingOf most (now (rule .entry)) (length (now (table .entry))))) .value ⌝ }
+    ensures { λ _. ⌜ now (table .exit) ≡ tableAfter mark (shortFillingOf most (now (rule .entry)) (length (now (table .entry)))) (now (table .entry)) ⌝ }
 {
-    hand_back(synthesis::build_short(rule, table), value)
+    hand_back(synthesis::fill_short(rule, table), value)
 }
 
 // Explains why a scan is dropped after the scans kept so far. Answers 0, with the number of an ff node in `value`, or `KEPT_VALUE` where the scan is
 // kept; or the number of a refusal, with its place.
 #[no_mangle]
 pub extern "C" fn jarveun_explain(rule: &[u8], kept: &[u8], scan: u8, value: &mut usize) -> u8
-    ensures { λ r. ⌜ r ≡ reasonResult (reasonOf (explanationOf 128 (now (rule .entry)) (now (kept .entry)) scan)) .number ⌝ }
-    ensures { λ _. ⌜ now (value .exit) ≡ reasonResult (reasonOf (explanationOf 128 (now (rule .entry)) (now (kept .entry)) scan)) .value ⌝ }
+    ensures { λ r. ⌜ r ≡ reasonResult (reasonOf (explanationOf most (now (rule .entry)) (now (kept .entry)) scan)) .number ⌝ }
+    ensures { λ _. ⌜ now (value .exit) ≡ reasonResult (reasonOf (explanationOf most (now (rule .entry)) (now (kept .entry)) scan)) .value ⌝ }
 {
     match synthesis::explain(rule, kept, scan) {
         Reason::Kept => {
@@ -86,11 +87,11 @@ pub extern "C" fn jarveun_judge(
     table: &mut [u8],
     value: &mut usize,
 ) -> u8
-    ensures { λ r. ⌜ ((answer : Judged) × JudgedAs (judgingOf 128 (now (rule .entry)) (length (now (table .entry))) (now (model .entry))) answer
+    ensures { λ r. ⌜ ((answer : Judged) × JudgedAs (judgingOf most (now (rule .entry)) (length (now (table .entry))) (now (model .entry))) answer
         × (r ≡ judgedResult answer .number) × (now (value .exit) ≡ judgedResult answer .value)) ⌝ }
     ensures { λ _. ⌜ now (table .exit)
-        ≡ tableJudged (judgingOf 128 (now (rule .entry)) (length (now (table .entry))) (now (model .entry)))
-        (tableAfter 255 (buildingOf 128 (now (rule .entry)) (length (now (table .entry)))) (now (table .entry)))
+        ≡ tableJudged (judgingOf most (now (rule .entry)) (length (now (table .entry))) (now (model .entry)))
+        (tableAfter mark (fillingOf most (now (rule .entry)) (length (now (table .entry)))) (now (table .entry)))
         (now (table .entry)) ⌝ }
 {
     match models::judge(rule, model, table) {
@@ -133,12 +134,12 @@ pub extern "C" fn jarveun_run(
     dropped: &mut usize,
 ) -> u8
     ensures { λ r. ⌜ IsRun (stateOf (now (equation .entry)))
-        (runOf 128 255 (now (table .entry)) count (stateOf (now (equation .entry)))
+        (runOf most mark (now (table .entry)) count (stateOf (now (equation .entry)))
         (now (scans .entry)) (length (now (output .entry))) (length (now (verdicts .entry))))
         r (now (equation .exit)) (now (kept .exit)) (now (dropped .exit)) ⌝ }
-    ensures { λ _. ⌜ now (output .exit) ≡ outputAfter (runOf 128 255 (now (table .entry)) count (stateOf (now (equation .entry)))
+    ensures { λ _. ⌜ now (output .exit) ≡ outputAfter (runOf most mark (now (table .entry)) count (stateOf (now (equation .entry)))
         (now (scans .entry)) (length (now (output .entry))) (length (now (verdicts .entry)))) (now (output .entry)) ⌝ }
-    ensures { λ _. ⌜ now (verdicts .exit) ≡ verdictsAfter (runOf 128 255 (now (table .entry)) count (stateOf (now (equation .entry)))
+    ensures { λ _. ⌜ now (verdicts .exit) ≡ verdictsAfter (runOf most mark (now (table .entry)) count (stateOf (now (equation .entry)))
         (now (scans .entry)) (length (now (output .entry))) (length (now (verdicts .entry)))) (now (verdicts .entry)) ⌝ }
 {
     let state = State {

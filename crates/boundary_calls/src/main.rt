@@ -75,18 +75,18 @@ fn print_result(name: &[u8], number: u8, value: usize) {
     io::write_all(STDOUT_FILENO, b"\n");
 }
 
-// Builds, and hands back the value.
+// Fills, and hands back the value.
 fn build(rule: &[u8], table: &mut [u8]) -> usize {
     let mut value = 99;
-    let number = boundary::jarveun_build(rule, table, &mut value);
+    let number = boundary::jarveun_fill(rule, table, &mut value);
     print_result(b"build", number, value);
     value
 }
 
-fn build_short(rule: &[u8], table: &mut [u8]) -> usize {
+fn fill_short(rule: &[u8], table: &mut [u8]) -> usize {
     let mut value = 99;
-    let number = boundary::jarveun_build_short(rule, table, &mut value);
-    print_result(b"build_short", number, value);
+    let number = boundary::jarveun_fill_short(rule, table, &mut value);
+    print_result(b"fill_short", number, value);
     value
 }
 
@@ -141,15 +141,15 @@ fn explain_all() {
     explain(&EITHER, &CANCELLED, 5);
 }
 
-// Builds both ways, and runs over the short table.
+// Fills both ways, and runs over the short table.
 fn shorten_all() {
     let mut small = [0u8; 32767];
-    build_short(&ALIKE, &mut small);
+    fill_short(&ALIKE, &mut small);
     let mut table = [0u8; 32768];
-    build_short(&UNGUARDED, &mut table);
-    build_short(&POOL, &mut table);
+    fill_short(&UNGUARDED, &mut table);
+    fill_short(&POOL, &mut table);
     build(&ALIKE, &mut table);
-    let count = build_short(&ALIKE, &mut table);
+    let count = fill_short(&ALIKE, &mut table);
     let mut verdicts = [7u8; 8];
     run(&table, count, 0, &mut verdicts);
     run(&table, count, 2, &mut verdicts);

@@ -8,6 +8,7 @@ use native.Mathlib.Omega.{arith}
 use lib.ListN.{length}
 use Rattle.reading.specs.Rule.{Bytes}
 use Rattle.reading.specs.File.{Outcome}
+use Rattle.synthesis.specs.Monitor.{mark, most}
 use Rattle.synthesis.specs.Table.{WellFormedTable}
 use Rattle.synthesis.specs.Building.{Synthesis, countedOf, tableAfter}
 use Rattle.synthesis.specs.declared.Counted.the-variants.{Equations}
@@ -23,43 +24,43 @@ use Rattle.commands.specs.Promises.{SiftsByRule, NoCallsRefused}
 -- ---- calls on one table
 
 -- fit calls on a table are calls on it
-fit-calls-on-table : (table : List ℕ) (count : ℕ) (h : History) → Calls 128 255 (FitOn table count) h
-    → Calls 128 255 (OnTableOrRefused 128 255 table count) h
-fit-calls-on-table table count = calls-weaken 128 255 (λ h c may. inl (may .on))
+fit-calls-on-table : (table : List ℕ) (count : ℕ) (h : History) → Calls most mark (FitOn table count) h
+    → Calls most mark (OnTableOrRefused most mark table count) h
+fit-calls-on-table table count = calls-weaken most mark (λ h c may. inl (may .on))
 
 -- one more call, with room for its scans
 pub call-goes-on : (table : List ℕ) (count : ℕ) (s : State) (scans output verdicts : List ℕ) {s′ : State}
     → length scans ≤ length output → length scans ≤ length verdicts → Bytes scans
-    → s′ ≡ resultOf s (runOf 128 255 table count s scans (length output) (length verdicts)) .state → GoesOn table count s s′
+    → s′ ≡ resultOf s (runOf most mark table count s scans (length output) (length verdicts)) .state → GoesOn table count s s′
 call-goes-on table count s scans output verdicts ro rv bytes e =
     inr (record { table = table; count = count; scans = scans; output = output; verdicts = verdicts }, bytes, ro, rv, e)
 
 -- Fit calls, and maybe one more on the same well-formed table: it isn't refused.
-pub ends-calls-next : (table : List ℕ) (count : ℕ) {s s′ : State} → WellFormedTable 128 255 count table → EndsCallsOn table count s
+pub ends-calls-next : (table : List ℕ) (count : ℕ) {s s′ : State} → WellFormedTable most mark count table → EndsCallsOn table count s
     → GoesOn table count s s′ → EndsCallsOn table count s′
 ends-calls-next table count wf (h, calls, same) (inl e) = (h, calls, e ∙ same)
 ends-calls-next table count wf (h, calls, same) (inr (x, bytes, ro, rv, e)) =
     let c : Call = record { table = table; count = count; scans = x .scans; output = x .output; verdicts = x .verdicts } in
-    let inside = one-run 128 255 count table wf h (fit-calls-on-table table count h calls) .inside in
-    let fits = runs-on-tables 128 255 table count (h .state) (x .scans) (length (x .output)) (length (x .verdicts)) .follows ro rv wf inside in (
-      withCall 128 255 h c,
+    let inside = one-run most mark count table wf h (fit-calls-on-table table count h calls) .inside in
+    let fits = runs-on-tables most mark table count (h .state) (x .scans) (length (x .output)) (length (x .verdicts)) .follows ro rv wf inside in (
+      withCall most mark h c,
       call h c calls bytes (record { on = record { same-rows = refl; same-count = refl }; fit = rw fits }),
-      e ∙ ap (λ (s : State). resultOf s (runOf 128 255 table count s (x .scans) (length (x .output)) (length (x .verdicts))) .state) same,
+      e ∙ ap (λ (s : State). resultOf s (runOf most mark table count s (x .scans) (length (x .output)) (length (x .verdicts))) .state) same,
     )
 
 -- ---- calls under a rule
 
 -- calls on the table that building leaves, with its count, are those that `sift` makes under the rule
-pub ends-calls-under-rule : (outcome : Outcome Synthesis) (table : List ℕ) (n : ℕ) {t : List ℕ} {s : State} → t ≡ tableAfter 255 outcome table
+pub ends-calls-under-rule : (outcome : Outcome Synthesis) (table : List ℕ) (n : ℕ) {t : List ℕ} {s : State} → t ≡ tableAfter mark outcome table
     → countedOf outcome ≡ Equations n → EndsCallsOn t n s → EndsCalls (UnderRule outcome table) s
 ends-calls-under-rule outcome table n same e (h, calls, ends) =
-    (h, calls-weaken 128 255 (λ h c may. record { count = n; answered = e; fit-on = rw (← same) may }) h calls, ends)
+    (h, calls-weaken most mark (λ h c may. record { count = n; answered = e; fit-on = rw (← same) may }) h calls, ends)
 
 pub sifts-by-rule : SiftsByRule
 sifts-by-rule s table r n left b h calls =
     let counted = b .counted in
-    drops-exactly 128 255 s table r n left b h
-    (calls-weaken 128 255
+    drops-exactly most mark s table r n left b h
+    (calls-weaken most mark
     (λ h c under.
     let k : under .count ≡ n = cc (under .answered) in
     inl (record { same-rows = rw (b .left-is, ← k) (under .fit-on .on .same-rows); same-count = under .fit-on .on .same-count ∙ k })) h calls)

@@ -8,7 +8,8 @@ use Rattle.reading.specs.Pattern.{extentOf}
 use Rattle.reading.specs.File.{Outcome, accepted, refused, ruleOf}
 use Rattle.reading.specs.Numbered.{readingOf}
 use Rattle.reading.specs.declared.NumberedRule.{NumberedRule}
-use Rattle.synthesis.specs.Building.{Synthesis, buildingOf, countedOf, tableLeft}
+use Rattle.synthesis.specs.Monitor.{mark, most}
+use Rattle.synthesis.specs.Building.{Synthesis, fillingOf, countedOf, tableLeft}
 use Rattle.synthesis.specs.declared.Counted.{Counted}
 use Rattle.synthesis.specs.declared.Counted.the-variants.{Equations, Refused}
 use Rattle.models.specs.declared.Judged.{Judged}
@@ -54,5 +55,5 @@ printed (Refused number place) rule table lines = refusalLine number place
 
 -- what `equations` hands back for a rule file and the table in which its rows are built
 pub record Shows (s table : List ℕ) (r : EquationsResult) : Type 0 where
-  pub answer : r .answer ≡ countedOf (buildingOf 128 s (length table))
-  pub stops : Stops (r .answer) (readingOf (ruleOf s) .rule) (tableLeft 128 255 s table) (r .lines) (r .written)
+  pub answer : r .answer ≡ countedOf (fillingOf most s (length table))
+  pub stops : Stops (r .answer) (readingOf (ruleOf s) .rule) (tableLeft most mark s table) (r .lines) (r .written)

@@ -7,7 +7,8 @@ use lib.ListN.{length, take}
 use Rattle.reading.specs.Rule.{Rule, Bytes}
 use Rattle.reading.specs.File.{ruleOf}
 use Rattle.reading.specs.Numbered.{readingOf}
-use Rattle.synthesis.specs.Building.{buildingOf, countedOf, tableLeft, Builds}
+use Rattle.synthesis.specs.Monitor.{mark, most}
+use Rattle.synthesis.specs.Building.{fillingOf, countedOf, tableLeft, Fills}
 use Rattle.synthesis.specs.declared.Counted.the-variants.{Refused}
 use Rattle.running.specs.Calls.{History, noCalls, Calls}
 use Rattle.running.specs.Promises.{Sifted}
@@ -20,29 +21,29 @@ use Rattle.commands.specs.Sifting.{UnderRule}
 abbrev pub PrintsAnswer : Type 0
 PrintsAnswer =
     (s table : List ℕ) (r : EquationsResult) → Bytes s → Shows s table r → r .written ≡ true →
-    let outcome = buildingOf 128 s (length table) in
-    let after = tableLeft 128 255 s table in
+    let outcome = fillingOf most s (length table) in
+    let after = tableLeft most mark s table in
     printed (r .answer) (readingOf (ruleOf s) .rule) after (r .lines) ≡ textFor outcome after
 
 -- 2. The 4,096 bytes that each program reads of a rule file settle the answer to the whole of it.
 abbrev pub SettledByBuffer : Type 0
-SettledByBuffer = (s : List ℕ) (capacity : ℕ) → buildingOf 128 (take 4096 s) capacity ≡ buildingOf 128 s capacity
+SettledByBuffer = (s : List ℕ) (capacity : ℕ) → fillingOf most (take 4096 s) capacity ≡ fillingOf most s capacity
 
 -- So do those that `meets` reads of a rule file and of a model file.
 abbrev pub JudgmentSettledByBuffer : Type 0
-JudgmentSettledByBuffer = (s f : List ℕ) (capacity : ℕ) → judgingOf 128 (take 4096 s) capacity (take 4096 f) ≡ judgingOf 128 s capacity f
+JudgmentSettledByBuffer = (s f : List ℕ) (capacity : ℕ) → judgingOf most (take 4096 s) capacity (take 4096 f) ≡ judgingOf most s capacity f
 
 -- 3. Under an accepted rule, calls as the contract of `sift` has them sift by the rule, however the scans come in blocks.
 abbrev pub SiftsByRule : Type 0
 SiftsByRule =
-    (s table : List ℕ) (r : Rule) (n : ℕ) (left : List ℕ) → Builds 128 255 s table r n left
-    → (h : History) → Calls 128 255 (UnderRule (buildingOf 128 s (length table)) table) h → Sifted r h
+    (s table : List ℕ) (r : Rule) (n : ℕ) (left : List ℕ) → Fills most mark s table r n left
+    → (h : History) → Calls most mark (UnderRule (fillingOf most s (length table)) table) h → Sifted r h
 
 -- Under a refused one there are no calls.
 abbrev pub NoCallsRefused : Type 0
 NoCallsRefused =
-    (s table : List ℕ) (number place : ℕ) → countedOf (buildingOf 128 s (length table)) ≡ Refused number place
-    → (h : History) → Calls 128 255 (UnderRule (buildingOf 128 s (length table)) table) h → h ≡ noCalls
+    (s table : List ℕ) (number place : ℕ) → countedOf (fillingOf most s (length table)) ≡ Refused number place
+    → (h : History) → Calls most mark (UnderRule (fillingOf most s (length table)) table) h → h ≡ noCalls
 
 -- ---- all of these
 

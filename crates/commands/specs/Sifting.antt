@@ -7,7 +7,8 @@ use mathlib.Core.List.{List}
 use lib.ListN.{length}
 use Rattle.reading.specs.Rule.{Bytes}
 use Rattle.reading.specs.File.{Outcome}
-use Rattle.synthesis.specs.Building.{Synthesis, buildingOf, countedOf, tableAfter}
+use Rattle.synthesis.specs.Monitor.{mark, most}
+use Rattle.synthesis.specs.Building.{Synthesis, fillingOf, countedOf, tableAfter}
 use Rattle.synthesis.specs.declared.Counted.the-variants.{Equations}
 use Rattle.running.specs.Running.{runOf, checkedOf, resultOf}
 use Rattle.running.specs.Calls.{Call, History, outcomeOf, Calls, OnTable}
@@ -17,12 +18,12 @@ use Rattle.commands.specs.declared.SiftResult.{SiftResult}
 
 -- a state in which some such calls end
 abbrev pub EndsCalls : (May : History → Call → Type 0) → State → Type 0
-EndsCalls May s = (h : History) × Calls 128 255 May h × (s ≡ h .state)
+EndsCalls May s = (h : History) × Calls most mark May h × (s ≡ h .state)
 
 -- calls on one table, with its count of equations, that aren't refused
 pub record FitOn (table : List ℕ) (count : ℕ) (h : History) (c : Call) : Type 0 where
   pub on : OnTable table count c
-  pub fit : checkedOf (outcomeOf 128 255 (h .state) c) ≡ Fit
+  pub fit : checkedOf (outcomeOf most mark (h .state) c) ≡ Fit
 
 abbrev pub EndsCallsOn : (table : List ℕ) → (count : ℕ) → State → Type 0
 EndsCallsOn table count = EndsCalls (FitOn table count)
@@ -32,15 +33,15 @@ abbrev pub GoesOn : (table : List ℕ) → (count : ℕ) → (s s′ : State) �
 GoesOn table count s s′ =
     (s′ ≡ s)
     ⊎ ((c : Call) × Bytes (c .scans) × (length (c .scans) ≤ length (c .output)) × (length (c .scans) ≤ length (c .verdicts))
-    × (s′ ≡ resultOf s (runOf 128 255 table count s (c .scans) (length (c .output)) (length (c .verdicts))) .state))
+    × (s′ ≡ resultOf s (runOf most mark table count s (c .scans) (length (c .output)) (length (c .verdicts))) .state))
 
 -- such calls on the table that building leaves, with the count that it answers; where building refuses, there are none
 pub record UnderRule (outcome : Outcome Synthesis) (table : List ℕ) (h : History) (c : Call) : Type 0 where
   pub count : ℕ
   pub answered : countedOf outcome ≡ Equations count
-  pub fit-on : FitOn (tableAfter 255 outcome table) count h c
+  pub fit-on : FitOn (tableAfter mark outcome table) count h c
 
 -- what `sift` hands back for a rule file and the table in which its rows are built
 pub record Sifts (s table : List ℕ) (r : SiftResult) : Type 0 where
-  pub answer : r .answer ≡ countedOf (buildingOf 128 s (length table))
-  pub state : EndsCalls (UnderRule (buildingOf 128 s (length table)) table) (r .state)
+  pub answer : r .answer ≡ countedOf (fillingOf most s (length table))
+  pub state : EndsCalls (UnderRule (fillingOf most s (length table)) table) (r .state)

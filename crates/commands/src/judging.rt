@@ -8,6 +8,7 @@ ghost use mathlib.Core.List.{List};
 ghost use Prim.Native.Nat.{ℕ};
 ghost use lib.ListN.{length};
 ghost use Rattle.reading.specs.Rule.{Bytes};
+ghost use Rattle.synthesis.specs.Monitor.{most};
 ghost use Rattle.listing.specs.Positions.{lineOf, Within};
 ghost use Rattle.models.specs.Judging.{judgingOf, JudgedAs};
 ghost use Rattle.commands.specs.Printing.{judgedText};
@@ -27,7 +28,7 @@ fn answer_line(answer: Judged) -> Line
 // Judges a model file under a rule file, and prints the answer. (A slice of u8 consists of bytes.)
 fn print_judged(rule: &[u8], model: &[u8], table: &mut [u8]) -> Judged
     ensures { λ _. ⌜ Bytes (now (rule .entry)) × Bytes (now (model .entry)) ⌝ }
-    ensures { λ r. ⌜ JudgedAs (judgingOf 128 (now (rule .entry)) (length (now (table .entry))) (now (model .entry))) r ⌝ }
+    ensures { λ r. ⌜ JudgedAs (judgingOf most (now (rule .entry)) (length (now (table .entry))) (now (model .entry))) r ⌝ }
 {
     let answer = models::judge(rule, model, table);
     print_line(b"meets: standard output", answer_line(answer));
@@ -37,7 +38,7 @@ fn print_judged(rule: &[u8], model: &[u8], table: &mut [u8]) -> Judged
 // Reads a rule from the file rule.bin and a model from the file model.bin, prints whether the model meets the rule or why one is refused, and
 // hands back the answer. No more than 4,096 bytes are read of each.
 pub fn meets() -> Judged
-    ensures { λ r. ⌜ ((s : List ℕ) × (f : List ℕ) × Bytes s × Bytes f × JudgedAs (judgingOf 128 s 32768 f) r) ⌝ }
+    ensures { λ r. ⌜ ((s : List ℕ) × (f : List ℕ) × Bytes s × Bytes f × JudgedAs (judgingOf most s 32768 f) r) ⌝ }
 {
     let mut rule = io::buffer();
     let n = read_file(b"meets: rule.bin", b"rule.bin", &mut rule);

@@ -97,12 +97,12 @@ fn print_answer(answer: Counted, file: &[u8], table: &[u8]) -> Printed
     }
 }
 
-// Builds the table of a rule file, and prints the answer. (A slice of u8 consists of bytes.)
+// Fills the table of a rule file, and prints the answer. (A slice of u8 consists of bytes.)
 fn print_equations(file: &[u8], table: &mut [u8]) -> EquationsResult
     ensures { λ _. ⌜ Bytes (now (file .entry)) ⌝ }
     ensures { λ r. ⌜ Shows (now (file .entry)) (now (table .entry)) r ⌝ }
 {
-    let answer = synthesis::build(file, table);
+    let answer = synthesis::fill(file, table);
     let printed = print_answer(answer, file, table);
     EquationsResult {
         answer,

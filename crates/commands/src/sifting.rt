@@ -12,6 +12,7 @@ ghost use mathlib.Core.List.{List};
 ghost use Prim.Native.Nat.{ℕ, _≤_};
 ghost use lib.ListN.{length};
 ghost use Rattle.reading.specs.Rule.{Bytes};
+ghost use Rattle.synthesis.specs.Monitor.{mark, most};
 ghost use Rattle.synthesis.specs.Table.{WellFormedTable};
 ghost use Rattle.running.specs.Running.{runOf, resultOf};
 ghost use Rattle.commands.specs.Sifting.{EndsCallsOn, GoesOn, Sifts};
@@ -32,7 +33,7 @@ fn sift_block(
     verdicts: &mut [u8],
 ) -> BlockResult
     ensures { λ _. ⌜ Bytes (now (scans .entry)) ⌝ }
-    ensures { λ r. ⌜ r .state ≡ resultOf state (runOf 128 255 (now (table .entry)) count state (now (scans .entry))
+    ensures { λ r. ⌜ r .state ≡ resultOf state (runOf most mark (now (table .entry)) count state (now (scans .entry))
         (length (now (output .entry))) (length (now (verdicts .entry)))) .state ⌝ }
 {
     let ran = running::run(table, count, state, scans, output, verdicts);
@@ -67,7 +68,7 @@ fn sift_some(
 
 // Sifts all of standard input. The loop counts down from a number of turns that no input uses up, so that it ends.
 fn sift_all(table: &[u8], count: usize) -> State
-    requires { ⌜ WellFormedTable 128 255 count (now table) ⌝ }
+    requires { ⌜ WellFormedTable most mark count (now table) ⌝ }
     ensures { λ r. ⌜ EndsCallsOn (now (table .entry)) count r ⌝ }
 {
     let mut scans = io::large_buffer();
@@ -86,12 +87,12 @@ fn sift_all(table: &[u8], count: usize) -> State
     state
 }
 
-// Builds the table of a rule file, and sifts standard input under it.
+// Fills the table of a rule file, and sifts standard input under it.
 fn sift_under(file: &[u8], table: &mut [u8]) -> SiftResult
     ensures { λ _. ⌜ Bytes (now (file .entry)) ⌝ }
     ensures { λ r. ⌜ Sifts (now (file .entry)) (now (table .entry)) r ⌝ }
 {
-    let answer = synthesis::build(file, table);
+    let answer = synthesis::fill(file, table);
     match answer {
         Counted::Equations(count) => {
             let state = sift_all(table, count);

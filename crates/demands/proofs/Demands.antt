@@ -7,10 +7,11 @@ use native.Mathlib.Omega.{arith}
 use lib.ListN.{length}
 use Rattle.reading.proofs.Accepting.Accepted.{answers-accepted as rules-accepted}
 use Rattle.reading.proofs.Refusing.FaultsRefused as rules
-use Rattle.synthesis.specs.Building.{buildingOf, shortBuildingOf}
+use Rattle.synthesis.specs.Monitor.{mark, most}
+use Rattle.synthesis.specs.Building.{fillingOf, shortFillingOf}
 use Rattle.synthesis.proofs.Tables.Equations.{file-well-formed}
 use Rattle.synthesis.proofs.Tables.Built as building
-use Rattle.synthesis.proofs.Quotients.ShortBuilds.{short-refuses-alike, short-refused-unchanged, short-counted-rest, short-counted-long}
+use Rattle.synthesis.proofs.Quotients.ShortFillings.{short-refuses-alike, short-refused-unchanged, short-counted-rest, short-counted-long}
 use Rattle.synthesis.proofs.Reasons.Alone.{violates-somewhere}
 use Rattle.synthesis.proofs.Reasons.Explained.{reasons-exactly}
 use Rattle.running.specs.Running.{resultOf}
@@ -32,7 +33,7 @@ use Rattle.models.proofs.Judgments.TablesEnforce.{tables-enforce, short-tables-
 use Rattle.demands.specs.Outcomes.{running}
 use Rattle.demands.specs.Refusals.{RunRefused, short-buffer, unfit}
 use Rattle.demands.specs.Demands.{DemandOne, DemandTwo, DemandTwoShort, DemandThree}
-use Rattle.demands.proofs.Refused.{count-refused, build-refused}
+use Rattle.demands.proofs.Refused.{count-refused, fill-refused}
 use Rattle.demands.proofs.RefusedReasons.{explain-refused}
 use Rattle.demands.proofs.UnfitTables.{unfit-not-fit}
 use Rattle.demands.proofs.RefusedCalls.{run-refused, run-fit, judge-refused}
@@ -45,40 +46,40 @@ demand-one = record {
     read-rule = rules.refuses-at-the-fault;
     count = count-refused;
     explain = λ s kept scan bytes. explain-refused s bytes kept scan;
-    build = λ s table bytes. build-refused s bytes (length table);
-    build-short = λ s table bytes number place.
-        let alike = short-refuses-alike 128 s (length table) .refused number place in
-        let refused = build-refused s bytes (length table) number place in
+    build = λ s table bytes. fill-refused s bytes (length table);
+    fill-short = λ s table bytes number place.
+        let alike = short-refuses-alike most s (length table) .refused number place in
+        let refused = fill-refused s bytes (length table) number place in
         (λ e. refused .0 (alike .0 e), λ h. alike .1 (refused .1 h));
     run = run-refused;
     read-model = models.refuses-at-the-fault;
     judge = judge-refused;
   };
   unchanged = record {
-    build = building.refused-unchanged 128 255;
-    build-short = short-refused-unchanged 128 255;
-    run = leaving.refused-unchanged 128 255;
-    judge = λ s table f answer judged number place. judging.refused-unchanged 128 255 s f table answer judged .refused;
+    build = building.refused-unchanged most mark;
+    fill-short = short-refused-unchanged most mark;
+    run = leaving.refused-unchanged most mark;
+    judge = λ s table f answer judged number place. judging.refused-unchanged most mark s f table answer judged .refused;
   };
   rest = record {
-    build = building.counted-rest 128 255;
-    build-short = short-counted-rest 128 255;
-    run = leaving.rest-unchanged 128 255;
-    judge = λ s table f answer judged. judging.refused-unchanged 128 255 s f table answer judged .judged;
+    build = building.counted-rest most mark;
+    fill-short = short-counted-rest most mark;
+    run = leaving.rest-unchanged most mark;
+    judge = λ s table f answer judged. judging.refused-unchanged most mark s f table answer judged .judged;
   };
 }
 
 -- ---- demand 2
 
 -- a call with room for its scans on a table that is never unfit
-module _ (n : ℕ) (table : List ℕ) (fit : NotUnfit 128 255 n table) (h : History) (calls : Calls 128 255 (OnTableOrRefused 128 255 table n) h) (c : Call)
+module _ (n : ℕ) (table : List ℕ) (fit : NotUnfit most mark n table) (h : History) (calls : Calls most mark (OnTableOrRefused most mark table n) h) (c : Call)
     (on : OnTable table n c) (room : length (c .scans) ≤ length (c .output)) (room′ : length (c .scans) ≤ length (c .verdicts)) where
   call-unrefused : (number place : ℕ) → RunRefused (h .state) c number place → ⊥
   call-unrefused number place (short-buffer (inl short)) = omega arith
   call-unrefused number place (short-buffer (inr short)) = omega arith
   call-unrefused number place (unfit a a′ bad) =
       fit h calls c on
-      (runs-on-tables 128 255 (c .table) (c .count) (h .state) (c .scans) (length (c .output)) (length (c .verdicts)) .unfit .1
+      (runs-on-tables most mark (c .table) (c .count) (h .state) (c .scans) (length (c .output)) (length (c .verdicts)) .unfit .1
       (a, a′, unfit-not-fit bad))
 
   call-taken : resultOf (h .state) (running (h .state) c) .checked ≡ Checked.Fit
@@ -86,32 +87,32 @@ module _ (n : ℕ) (table : List ℕ) (fit : NotUnfit 128 255 n table) (h : Hist
 
 pub demand-two : DemandTwo
 demand-two = record {
-  drops = drops-exactly 128 255;
-  takes = λ s table r n left b. call-taken n left (never-unfit 128 255 s table r n left b);
-  explains = reasons-exactly 128;
+  drops = drops-exactly most mark;
+  takes = λ s table r n left b. call-taken n left (never-unfit most mark s table r n left b);
+  explains = reasons-exactly most;
   places = λ s bytes r read. violates-somewhere r (file-well-formed s bytes r read);
-  explains-runs = reasons-of-runs 128 255;
+  explains-runs = reasons-of-runs most mark;
   reads-rule = rules-accepted;
   reads-model = answers-accepted;
   models = λ f y. (
     λ (bytes, read). accepts-phones f bytes y .0 read,
     λ (w, is). (rw is (encode-bytes y (w .well-formed)), accepts-phones f (rw is (encode-bytes y (w .well-formed))) y .1 (w, is)),
   );
-  builds = λ s table r n left. building.builds-by-iff buildingOf 128 255 s table r n left (omega arith);
-  accepts = accepts-exactly 128;
-  judges = judging.judges-exactly 128 255;
+  builds = λ s table r n left. building.fills-by-iff fillingOf most mark s table r n left (omega arith);
+  accepts = accepts-exactly most;
+  judges = judging.judges-exactly most mark;
 }
 
 pub demand-two-short : DemandTwoShort
 demand-two-short = record {
-  drops = short-drops-exactly 128 255;
-  takes = λ s table r n left b. call-taken n left (short-never-unfit 128 255 s table r n left b);
-  explains-runs = short-reasons-of-runs 128 255;
-  builds = λ s table r n left. building.builds-by-iff shortBuildingOf 128 255 s table r n left (omega arith);
+  drops = short-drops-exactly most mark;
+  takes = λ s table r n left b. call-taken n left (short-never-unfit most mark s table r n left b);
+  explains-runs = short-reasons-of-runs most mark;
+  builds = λ s table r n left. building.fills-by-iff shortFillingOf most mark s table r n left (omega arith);
   accepts = λ s table bytes room.
-      let accepts = accepts-exactly 128 s table bytes room in (
-        λ (m, e). accepts .0 (short-counted-long 128 s (length table) m e),
-        λ a. let (n, e) = accepts .1 a in let (m, e′, some, few) = short-refuses-alike 128 s (length table) .counted n e in (m, e′),
+      let accepts = accepts-exactly most s table bytes room in (
+        λ (m, e). accepts .0 (short-counted-long most s (length table) m e),
+        λ a. let (n, e) = accepts .1 a in let (m, e′, some, few) = short-refuses-alike most s (length table) .counted n e in (m, e′),
       );
 }
 
@@ -119,8 +120,8 @@ demand-two-short = record {
 
 pub demand-three : DemandThree
 demand-three = record {
-  enforces = tables-enforce 128 255;
-  short-enforces = short-tables-enforce 128 255;
+  enforces = tables-enforce most mark;
+  short-enforces = short-tables-enforce most mark;
   short-bisimilar = λ s table r n long b table′ m short b′ f y bytes read.
-      short-bisimilar 128 255 s table r n long b table′ m short b′ (modelOf y) (phone-codes y (phone-within-limits f y bytes read .well-formed));
+      short-bisimilar most mark s table r n long b table′ m short b′ (modelOf y) (phone-codes y (phone-within-limits f y bytes read .well-formed));
 }

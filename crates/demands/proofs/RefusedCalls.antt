@@ -9,8 +9,9 @@ use lib.ListN.{length}
 use Rattle.reading.specs.Rule.{Bytes}
 use Rattle.reading.specs.File.{Outcome, accepted, refused}
 use Rattle.reading.proofs.Basics.Outcomes.{refuse-refused, never-refused, andThen-refused}
+use Rattle.synthesis.specs.Monitor.{mark, most}
 use Rattle.synthesis.specs.Building.{countedOf}
-use Rattle.synthesis.proofs.Tables.SynthesisOutcomes.{building-accepts, counted-accepts, counted-refuses}
+use Rattle.synthesis.proofs.Tables.SynthesisOutcomes.{filling-accepts, counted-accepts, counted-refuses}
 use Rattle.running.specs.Running.{hasRoom, fits, Run, runOf, checkedOf, resultOf}
 use Rattle.running.specs.Calls.{Call}
 use Rattle.running.specs.Promises.{RunsOn}
@@ -24,8 +25,8 @@ use Rattle.models.specs.declared.Judged.the-variants as Judged′
 use Rattle.models.proofs.Judgments.Accepting.{accepts-exactly}
 use Rattle.models.proofs.Files.FileFaults.{model-refused, refuses-at-the-fault}
 use Rattle.demands.specs.Outcomes.{building, running, judging, RefusedIff}
-use Rattle.demands.specs.Refusals.{RunRefused, short-buffer, unfit, JudgeRefused, in-building, in-model}
-use Rattle.demands.proofs.Refused.{build-refused}
+use Rattle.demands.specs.Refusals.{RunRefused, short-buffer, unfit, JudgeRefused, in-filling, in-model}
+use Rattle.demands.proofs.Refused.{fill-refused}
 use Rattle.demands.proofs.UnfitTables.{unfit-not-fit, not-fit-unfit}
 
 -- ---- running
@@ -39,8 +40,8 @@ checked-refuses (accepted y) number place e = let z : _≡_ {A = ℕ} 0 1 = cc i
 checked-refuses (refused m at) number place e = cc
 
 module _ (s : State) (c : Call) where
-  run-on-table : RunsOn 128 255 (c .table) (c .count) s (c .scans) (length (c .output)) (length (c .verdicts))
-  run-on-table = runs-on-tables 128 255 (c .table) (c .count) s (c .scans) (length (c .output)) (length (c .verdicts))
+  run-on-table : RunsOn most mark (c .table) (c .count) s (c .scans) (length (c .output)) (length (c .verdicts))
+  run-on-table = runs-on-tables most mark (c .table) (c .count) s (c .scans) (length (c .output)) (length (c .verdicts))
 
   run-refusal-clause : (number place : ℕ) → checkedOf (running s c) ≡ Checked.Refused number place → RunRefused s c number place
   unfolding runOf
@@ -49,7 +50,7 @@ module _ (s : State) (c : Call) where
       (checked-refuses (running s c) number place e)
       (λ t. short-buffer (run-on-table .short .0 (rw t)))
       (λ f e′.
-      refuse-refused (RunRefused s c) (not (fits 128 255 (c .table) (c .count) s)) 16 0 _ e′
+      refuse-refused (RunRefused s c) (not (fits most mark (c .table) (c .count) s)) 16 0 _ e′
       (λ t. let (room, room′, bad) = run-on-table .unfit .0 (rw (f, t)) in unfit room room′ (not-fit-unfit (c .table) (c .count) s bad))
       (λ f′ e″. absurd (never-refused e″)))
 
@@ -86,22 +87,22 @@ module _ (s table f : List ℕ) (bytes : Bytes s) (bytes′ : Bytes f) where
   unfolding judgingOf
   judge-refusal-clause number place judged =
       andThen-refused (building s table) _ (judged-refuses (judging s table f) number place judged)
-      (λ e. in-building (build-refused s bytes (length table) number place .0 (ap countedOf e)))
+      (λ e. in-filling (fill-refused s bytes (length table) number place .0 (ap countedOf e)))
       (λ y built e.
-      let (room, enough) = building-accepts 128 s (length table) y built in
+      let (room, enough) = filling-accepts most s (length table) y built in
       andThen-refused (phoneOf f) _ e
       (λ e′.
-      in-model room (accepts-exactly 128 s table bytes room .0 (length (y .equations), ap countedOf built))
+      in-model room (accepts-exactly most s table bytes room .0 (length (y .equations), ap countedOf built))
       (refuses-at-the-fault f bytes′ number place .0 (model-refused (phoneOf f) number place .0 e′)))
       (λ p read e′. absurd (never-refused e′)))
 
   judge-clause-refuses : {number place : ℕ} → JudgeRefused s (length table) f number place
       → JudgedAs (judging s table f) (Judged′.Refused number place)
   unfolding judgingOf
-  judge-clause-refuses {number} {place} (in-building b) =
-      rw (counted-refuses (building s table) number place (build-refused s bytes (length table) number place .1 b))
+  judge-clause-refuses {number} {place} (in-filling b) =
+      rw (counted-refuses (building s table) number place (fill-refused s bytes (length table) number place .1 b))
   judge-clause-refuses {number} {place} (in-model room a fault) =
-      let (n, e) = accepts-exactly 128 s table bytes room .1 a in
+      let (n, e) = accepts-exactly most s table bytes room .1 a in
       let (y, built, long) = counted-accepts (building s table) n e in
       let read = model-refused (phoneOf f) number place .1 (refuses-at-the-fault f bytes′ number place .1 fault) in
       rw (built, read)

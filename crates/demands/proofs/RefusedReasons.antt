@@ -8,6 +8,7 @@ use lib.ListN.{length}
 use Rattle.reading.specs.Rule.{Bytes}
 use Rattle.reading.specs.File.{Outcome, accepted, refused}
 use Rattle.reading.proofs.Accepting.Accepted.{accepts-encodings}
+use Rattle.synthesis.specs.Monitor.{most}
 use Rattle.synthesis.specs.Building.{Synthesis, countedOf}
 use Rattle.synthesis.specs.Reason.{reasonOf}
 use Rattle.synthesis.specs.ReasonPromises.{Reasons, Explained}
@@ -27,16 +28,16 @@ module _ (s : List ℕ) (bytes : Bytes s) (kept : List ℕ) (scan : ℕ) where
   abbrev reason : Reason
   reason = reasonOf (explaining s kept scan)
 
-  reasons : Reasons 128 s kept scan
-  reasons = reasons-exactly 128 s bytes kept scan
+  reasons : Reasons most s kept scan
+  reasons = reasons-exactly most s bytes kept scan
 
-  explained : (a : Acceptable 128 s) → Explained (a .rule) kept scan reason
+  explained : (a : Acceptable most s) → Explained (a .rule) kept scan reason
   explained a =
-      let (n, counted) = acceptable-counted 128 s bytes a in
+      let (n, counted) = acceptable-counted most s bytes a in
       reasons .explained (a .rule) n (accepts-encodings s bytes (a .rule) .1 (a .within-limits, a .encoded)) counted
 
   -- a rule that is accepted: the only refusal is 17
-  violating-clause : (a : Acceptable 128 s) (number place : ℕ) → reason ≡ Refused number place → ExplainRefused s kept number place
+  violating-clause : (a : Acceptable most s) (number place : ℕ) → reason ≡ Refused number place → ExplainRefused s kept number place
   violating-clause a number place e = on (explained a .only)
     where
       on : (reason ≡ Kept) ⊎ (((m : ℕ) × (reason ≡ Node m)) ⊎ ((i : ℕ) × (reason ≡ Refused 17 i))) → ExplainRefused s kept number place
@@ -51,7 +52,7 @@ module _ (s : List ℕ) (bytes : Bytes s) (kept : List ℕ) (scan : ℕ) where
   refusal-clause number place e = on (counting s) refl
     where
       on : (o : Outcome Synthesis) → counting s ≡ o → ExplainRefused s kept number place
-      on (accepted y) q = violating-clause (counted-acceptable 128 s bytes (length (y .equations)) (ap countedOf q)) number place e
+      on (accepted y) q = violating-clause (counted-acceptable most s bytes (length (y .equations)) (ap countedOf q)) number place e
       on (refused number′ place′) q =
           let (number-is, place-is) = refusal-same (sym (reasons .refused number′ place′ (ap countedOf q)) ∙ e) in
           rw (← number-is, ← place-is) (in-counting (count-refused s bytes number′ place′ .0 (ap countedOf q)))

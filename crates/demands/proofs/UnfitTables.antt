@@ -14,6 +14,7 @@ use borrow.Author.Tests.{eqb-false, ltb-false}
 use Rattle.reading.proofs.Basics.Outcomes.{or-eq-false}
 use Rattle.reading.specs.Pattern.{every}
 use Rattle.reading.proofs.Measures.BoundedTests.{every-fails, every-is}
+use Rattle.synthesis.specs.Monitor.{mark, most}
 use Rattle.synthesis.specs.Table.{InRange, WellFormedTable}
 use Rattle.synthesis.proofs.Tables.WellFormedTables.{well-formed-room, well-formed-entry, well-formed-by-bytes}
 use Rattle.running.specs.Running.{inRange}
@@ -25,7 +26,7 @@ use Rattle.demands.specs.Refusals.{Unfit, no-equations, many-equations, 
 
 -- the table is well formed for the count, and the state is under it
 abbrev Fits : (table : List ℕ) → (count : ℕ) → State → Type 0
-Fits table count s = WellFormedTable 128 255 count table × (s .equation < count)
+Fits table count s = WellFormedTable most mark count table × (s .equation < count)
 
 module _ {table : List ℕ} {count : ℕ} {s : State} where
   pub unfit-not-fit : Unfit table count s → Fits table count s → ⊥
@@ -35,7 +36,7 @@ module _ {table : List ℕ} {count : ℕ} {s : State} where
   unfit-not-fit (short-rows short) (wf, under) = omega (arith, well-formed-room wf)
   unfit-not-fit (bad-entry k c h b room over other) (wf, under) = on (well-formed-entry wf k c h b)
     where
-      on : InRange 255 count (getD table (256 * k + c) 0) → ⊥
+      on : InRange mark count (getD table (256 * k + c) 0) → ⊥
       on (inl e) = other e
       on (inr less) = omega arith
 
@@ -43,29 +44,29 @@ module _ {table : List ℕ} {count : ℕ} {s : State} where
 
 module _ (table : List ℕ) (count : ℕ) (s : State) (bad : Fits table count s → ⊥) where
   abbrev entryTest : ℕ → Bool
-  entryTest i = inRange 255 count (getD table i 0)
+  entryTest i = inRange mark count (getD table i 0)
 
   entry-unfit : 256 * count ≤ length table → (i : ℕ) → i < 256 * count → entryTest i ≡ false → Unfit table count s
   entry-unfit room i h e =
-      let (other, over) = or-eq-false (eqb (getD table i 0) 255) (ltb (getD table i 0) count) e in
+      let (other, over) = or-eq-false (eqb (getD table i 0) mark) (ltb (getD table i 0) count) e in
       let is : 256 * (i / 256) + i % 256 ≡ i = div-add-mod i 256 in
       let code : i % 256 < 256 = mod-lt i (omega arith) in
       bad-entry (i / 256) (i % 256) (omega arith) code room (rw is (ltb-false _ _ over)) (rw is (eqb-false _ _ other))
 
-  rows-unfit : 1 ≤ count → count ≤ 128 → s .equation < count → 256 * count ≤ length table
+  rows-unfit : 1 ≤ count → count ≤ most → s .equation < count → 256 * count ≤ length table
       → (b : Bool) → every (256 * count) entryTest ≡ b → Unfit table count s
   rows-unfit some few under room false q = let (i, h, e) = every-fails (256 * count) entryTest q in entry-unfit room i h e
   rows-unfit some few under room true q =
       absurd (bad (
-        well-formed-by-bytes 128 255 count table some few room
-            (λ i h. in-range 255 count (getD table i 0) .0 (every-is (256 * count) entryTest .0 q i h)),
+        well-formed-by-bytes most mark count table some few room
+            (λ i h. in-range mark count (getD table i 0) .0 (every-is (256 * count) entryTest .0 q i h)),
         under,
       ))
 
   pub not-fit-unfit : Unfit table count s
-  not-fit-unfit = on (decLe 1 count) (decLe count 128) (decLt (s .equation) count) (decLe (256 * count) (length table))
+  not-fit-unfit = on (decLe 1 count) (decLe count most) (decLt (s .equation) count) (decLe (256 * count) (length table))
     where
-      on : Dec (1 ≤ count) → Dec (count ≤ 128) → Dec (s .equation < count) → Dec (256 * count ≤ length table) → Unfit table count s
+      on : Dec (1 ≤ count) → Dec (count ≤ most) → Dec (s .equation < count) → Dec (256 * count ≤ length table) → Unfit table count s
       on (no none) few under room = no-equations (omega arith)
       on (yes some) (no many) under room = many-equations (omega arith)
       on (yes some) (yes few) (no over) room = no-such-equation (omega arith)

@@ -11,8 +11,8 @@ use Rattle.reading.specs.File.{accepted, ruleOf}
 use Rattle.reading.specs.Faults.{Fault as RuleFault}
 use Rattle.reading.specs.Numbered.{numbered, readingOf}
 use Rattle.reading.specs.declared.FileRead.the-variants as Reading
-use Rattle.synthesis.specs.Monitor.{lookup}
-use Rattle.synthesis.specs.Building.{countedOf, Builds, BuildsShort}
+use Rattle.synthesis.specs.Monitor.{mark, most, lookup}
+use Rattle.synthesis.specs.Building.{countedOf, Fills, FillsShort}
 use Rattle.synthesis.specs.Reason.{reasonOf}
 use Rattle.synthesis.specs.ReasonPromises.{Placed, Reasons}
 use Rattle.synthesis.specs.Promises.{SameAfterRows, TableUnchanged}
@@ -30,9 +30,9 @@ use Rattle.models.specs.Judging.{stored, modelReadingOf, JudgedAs}
 use Rattle.models.specs.Promises.{EnforcesRule, Acceptable, JudgedExactly}
 use Rattle.models.specs.declared.Judged.{Judged}
 use Rattle.models.specs.declared.Judged.the-variants as Judged′
-use Rattle.demands.specs.Outcomes.{counting, explaining, building, tableBuilt, shortBuilding, shortTableBuilt, running, judging, tableAfterJudging}
+use Rattle.demands.specs.Outcomes.{counting, explaining, building, tableFilled, shortFilling, shortTableFilled, running, judging, tableAfterJudging}
 use Rattle.demands.specs.Outcomes.{RefusedIff, IfRefused}
-use Rattle.demands.specs.Refusals.{CountRefused, ExplainRefused, BuildRefused, RunRefused, JudgeRefused}
+use Rattle.demands.specs.Refusals.{CountRefused, ExplainRefused, FillRefused, RunRefused, JudgeRefused}
 
 -- ---- demand 1
 
@@ -42,8 +42,8 @@ pub record RefusesExactly : Type 1 where
   pub read-rule : (s : List ℕ) → Bytes s → RefusedIff (readingOf (ruleOf s) .answer) Reading.Refused (RuleFault s)
   pub count : (s : List ℕ) → Bytes s → RefusedIff (countedOf (counting s)) Counted.Refused (CountRefused s)
   pub explain : (s kept : List ℕ) (scan : ℕ) → Bytes s → RefusedIff (reasonOf (explaining s kept scan)) Reason.Refused (ExplainRefused s kept)
-  pub build : (s table : List ℕ) → Bytes s → RefusedIff (countedOf (building s table)) Counted.Refused (BuildRefused s (length table))
-  pub build-short : (s table : List ℕ) → Bytes s → RefusedIff (countedOf (shortBuilding s table)) Counted.Refused (BuildRefused s (length table))
+  pub build : (s table : List ℕ) → Bytes s → RefusedIff (countedOf (building s table)) Counted.Refused (FillRefused s (length table))
+  pub fill-short : (s table : List ℕ) → Bytes s → RefusedIff (countedOf (shortFilling s table)) Counted.Refused (FillRefused s (length table))
   pub run : (s : State) (c : Call) → RefusedIff (resultOf s (running s c) .checked) Checked.Refused (RunRefused s c)
   pub read-model : (f : List ℕ) → Bytes f → RefusedIff (modelReadingOf (phoneOf f) .answer) Reading.Refused (ModelFault f)
   pub judge : (s table f : List ℕ) → Bytes s → Bytes f → (answer : Judged) → JudgedAs (judging s table f) answer
@@ -51,8 +51,8 @@ pub record RefusesExactly : Type 1 where
 
 -- A refused call changes no lent buffer, and a refused run hands back the state that it was given and counts of 0.
 pub record LeavesUnchanged : Type 0 where
-  pub build : (s table : List ℕ) → IfRefused (countedOf (building s table)) Counted.Refused (TableUnchanged 255 table (building s table))
-  pub build-short : (s table : List ℕ) → IfRefused (countedOf (shortBuilding s table)) Counted.Refused (TableUnchanged 255 table (shortBuilding s table))
+  pub build : (s table : List ℕ) → IfRefused (countedOf (building s table)) Counted.Refused (TableUnchanged mark table (building s table))
+  pub fill-short : (s table : List ℕ) → IfRefused (countedOf (shortFilling s table)) Counted.Refused (TableUnchanged mark table (shortFilling s table))
   pub run : (s : State) (c : Call) → IfRefused (resultOf s (running s c) .checked) Checked.Refused (RunUnchanged s c (running s c))
   pub judge : (s table f : List ℕ) (answer : Judged) → JudgedAs (judging s table f) answer
       → IfRefused answer Judged′.Refused (tableAfterJudging s table f ≡ table)
@@ -60,12 +60,12 @@ pub record LeavesUnchanged : Type 0 where
 -- Any other changes no byte that isn't its own: a build none behind its rows, a run none behind the kept scans and the verdicts. Judging leaves what
 -- building leaves.
 pub record LeavesTheRest : Type 0 where
-  pub build : (s table : List ℕ) (n : ℕ) → countedOf (building s table) ≡ Counted.Equations n → SameAfterRows n table (tableBuilt s table)
-  pub build-short : (s table : List ℕ) (n : ℕ) → countedOf (shortBuilding s table) ≡ Counted.Equations n
-      → SameAfterRows n table (shortTableBuilt s table)
+  pub build : (s table : List ℕ) (n : ℕ) → countedOf (building s table) ≡ Counted.Equations n → SameAfterRows n table (tableFilled s table)
+  pub fill-short : (s table : List ℕ) (n : ℕ) → countedOf (shortFilling s table) ≡ Counted.Equations n
+      → SameAfterRows n table (shortTableFilled s table)
   pub run : (s : State) (c : Call) → resultOf s (running s c) .checked ≡ Checked.Fit → OnlyFronts s c (running s c)
   pub judge : (s table f : List ℕ) (answer : Judged) → JudgedAs (judging s table f) answer → (answer ≡ Judged′.Meets) ⊎ (answer ≡ Judged′.Breaks)
-      → tableAfterJudging s table f ≡ tableBuilt s table
+      → tableAfterJudging s table f ≡ tableFilled s table
 
 pub record DemandOne : Type 1 where
   pub refuses : RefusesExactly
@@ -77,7 +77,7 @@ pub record DemandOne : Type 1 where
 -- with room for its scans, a call on the table is taken
 abbrev pub Takes : (n : ℕ) → (table : List ℕ) → Type 0
 Takes n table =
-    (h : History) → Calls 128 255 (OnTableOrRefused 128 255 table n) h → (c : Call) → OnTable table n c
+    (h : History) → Calls most mark (OnTableOrRefused most mark table n) h → (c : Call) → OnTable table n c
     → length (c .scans) ≤ length (c .output) → length (c .scans) ≤ length (c .verdicts)
     → resultOf (h .state) (running (h .state) c) .checked ≡ Checked.Fit
 
@@ -87,32 +87,32 @@ Takes n table =
 -- and then as that one. It builds exactly where it is read and its equations are counted. With a table that is long enough, exactly the rules of the
 -- grammar within the limits are accepted, except those that no finite model satisfies. A model is said to meet a rule exactly when it satisfies it.
 pub record DemandTwo : Type 1 where
-  pub drops : (s table : List ℕ) (r : Rule) (n : ℕ) (left : List ℕ) → Builds 128 255 s table r n left → SiftsOn 128 255 r n left
-  pub takes : (s table : List ℕ) (r : Rule) (n : ℕ) (left : List ℕ) → Builds 128 255 s table r n left → Takes n left
-  pub explains : (s : List ℕ) → Bytes s → (kept : List ℕ) (scan : ℕ) → Reasons 128 s kept scan
+  pub drops : (s table : List ℕ) (r : Rule) (n : ℕ) (left : List ℕ) → Fills most mark s table r n left → SiftsOn most mark r n left
+  pub takes : (s table : List ℕ) (r : Rule) (n : ℕ) (left : List ℕ) → Fills most mark s table r n left → Takes n left
+  pub explains : (s : List ℕ) → Bytes s → (kept : List ℕ) (scan : ℕ) → Reasons most s kept scan
   pub places : (s : List ℕ) → Bytes s → (r : Rule) → ruleOf s ≡ accepted r → Placed r
-  pub explains-runs : (s table : List ℕ) (r : Rule) (n : ℕ) (left : List ℕ) → Builds 128 255 s table r n left → ReasonsOn 128 255 s n left
+  pub explains-runs : (s table : List ℕ) (r : Rule) (n : ℕ) (left : List ℕ) → Fills most mark s table r n left → ReasonsOn most mark s n left
   pub reads-rule : (s : List ℕ) → Bytes s → (readingOf (ruleOf s) .answer ≡ Reading.Accepted)
       ↔ ((r : Rule) × RuleWithinLimits r × (s ≡ encode r) × (readingOf (ruleOf s) .rule ≡ numbered r))
   pub reads-model : (f : List ℕ) → Bytes f → (modelReadingOf (phoneOf f) .answer ≡ Reading.Accepted)
       ↔ ((y : Phone) × PhoneWithinLimits y × (f ≡ encodePhone y) × (modelReadingOf (phoneOf f) .model ≡ stored y))
   pub models : (f : List ℕ) (y : Phone) → (Bytes f × (phoneOf f ≡ accepted y)) ↔ (PhoneWithinLimits y × (f ≡ encodePhone y))
-  pub builds : (s table : List ℕ) (r : Rule) (n : ℕ) (left : List ℕ) → Builds 128 255 s table r n left
-      ↔ (RuleWithinLimits r × (s ≡ encode r) × (countedOf (building s table) ≡ Counted.Equations n) × (left ≡ tableBuilt s table))
+  pub builds : (s table : List ℕ) (r : Rule) (n : ℕ) (left : List ℕ) → Fills most mark s table r n left
+      ↔ (RuleWithinLimits r × (s ≡ encode r) × (countedOf (building s table) ≡ Counted.Equations n) × (left ≡ tableFilled s table))
   pub accepts : (s table : List ℕ) → Bytes s → 32768 ≤ length table
-      → ((n : ℕ) × (countedOf (building s table) ≡ Counted.Equations n)) ↔ Acceptable 128 s
-  pub judges : (s table : List ℕ) (r : Rule) (n : ℕ) (left : List ℕ) → Builds 128 255 s table r n left
+      → ((n : ℕ) × (countedOf (building s table) ≡ Counted.Equations n)) ↔ Acceptable most s
+  pub judges : (s table : List ℕ) (r : Rule) (n : ℕ) (left : List ℕ) → Fills most mark s table r n left
       → (f : List ℕ) (y : Phone) (answer : Judged) → phoneOf f ≡ accepted y → JudgedAs (judging s table f) answer → JudgedExactly r y answer
 
 -- The same of the table that the short build leaves, and of the files that it accepts.
 pub record DemandTwoShort : Type 1 where
-  pub drops : (s table : List ℕ) (r : Rule) (n : ℕ) (left : List ℕ) → BuildsShort 128 255 s table r n left → SiftsOn 128 255 r n left
-  pub takes : (s table : List ℕ) (r : Rule) (n : ℕ) (left : List ℕ) → BuildsShort 128 255 s table r n left → Takes n left
-  pub explains-runs : (s table : List ℕ) (r : Rule) (n : ℕ) (left : List ℕ) → BuildsShort 128 255 s table r n left → ReasonsOn 128 255 s n left
-  pub builds : (s table : List ℕ) (r : Rule) (n : ℕ) (left : List ℕ) → BuildsShort 128 255 s table r n left
-      ↔ (RuleWithinLimits r × (s ≡ encode r) × (countedOf (shortBuilding s table) ≡ Counted.Equations n) × (left ≡ shortTableBuilt s table))
+  pub drops : (s table : List ℕ) (r : Rule) (n : ℕ) (left : List ℕ) → FillsShort most mark s table r n left → SiftsOn most mark r n left
+  pub takes : (s table : List ℕ) (r : Rule) (n : ℕ) (left : List ℕ) → FillsShort most mark s table r n left → Takes n left
+  pub explains-runs : (s table : List ℕ) (r : Rule) (n : ℕ) (left : List ℕ) → FillsShort most mark s table r n left → ReasonsOn most mark s n left
+  pub builds : (s table : List ℕ) (r : Rule) (n : ℕ) (left : List ℕ) → FillsShort most mark s table r n left
+      ↔ (RuleWithinLimits r × (s ≡ encode r) × (countedOf (shortFilling s table) ≡ Counted.Equations n) × (left ≡ shortTableFilled s table))
   pub accepts : (s table : List ℕ) → Bytes s → 32768 ≤ length table
-      → ((n : ℕ) × (countedOf (shortBuilding s table) ≡ Counted.Equations n)) ↔ Acceptable 128 s
+      → ((n : ℕ) × (countedOf (shortFilling s table) ≡ Counted.Equations n)) ↔ Acceptable most s
 
 -- ---- demand 3
 
@@ -120,9 +120,9 @@ pub record DemandTwoShort : Type 1 where
 -- every walk of the model whose trace doesn't violate the rule is there behind the monitor, with the same trace, to the same phone state. What becomes
 -- of walks with dropped scans is said too.
 pub record DemandThree : Type 1 where
-  pub enforces : (s table : List ℕ) (r : Rule) (n : ℕ) (left : List ℕ) → Builds 128 255 s table r n left → EnforcesRule 255 r left
-  pub short-enforces : (s table : List ℕ) (r : Rule) (n : ℕ) (left : List ℕ) → BuildsShort 128 255 s table r n left → EnforcesRule 255 r left
+  pub enforces : (s table : List ℕ) (r : Rule) (n : ℕ) (left : List ℕ) → Fills most mark s table r n left → EnforcesRule mark r left
+  pub short-enforces : (s table : List ℕ) (r : Rule) (n : ℕ) (left : List ℕ) → FillsShort most mark s table r n left → EnforcesRule mark r left
   -- and a phone behind the short table is strongly bisimilar to itself behind the long one
-  pub short-bisimilar : (s table : List ℕ) (r : Rule) (n : ℕ) (long : List ℕ) → Builds 128 255 s table r n long
-      → (table′ : List ℕ) (m : ℕ) (short : List ℕ) → BuildsShort 128 255 s table′ r m short → (f : List ℕ) (y : Phone) → Bytes f → phoneOf f ≡ accepted y
-      → Bisimilar (monitored (suppressing (lookup 256 255 short)) 0 (modelOf y)) (monitored (suppressing (lookup 256 255 long)) 0 (modelOf y))
+  pub short-bisimilar : (s table : List ℕ) (r : Rule) (n : ℕ) (long : List ℕ) → Fills most mark s table r n long
+      → (table′ : List ℕ) (m : ℕ) (short : List ℕ) → FillsShort most mark s table′ r m short → (f : List ℕ) (y : Phone) → Bytes f → phoneOf f ≡ accepted y
+      → Bisimilar (monitored (suppressing (lookup 256 mark short)) 0 (modelOf y)) (monitored (suppressing (lookup 256 mark long)) 0 (modelOf y))

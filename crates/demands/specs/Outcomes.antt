@@ -6,7 +6,8 @@ use mathlib.Core.Logic.{_↔_}
 use mathlib.Core.List.{List}
 use lib.ListN.{length}
 use Rattle.reading.specs.File.{Outcome}
-use Rattle.synthesis.specs.Building.{Synthesis, synthesisOf, buildingOf, tableAfter, tableLeft, shortBuildingOf}
+use Rattle.synthesis.specs.Monitor.{mark, most}
+use Rattle.synthesis.specs.Building.{Synthesis, synthesisOf, fillingOf, tableAfter, tableLeft, shortFillingOf}
 use Rattle.synthesis.specs.Reason.{explanationOf}
 use Rattle.running.specs.Running.{Run}
 use Rattle.running.specs.Calls.{Call, outcomeOf}
@@ -17,36 +18,36 @@ use Rattle.models.specs.Judging.{RuleAndModel, judgingOf, tableJudged}
 
 -- counting the equations of a rule file
 abbrev pub counting : List ℕ → Outcome Synthesis
-counting s = synthesisOf 128 s
+counting s = synthesisOf most s
 
 -- explaining a scan after kept ones
 abbrev pub explaining : (s kept : List ℕ) → (scan : ℕ) → Outcome ℕ
-explaining s kept c = explanationOf 128 s kept c
+explaining s kept c = explanationOf most s kept c
 
 -- building in a table
 abbrev pub building : (s table : List ℕ) → Outcome Synthesis
-building s table = buildingOf 128 s (length table)
+building s table = fillingOf most s (length table)
 
-abbrev pub tableBuilt : (s table : List ℕ) → List ℕ
-tableBuilt s table = tableLeft 128 255 s table
+abbrev pub tableFilled : (s table : List ℕ) → List ℕ
+tableFilled s table = tableLeft most mark s table
 
 -- the short build in a table
-abbrev pub shortBuilding : (s table : List ℕ) → Outcome Synthesis
-shortBuilding s table = shortBuildingOf 128 s (length table)
+abbrev pub shortFilling : (s table : List ℕ) → Outcome Synthesis
+shortFilling s table = shortFillingOf most s (length table)
 
-abbrev pub shortTableBuilt : (s table : List ℕ) → List ℕ
-shortTableBuilt s table = tableAfter 255 (shortBuilding s table) table
+abbrev pub shortTableFilled : (s table : List ℕ) → List ℕ
+shortTableFilled s table = tableAfter mark (shortFilling s table) table
 
 -- a call of a run with this state
 abbrev pub running : State → Call → Outcome Run
-running s c = outcomeOf 128 255 s c
+running s c = outcomeOf most mark s c
 
 -- judging a model file under a rule file, with a table for the rows
 abbrev pub judging : (s table f : List ℕ) → Outcome RuleAndModel
-judging s table f = judgingOf 128 s (length table) f
+judging s table f = judgingOf most s (length table) f
 
 abbrev pub tableAfterJudging : (s table f : List ℕ) → List ℕ
-tableAfterJudging s table f = tableJudged (judging s table f) (tableBuilt s table) table
+tableAfterJudging s table f = tableJudged (judging s table f) (tableFilled s table) table
 
 -- ---- answers
 

@@ -7,6 +7,7 @@ use mathlib.Core.List.{List}
 use lib.ListN.{length, getD}
 use Rattle.reading.specs.Rule.{Rule, RuleWithinLimits, encode}
 use Rattle.reading.specs.Faults.{Fault as RuleFault}
+use Rattle.synthesis.specs.Monitor.{mark, most}
 use Rattle.synthesis.specs.Reason.{FirstViolated}
 use Rattle.synthesis.specs.Promises.{Closed}
 use Rattle.running.specs.Calls.{Call}
@@ -23,29 +24,29 @@ pub data CountRefused (s : List ℕ) : (number place : ℕ) → Type 1 where
   no-finite-model : (r : Rule) → RuleWithinLimits r → s ≡ encode r → ((m : Model) → Finite m → Satisfies m r → ⊥) → CountRefused s 8 0
   -- 9: one does, and over 128 equations are reached: no list of so few is closed under the codes
   too-many : (r : Rule) → RuleWithinLimits r → s ≡ encode r → (m : Model) → Finite m → Satisfies m r
-      → ((es : List ℕ) → length es ≤ 128 → Closed r es → ⊥) → CountRefused s 9 0
+      → ((es : List ℕ) → length es ≤ most → Closed r es → ⊥) → CountRefused s 9 0
 
 -- explaining a scan after these, whatever the scan is
 pub data ExplainRefused (s kept : List ℕ) : (number place : ℕ) → Type 1 where
   -- 1 to 9: counting is refused
   in-counting : {number place : ℕ} → CountRefused s number place → ExplainRefused s kept number place
   -- 17: it isn't, and the shortest front of the kept scans that violates the rule ends with the one at this place
-  violating-scan : (a : Acceptable 128 s) (i : ℕ) → FirstViolated (a .rule) kept i → ExplainRefused s kept 17 i
+  violating-scan : (a : Acceptable most s) (i : ℕ) → FirstViolated (a .rule) kept i → ExplainRefused s kept 17 i
 
 -- building, by either build, with a table of so many bytes
-pub data BuildRefused (s : List ℕ) (capacity : ℕ) : (number place : ℕ) → Type 1 where
+pub data FillRefused (s : List ℕ) (capacity : ℕ) : (number place : ℕ) → Type 1 where
   -- 10, which comes first: the table is too short
-  short-table : capacity < 32768 → BuildRefused s capacity 10 0
-  in-rule : {number place : ℕ} → 32768 ≤ capacity → CountRefused s number place → BuildRefused s capacity number place
+  short-table : capacity < 32768 → FillRefused s capacity 10 0
+  in-rule : {number place : ℕ} → 32768 ≤ capacity → CountRefused s number place → FillRefused s capacity number place
 
 -- what makes a table, a count and a state unfit for a run: byte 256 × k + c is the entry of equation k for the code c
 pub data Unfit (table : List ℕ) (count : ℕ) (s : State) : Type 0 where
   no-equations : count ≡ 0 → Unfit table count s
-  many-equations : 128 < count → Unfit table count s
+  many-equations : most < count → Unfit table count s
   no-such-equation : count ≤ s .equation → Unfit table count s
   short-rows : length table < 256 * count → Unfit table count s
   bad-entry : (k c : ℕ) → k < count → c < 256 → 256 * count ≤ length table → count ≤ getD table (256 * k + c) 0
-      → (getD table (256 * k + c) 0 ≡ 255 → ⊥) → Unfit table count s
+      → (getD table (256 * k + c) 0 ≡ mark → ⊥) → Unfit table count s
 
 -- running, with this state
 pub data RunRefused (s : State) (c : Call) : (number place : ℕ) → Type 0 where
@@ -57,6 +58,6 @@ pub data RunRefused (s : State) (c : Call) : (number place : ℕ) → Type 0 whe
 -- judging a model file under a rule file, with a table of so many bytes
 pub data JudgeRefused (s : List ℕ) (capacity : ℕ) (f : List ℕ) : (number place : ℕ) → Type 1 where
   -- 10 and 1 to 9: building is refused
-  in-building : {number place : ℕ} → BuildRefused s capacity number place → JudgeRefused s capacity f number place
+  in-filling : {number place : ℕ} → FillRefused s capacity number place → JudgeRefused s capacity f number place
   -- 11 to 14: it isn't, and the file is no model
-  in-model : {number place : ℕ} → 32768 ≤ capacity → Acceptable 128 s → ModelFault f number place → JudgeRefused s capacity f number place
+  in-model : {number place : ℕ} → 32768 ≤ capacity → Acceptable most s → ModelFault f number place → JudgeRefused s capacity f number place

@@ -4,7 +4,7 @@ use Prim.Native.Nat.{ℕ, _<_}
 use mathlib.Core.Path.{_≡_, sym, subst}
 use mathlib.Core.List.{List}
 use native.Mathlib.Omega.{arith}
-use Rattle.synthesis.specs.Monitor.{lookup}
+use Rattle.synthesis.specs.Monitor.{mark, lookup}
 use Rattle.enforcement.specs.Model.{Label, silent, code, Model, Bisimilar}
 use Rattle.enforcement.specs.Model.{Response, passed, suppressed, suppressing, Behind, silent-step, passed-step, suppressed-step, monitored}
 use Rattle.models.specs.Phone.{StepIn, modelOf}
@@ -55,7 +55,7 @@ data Drawn : ℕ × ℕ → ℕ → Type 0 where
 
 module _ (table : List ℕ) (rows : PoolRows table) where
   abbrev respond : ℕ → ℕ → Response ℕ
-  respond = suppressing (lookup 256 255 table)
+  respond = suppressing (lookup 256 mark table)
 
   abbrev behind : Model
   behind = monitored respond 0 (modelOf breakingPhone)

@@ -6,7 +6,8 @@ use mathlib.Core.List.{List}
 use lib.ListN.{length}
 use Rattle.reading.specs.Rule.{Rule}
 use Rattle.reading.specs.File.{accepted}
-use Rattle.synthesis.specs.Building.{tableLeft, Builds}
+use Rattle.synthesis.specs.Monitor.{mark, most}
+use Rattle.synthesis.specs.Building.{tableLeft, Fills}
 use Rattle.enforcement.specs.Model.{Satisfies}
 use Rattle.models.specs.Phone.{Phone, modelOf, phoneOf}
 use Rattle.models.specs.Judging.{JudgedAs}
@@ -15,7 +16,7 @@ use Rattle.models.proofs.Phones.DecidedSets.{decided-satisfies}
 use Rattle.models.proofs.Judgments.JudgingLaws.{judging-case}
 use Rattle.examples.specs.ModelExamples.{Judges}
 
-module _ {s : List ℕ} {r : Rule} {n : ℕ} (builds : (table : List ℕ) → 32768 ≤ length table → Builds 128 255 s table r n (tableLeft 128 255 s table))
+module _ {s : List ℕ} {r : Rule} {n : ℕ} (builds : (table : List ℕ) → 32768 ≤ length table → Fills most mark s table r n (tableLeft most mark s table))
     (f : List ℕ) (y : Phone) (read : phoneOf f ≡ accepted y) where
   pub judges-met : Satisfies (modelOf y) r → Judges s f Meets
   judges-met sat table room a = rw (judging-case (builds table room) f y read) (on, λ e. inl (e, decided-satisfies y r .1 sat))

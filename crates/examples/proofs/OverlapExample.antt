@@ -7,6 +7,7 @@ use native.Mathlib.Omega.{arith}
 use lib.ListN.{length}
 use Rattle.reading.specs.Pattern.{bit, covers, least, countBelow}
 use Rattle.reading.specs.File.{accepted, recordsAt, formulaAt, formulaOf, ruleOf}
+use Rattle.synthesis.specs.Monitor.{mark, most}
 use Rattle.synthesis.specs.Answering.{firstOf, answerOf, unsatisfiable}
 use Rattle.synthesis.specs.Search.{explored, found}
 use Rattle.synthesis.specs.Table.{entriesOf}
@@ -15,7 +16,7 @@ use Rattle.running.specs.Running.{start, runFrom}
 use Rattle.listing.specs.Text.{decimalIn, decimal}
 use Rattle.examples.specs.NumberingExamples.{Numbers}
 use Rattle.examples.specs.OverlapExample.{overlapFile, overlapRule, overlapSets, overlapListing, overlapScans, overlapRun, OverlapExample}
-use Rattle.examples.proofs.FileAnswers.{row-left, reads-builds}
+use Rattle.examples.proofs.FileAnswers.{row-left, reads-fills}
 use Rattle.examples.proofs.Listed.{numbers}
 use Rattle.examples.proofs.RunAnswers.{run-left}
 
@@ -27,7 +28,7 @@ overlap-satisfiable : unsatisfiable overlapRule ≡ false
 unfolding unsatisfiable firstOf
 overlap-satisfiable = refl
 
-overlap-equations : equationsOf 128 overlapRule ≡ overlapSets
+overlap-equations : equationsOf most overlapRule ≡ overlapSets
 unfolding equationsOf found explored firstOf answerOf bit covers
 overlap-equations = refl
 
@@ -36,7 +37,7 @@ unfolding entriesOf answerOf bit covers least countBelow decimal decimalIn
 overlap-numbers = numbers overlapFile overlapRule overlapSets overlapListing overlap-read overlap-satisfiable overlap-equations (omega arith) refl
 
 -- a row for each equation that the run comes to, in order
-overlap-run : (table : List ℕ) → 32768 ≤ length table → runFrom 255 (tableLeft 128 255 overlapFile table) start overlapScans ≡ overlapRun
+overlap-run : (table : List ℕ) → 32768 ≤ length table → runFrom mark (tableLeft most mark overlapFile table) start overlapScans ≡ overlapRun
 unfolding entriesOf answerOf bit covers
 overlap-run table room =
     let row = row-left overlapFile overlapRule overlap-read overlap-satisfiable overlapSets overlap-equations (omega arith) table room in
@@ -49,7 +50,7 @@ pub overlap-example : OverlapExample
 overlap-example = record {
   numbers = overlap-numbers;
   run = λ table room.
-      run-left (reads-builds overlapFile overlapRule 3 (overlap-numbers .file) (search arith) table room) overlapScans overlapRun
+      run-left (reads-fills overlapFile overlapRule 3 (overlap-numbers .file) (search arith) table room) overlapScans overlapRun
       (overlap-run table room);
   ends-in = refl;
 }

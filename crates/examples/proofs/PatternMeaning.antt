@@ -11,8 +11,9 @@ use borrow.Author.Tests.{ne-eqb}
 use Rattle.reading.specs.Numbered.{noPattern}
 use Rattle.reading.specs.declared.Pattern.{Pattern}
 use Rattle.reading.proofs.Measures.Extents.{covers-means}
+use Rattle.synthesis.specs.Monitor.{mark, most}
 use Rattle.synthesis.specs.Violation.{coveredBy, ViolatesRule, by-falsity, by-code}
-use Rattle.synthesis.specs.Building.{Builds}
+use Rattle.synthesis.specs.Building.{Fills}
 use Rattle.running.specs.Calls.{History, Calls, OnTableOrRefused, withVerdict}
 use Rattle.running.proofs.DemandTwo.{drops-exactly}
 use Rattle.enforcement.specs.Model.{Label, code, stay, Satisfies}
@@ -30,12 +31,12 @@ module _ (ps : List Pattern) (i : ℕ) where
       forth : ViolatesRule (never ps i) (c ∷ []) → CoveredIn ps i c
       forth (by-code q x) = means c .0 q
 
-  drops : (s table : List ℕ) (n : ℕ) (left : List ℕ) → Builds 128 255 s table (never ps i) n left
-      → (h : History) → Calls 128 255 (OnTableOrRefused 128 255 left n) h → 0 < length (h .scans)
+  drops : (s table : List ℕ) (n : ℕ) (left : List ℕ) → Fills most mark s table (never ps i) n left
+      → (h : History) → Calls most mark (OnTableOrRefused most mark left n) h → 0 < length (h .scans)
       → (getD (h .verdicts) 0 0 ≡ 1) ↔ CoveredIn ps i (getD (h .scans) 0 0)
   unfolding withVerdict
   drops s table n left b h calls some =
-      let first = drops-exactly 128 255 s table (never ps i) n left b h calls .drops 0 some in
+      let first = drops-exactly most mark s table (never ps i) n left b h calls .drops 0 some in
       let alone = violates (getD (h .scans) 0 0) in
       (λ e. alone .0 (first .0 e), λ c. first .1 (alone .1 c))
 

@@ -10,7 +10,7 @@ use Rattle.reading.specs.Pattern.{bit, covers}
 use Rattle.reading.specs.Rule.{Formula, falsity, both, necessity, variable, Bytes}
 use Rattle.reading.specs.File.{accepted, recordsAt}
 use Rattle.synthesis.specs.Violation.{coveredBy, ViolatesRule, by-falsity, by-first, by-code, by-body}
-use Rattle.synthesis.specs.Monitor.{lookup}
+use Rattle.synthesis.specs.Monitor.{mark, most, lookup}
 use Rattle.synthesis.specs.Building.{tableLeft}
 use Rattle.enforcement.specs.Model.{Label, silent, code, Walk, stay, silent-first, code-first, Weak, StateSatisfies, Satisfies}
 use Rattle.enforcement.specs.Model.{suppressing}
@@ -22,7 +22,7 @@ use Rattle.models.proofs.Judgments.TablesEnforce.{tables-enforce}
 use Rattle.examples.specs.Examples.{poolFile, poolRule}
 use Rattle.examples.specs.ModelExamples.{behind, breakingFile, breakingPhone, Breaking}
 use Rattle.examples.specs.ModelExamples.{meetingFile, meetingPhone, Meeting, ModelExamples}
-use Rattle.examples.proofs.NumberPool.{pool-builds, pool-table}
+use Rattle.examples.proofs.NumberPool.{pool-fills, pool-table}
 use Rattle.examples.proofs.ModelAnswers.{judges-met, judges-broken}
 use Rattle.examples.proofs.PhoneSteps.{step-at, every-step}
 use Rattle.examples.proofs.DrawnModel.{drawn-bisimilar}
@@ -33,9 +33,9 @@ use Rattle.examples.proofs.Distinctions.{distinctions}
 
 module _ (f : List ℕ) (y : Phone) (read : phoneOf f ≡ accepted y) where
   pool-enforces : Bytes f → (table : List ℕ) → 32768 ≤ length table
-      → Enforces poolRule (suppressing (lookup 256 255 (tableLeft 128 255 poolFile table))) 0 (modelOf y)
+      → Enforces poolRule (suppressing (lookup 256 mark (tableLeft most mark poolFile table))) 0 (modelOf y)
   pool-enforces bytes table room =
-      tables-enforce 128 255 poolFile table poolRule 3 (tableLeft 128 255 poolFile table) (pool-builds table room) f y bytes read .0
+      tables-enforce most mark poolFile table poolRule 3 (tableLeft most mark poolFile table) (pool-fills table room) f y bytes read .0
 
 -- ---- the paper's model breaks the rule
 
@@ -60,11 +60,11 @@ breaking : Breaking
 breaking = record {
   file = breaking-read;
   unsatisfied = breaking-unsatisfied;
-  judged = judges-broken pool-builds breakingFile breakingPhone breaking-read breaking-unsatisfied;
+  judged = judges-broken pool-fills breakingFile breakingPhone breaking-read breaking-unsatisfied;
   changed = λ table room alike. breaking-unsatisfied (
       bisimilar-alike (modelOf breakingPhone) (behind poolFile table (modelOf breakingPhone)) alike poolRule .1
       (pool-enforces breakingFile breakingPhone breaking-read (search arith) table room .satisfies));
-  drawn = λ table room. drawn-bisimilar (tableLeft 128 255 poolFile table) (pool-table table room .rows);
+  drawn = λ table room. drawn-bisimilar (tableLeft most mark poolFile table) (pool-table table room .rows);
 }
 
 -- ---- the other meets it
@@ -120,7 +120,7 @@ meeting : Meeting
 meeting = record {
   file = meeting-read;
   satisfied = meeting-satisfied;
-  judged = judges-met pool-builds meetingFile meetingPhone meeting-read meeting-satisfied;
+  judged = judges-met pool-fills meetingFile meetingPhone meeting-read meeting-satisfied;
   unchanged = λ table room. pool-enforces meetingFile meetingPhone meeting-read (search arith) table room .bisimilar meeting-satisfied;
 }
 

@@ -6,6 +6,7 @@ use native.Mathlib.Omega.{arith}
 use Rattle.reading.specs.Pattern.{bit, covers, least}
 use Rattle.reading.specs.File.{recordsAt, formulaAt, formulaOf, ruleOf}
 use Rattle.reading.specs.Nodes.{whole, first, second, after, body}
+use Rattle.synthesis.specs.Monitor.{most}
 use Rattle.synthesis.specs.Answering.{firstOf, answerOf, unsatisfiable}
 use Rattle.synthesis.specs.Search.{explored, found}
 use Rattle.synthesis.specs.Building.{equationsOf, synthesisOf}
@@ -28,7 +29,7 @@ either-file = reads eitherFile eitherRule refl refl (10 ∷ 0 ∷ []) refl (omeg
 
 -- of a file that is counted, by its rule
 pub by-rule : {s : List ℕ} {n : ℕ} (r : _) → ReadAs s r (Equations n) → (w : List ℕ) (c : ℕ) → reason s w c ≡ reasonOf (openedAfter r w c)
-by-rule {s} {n} r file w c = ap reasonOf (counted-explanation 128 s r n (file .reading) (file .answers .counting) w c)
+by-rule {s} {n} r file w c = ap reasonOf (counted-explanation most s r n (file .reading) (file .answers .counting) w c)
 
 met-first : ViolatesAt twoPlacesRule 0 (37 ∷ 5 ∷ []) 7
 unfolding bit covers

@@ -10,13 +10,13 @@ use Rattle.synthesis.specs.Answering.{firstOf, answerOf, unsatisfiable}
 use Rattle.synthesis.specs.Search.{explored, found}
 use Rattle.synthesis.specs.Building.{equationsOf}
 use Rattle.synthesis.specs.declared.Counted.the-variants.{Equations}
-use Rattle.synthesis.proofs.Tables.Built.{builds-outcome}
+use Rattle.synthesis.proofs.Tables.Built.{fills-outcome}
 use Rattle.models.specs.Phone.{statesOf, phoneOf}
 use Rattle.models.specs.Judging.{judgingOf}
 use Rattle.examples.specs.Examples.{pattern, rule, ReadAs}
 use Rattle.examples.specs.RefusalExamples.{times, RuleRefusals, RefusesModel, ModelRefusals, RefusalExamples}
 use Rattle.examples.proofs.FileAnswers.{refuses, reads}
-use Rattle.examples.proofs.NumberPool.{pool-builds}
+use Rattle.examples.proofs.NumberPool.{pool-fills}
 use Rattle.examples.proofs.FullModel.{step-513, silent-513, kind-19-late}
 
 -- ---- variables that are guarded
@@ -81,7 +81,7 @@ refuses-model : (f : List ℕ) (number place : ℕ) → phoneOf f ≡ refused nu
 unfolding judgingOf
 refuses-model f number place read = record {
   reading = read;
-  judged = λ table room r. rw (builds-outcome (pool-builds table room), read) (λ e. e, λ e. e);
+  judged = λ table room r. rw (fills-outcome (pool-fills table room), read) (λ e. e, λ e. e);
 }
 
 model-refusals : ModelRefusals

@@ -13,12 +13,13 @@ use Rattle.reading.specs.Pattern.{slotOf, bit, named, covers, least, countBelow
 use Rattle.reading.specs.File.{accepted, recordsAt, formulaAt, formulaOf, ruleOf}
 use Rattle.reading.specs.declared.Pattern.{Pattern}
 use Rattle.reading.proofs.Measures.NamedSlots.{named-means}
+use Rattle.synthesis.specs.Monitor.{mark, most}
 use Rattle.synthesis.specs.Violation.{ViolatesRule, by-falsity, by-code}
 use Rattle.synthesis.specs.Answering.{firstOf, answerOf, unsatisfiable}
 use Rattle.synthesis.specs.Search.{explored, found}
 use Rattle.synthesis.specs.Reason.{openedFalsities}
 use Rattle.synthesis.specs.Table.{entriesOf}
-use Rattle.synthesis.specs.Building.{equationsOf, tableLeft, Builds}
+use Rattle.synthesis.specs.Building.{equationsOf, tableLeft, Fills}
 use Rattle.running.specs.Running.{start, runFrom}
 use Rattle.listing.specs.Text.{decimalIn, decimal}
 use Rattle.enforcement.specs.Model.{Satisfies}
@@ -28,7 +29,7 @@ use Rattle.examples.specs.NumberingExamples.{Numbers}
 use Rattle.examples.specs.RoundExample.{RoundPatterns, roundFile, roundRule, roundSets, roundListing, roundScans, roundRun}
 use Rattle.examples.specs.RoundExample.{repeatingFile, RoundExample}
 use Rattle.examples.specs.PatternMeaning.{repeatingPhone}
-use Rattle.examples.proofs.FileAnswers.{row-left, reads-builds}
+use Rattle.examples.proofs.FileAnswers.{row-left, reads-fills}
 use Rattle.examples.proofs.Listed.{numbers}
 use Rattle.examples.proofs.RunAnswers.{run-left}
 use Rattle.examples.proofs.ModelAnswers.{judges-met, judges-broken}
@@ -70,7 +71,7 @@ round-satisfiable : unsatisfiable roundRule ≡ false
 unfolding unsatisfiable firstOf
 round-satisfiable = refl
 
-round-equations : equationsOf 128 roundRule ≡ roundSets
+round-equations : equationsOf most roundRule ≡ roundSets
 unfolding equationsOf found explored firstOf answerOf bit covers
 round-equations = refl
 
@@ -78,10 +79,10 @@ round-numbers : Numbers roundFile roundRule roundSets roundListing
 unfolding entriesOf answerOf bit covers least countBelow decimal decimalIn
 round-numbers = numbers roundFile roundRule roundSets roundListing round-read round-satisfiable round-equations (omega arith) refl
 
-round-builds : (table : List ℕ) → 32768 ≤ length table → Builds 128 255 roundFile table roundRule 2 (tableLeft 128 255 roundFile table)
-round-builds = reads-builds roundFile roundRule 2 (round-numbers .file) (search arith)
+round-fills : (table : List ℕ) → 32768 ≤ length table → Fills most mark roundFile table roundRule 2 (tableLeft most mark roundFile table)
+round-fills = reads-fills roundFile roundRule 2 (round-numbers .file) (search arith)
 
-round-run : (table : List ℕ) → 32768 ≤ length table → runFrom 255 (tableLeft 128 255 roundFile table) start roundScans ≡ roundRun
+round-run : (table : List ℕ) → 32768 ≤ length table → runFrom mark (tableLeft most mark roundFile table) start roundScans ≡ roundRun
 unfolding entriesOf answerOf bit covers
 round-run table room =
     let row = row-left roundFile roundRule round-read round-satisfiable roundSets round-equations (omega arith) table room in
@@ -121,14 +122,14 @@ round-example =
       violating-31 = violating-31;
       violating-2 = violating-2;
       not-violating = not-violating;
-      run = λ table room. run-left (round-builds table room) roundScans roundRun (round-run table room);
+      run = λ table room. run-left (round-fills table room) roundScans roundRun (round-run table room);
       dropped-31 = by-rule roundRule file [] 31;
       dropped-2 = by-rule roundRule file [] 2;
       kept-29 = by-rule roundRule file [] 29;
       unsatisfied-31 = at-31;
       unsatisfied-2 = at-2;
-      breaks-31 = record { file = refl; judged = judges-broken round-builds (repeatingFile 31) (repeatingPhone 31) refl at-31 };
-      breaks-2 = record { file = refl; judged = judges-broken round-builds (repeatingFile 2) (repeatingPhone 2) refl at-2 };
+      breaks-31 = record { file = refl; judged = judges-broken round-fills (repeatingFile 31) (repeatingPhone 31) refl at-31 };
+      breaks-2 = record { file = refl; judged = judges-broken round-fills (repeatingFile 2) (repeatingPhone 2) refl at-2 };
       satisfied = at-29;
-      meets = record { file = refl; judged = judges-met round-builds (repeatingFile 29) (repeatingPhone 29) refl at-29 };
+      meets = record { file = refl; judged = judges-met round-fills (repeatingFile 29) (repeatingPhone 29) refl at-29 };
     }

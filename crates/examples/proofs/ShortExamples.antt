@@ -10,17 +10,17 @@ use Rattle.reading.specs.Pattern.{bit, covers, least, every, countBelow}
 use Rattle.reading.specs.Rule.{Rule}
 use Rattle.reading.specs.File.{accepted, recordsAt, formulaAt, formulaOf, ruleOf}
 use Rattle.synthesis.specs.Violation.{ViolatesRule, by-first, by-second, by-code}
-use Rattle.synthesis.specs.Monitor.{Answer, dropped, rowOf, lookup}
+use Rattle.synthesis.specs.Monitor.{mark, most, Answer, dropped, rowOf, lookup}
 use Rattle.synthesis.specs.Answering.{firstOf, answerOf, unsatisfiable}
 use Rattle.synthesis.specs.Search.{explored, found}
 use Rattle.synthesis.specs.Table.{entriesOf, filled}
 use Rattle.synthesis.specs.Merging.{tabulate, DropAlike, merged, together, refined, rounds, firsts}
-use Rattle.synthesis.specs.Building.{equationsOf, Synthesis, withEquations, countedOf, numberedAnswer, classesOf, shortened, shortBuildingOf}
+use Rattle.synthesis.specs.Building.{equationsOf, Synthesis, withEquations, countedOf, numberedAnswer, classesOf, shortened, shortFillingOf}
 use Rattle.synthesis.specs.Reason.{openedFalsities}
 use Rattle.reading.proofs.Measures.BoundedTests.{every-is}
 use Rattle.synthesis.specs.declared.Counted.the-variants.{Equations}
 use Rattle.synthesis.proofs.Tables.FilledTables.{filled-row}
-use Rattle.synthesis.proofs.Tables.SynthesisOutcomes.{accepts-with-equations, building-enough, short-accepts}
+use Rattle.synthesis.proofs.Tables.SynthesisOutcomes.{accepts-with-equations, filling-enough, short-accepts}
 use Rattle.listing.specs.Text.{decimalIn, decimal}
 use Rattle.examples.specs.Examples.{poolFile, poolRule, poolListing}
 use Rattle.examples.specs.ShortExamples.{shortTable, Merges, branchesFile, branchesRule, branchesSets, branchesListing, MergedReasons}
@@ -43,36 +43,36 @@ shortAnswer r sets classes = merged classes (numberedAnswer (given r sets))
 record Classified (s : List ℕ) (r : Rule) (sets classes : List ℕ) : Type 0 where
   read : ruleOf s ≡ accepted r
   satisfiable : unsatisfiable r ≡ false
-  equations : equationsOf 128 r ≡ sets
-  few : length sets ≤ 128
+  equations : equationsOf most r ≡ sets
+  few : length sets ≤ most
   classes-are : classesOf (given r sets) ≡ classes
 
 module _ {s : List ℕ} {r : Rule} {sets classes : List ℕ} (known : Classified s r sets classes) where
-  with-sets : withEquations 128 r ≡ given r sets
+  with-sets : withEquations most r ≡ given r sets
   with-sets = ap (given r) (known .equations)
 
   abbrev fs : List ℕ
   fs = firsts classes (length sets)
 
-  outcome : (table : List ℕ) → 32768 ≤ length table → shortBuildingOf 128 s (length table) ≡ accepted (shortened (given r sets))
+  outcome : (table : List ℕ) → 32768 ≤ length table → shortFillingOf most s (length table) ≡ accepted (shortened (given r sets))
   outcome table room =
-      let few : length (equationsOf 128 r) ≤ 128 = rw (known .equations) (known .few) in
-      short-accepts 128 s (length table)
-      (building-enough 128 s (length table) room ∙ accepts-with-equations 128 s r (known .read) (known .satisfiable) few ∙ ap accepted with-sets)
+      let few : length (equationsOf most r) ≤ most = rw (known .equations) (known .few) in
+      short-accepts most s (length table)
+      (filling-enough most s (length table) room ∙ accepts-with-equations most s r (known .read) (known .satisfiable) few ∙ ap accepted with-sets)
 
-  short-left : (table : List ℕ) → 32768 ≤ length table → shortTable s table ≡ filled 255 (shortAnswer r sets classes) fs 256 table
+  short-left : (table : List ℕ) → 32768 ≤ length table → shortTable s table ≡ filled mark (shortAnswer r sets classes) fs 256 table
   unfolding shortened
   short-left table room = rw (outcome table room, known .classes-are)
 
-  short-count : (table : List ℕ) → 32768 ≤ length table → countedOf (shortBuildingOf 128 s (length table)) ≡ Equations (length fs)
+  short-count : (table : List ℕ) → 32768 ≤ length table → countedOf (shortFillingOf most s (length table)) ≡ Equations (length fs)
   unfolding shortened
   short-count table room = rw (outcome table room, known .classes-are)
 
-  short-row : length fs ≤ 128 → (table : List ℕ) → 32768 ≤ length table → (k : ℕ) → k < length fs
-      → rowOf 256 (shortTable s table) k ≡ entriesOf 255 (shortAnswer r sets classes) fs (getD fs k 0) 256
-  short-row small table room k h = rw (short-left table room) (filled-row 255 (shortAnswer r sets classes) fs 256 table (omega arith) k h)
+  short-row : length fs ≤ most → (table : List ℕ) → 32768 ≤ length table → (k : ℕ) → k < length fs
+      → rowOf 256 (shortTable s table) k ≡ entriesOf mark (shortAnswer r sets classes) fs (getD fs k 0) 256
+  short-row small table room k h = rw (short-left table room) (filled-row mark (shortAnswer r sets classes) fs 256 table (omega arith) k h)
 
-  merges : (n : ℕ) (lines : List ℕ) → length fs ≡ n → n ≤ 128 → listingOf r (shortAnswer r sets classes) fs ≡ lines → Merges s r sets classes n lines
+  merges : (n : ℕ) (lines : List ℕ) → length fs ≡ n → n ≤ most → listingOf r (shortAnswer r sets classes) fs ≡ lines → Merges s r sets classes n lines
   merges n lines count small is = record {
     file = reads s r (known .read) (known .satisfiable) sets (known .equations) (known .few);
     equations = known .equations;
@@ -119,7 +119,7 @@ closed = merges (rules .closed) 1 closedListing refl (omega arith) refl
 
 -- the first row of the short table
 branches-row : (table : List ℕ) → 32768 ≤ length table
-    → rowOf 256 (shortTable branchesFile table) 0 ≡ entriesOf 255 (shortAnswer branchesRule branchesSets (0 ∷ 1 ∷ 2 ∷ 2 ∷ [])) (0 ∷ 1 ∷ 2 ∷ []) 0 256
+    → rowOf 256 (shortTable branchesFile table) 0 ≡ entriesOf mark (shortAnswer branchesRule branchesSets (0 ∷ 1 ∷ 2 ∷ 2 ∷ [])) (0 ∷ 1 ∷ 2 ∷ []) 0 256
 unfolding firsts
 branches-row table room = short-row (rules .branches) (omega arith) table room 0 (omega arith)
 
@@ -149,9 +149,9 @@ drop-all answer answer′ drops drops′ (c ∷ w) all =
 
 -- the only row of the rule that drops everything
 abbrev closedRow : List ℕ
-closedRow = entriesOf 255 (shortAnswer closedRule (1 ∷ []) (0 ∷ [])) (0 ∷ []) 0 256
+closedRow = entriesOf mark (shortAnswer closedRule (1 ∷ []) (0 ∷ [])) (0 ∷ []) 0 256
 
-closed-marks : every 256 (λ c. eqb (getD closedRow c 255) 255) ≡ true
+closed-marks : every 256 (λ c. eqb (getD closedRow c mark) mark) ≡ true
 unfolding entriesOf answerOf bit covers least
 closed-marks = refl
 
@@ -159,8 +159,8 @@ closed-row : (table : List ℕ) → 32768 ≤ length table → rowOf 256 (shortT
 unfolding firsts
 closed-row table room = short-row (rules .closed) (omega arith) table room 0 (omega arith)
 
-closed-drops : (table : List ℕ) → 32768 ≤ length table → (c : ℕ) → c < 256 → lookup 256 255 (shortTable closedFile table) 0 c ≡ dropped
-closed-drops table room c b = rw (closed-row table room, every-is 256 (λ c. eqb (getD closedRow c 255) 255) .0 closed-marks c b)
+closed-drops : (table : List ℕ) → 32768 ≤ length table → (c : ℕ) → c < 256 → lookup 256 mark (shortTable closedFile table) 0 c ≡ dropped
+closed-drops table room c b = rw (closed-row table room, every-is 256 (λ c. eqb (getD closedRow c mark) mark) .0 closed-marks c b)
 
 pub short-examples : ShortExamples
 unfolding rowOf
@@ -170,5 +170,5 @@ short-examples = record {
   pool = pool;
   idle = idle;
   closed = closed;
-  needs-a-row = λ table room. drop-all (lookup 256 255 (shortTable closedFile table)) (lookup 256 255 []) (closed-drops table room) (λ c b. refl);
+  needs-a-row = λ table room. drop-all (lookup 256 mark (shortTable closedFile table)) (lookup 256 mark []) (closed-drops table room) (λ c b. refl);
 }

@@ -10,7 +10,7 @@ use Rattle.reading.specs.File.{accepted, recordsAt, formulaAt, formulaOf, ruleO
 use Rattle.synthesis.specs.Violation.{ViolatesRule, by-falsity, by-code}
 use Rattle.synthesis.specs.Answering.{firstOf, answerOf, unsatisfiable}
 use Rattle.synthesis.specs.Search.{explored, found}
-use Rattle.synthesis.specs.Monitor.{rowOf, lookup}
+use Rattle.synthesis.specs.Monitor.{mark, most, rowOf, lookup}
 use Rattle.synthesis.specs.Table.{entriesOf}
 use Rattle.synthesis.specs.Building.{equationsOf, tableLeft}
 use Rattle.enforcement.specs.Model.{Label, silent, code, Walk, stay, silent-first, code-first}
@@ -31,11 +31,11 @@ unfolding unsatisfiable firstOf
 never-satisfiable = refl
 
 -- {0} and the empty set
-never-equations : equationsOf 128 neverRule ≡ 1 ∷ 0 ∷ []
+never-equations : equationsOf most neverRule ≡ 1 ∷ 0 ∷ []
 unfolding equationsOf found explored firstOf answerOf bit covers
 never-equations = refl
 
-never-row : (table : List ℕ) → 32768 ≤ length table → rowOf 256 (tableLeft 128 255 neverFile table) 0 ≡ replicate 5 1 ++ 255 ∷ replicate 250 1
+never-row : (table : List ℕ) → 32768 ≤ length table → rowOf 256 (tableLeft most mark neverFile table) 0 ≡ replicate 5 1 ++ 255 ∷ replicate 250 1
 unfolding entriesOf answerOf bit covers
 never-row table room =
     row-left neverFile neverRule never-read never-satisfiable (1 ∷ 0 ∷ []) never-equations (omega arith) table room 0 (omega arith)
@@ -80,7 +80,7 @@ not-bare t (code-first h k) = six-not-first (shortening-step h)
 
 module _ (table : List ℕ) (room : 32768 ≤ length table) where
   abbrev respond : ℕ → ℕ → Response ℕ
-  respond = suppressing (lookup 256 255 (tableLeft 128 255 neverFile table))
+  respond = suppressing (lookup 256 mark (tableLeft most mark neverFile table))
 
   five-suppressed : respond 0 5 ≡ suppressed
   five-suppressed = rw (never-row table room)

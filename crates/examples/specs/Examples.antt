@@ -13,8 +13,8 @@ use Rattle.models.specs.Phone.{statesKind, codeStepKind, silentStepKind}
 use Rattle.reading.specs.File.{Outcome, accepted, refused, ruleOf}
 use Rattle.reading.specs.declared.Pattern.{Pattern}
 use Rattle.reading.specs.declared.Extent.{Extent}
-use Rattle.synthesis.specs.Monitor.{rowOf}
-use Rattle.synthesis.specs.Building.{synthesisOf, buildingOf, countedOf, tableLeft}
+use Rattle.synthesis.specs.Monitor.{mark, most, rowOf}
+use Rattle.synthesis.specs.Building.{synthesisOf, fillingOf, countedOf, tableLeft}
 use Rattle.synthesis.specs.declared.Counted.{Counted}
 use Rattle.synthesis.specs.declared.Counted.the-variants.{Equations, Refused}
 use Rattle.running.specs.Running.{start, moved, Run, runOf, checkedOf, resultOf, outputAfter, verdictsAfter}
@@ -63,8 +63,8 @@ pub record KindBytes : Type 0 where
 
 -- Counting answers so, and building too with every table of at least 32,768 bytes.
 pub record CountedAs (s : List ℕ) (answer : Counted) : Type 0 where
-  pub counting : countedOf (synthesisOf 128 s) ≡ answer
-  pub building : (table : List ℕ) → 32768 ≤ length table → countedOf (buildingOf 128 s (length table)) ≡ answer
+  pub counting : countedOf (synthesisOf most s) ≡ answer
+  pub building : (table : List ℕ) → 32768 ≤ length table → countedOf (fillingOf most s (length table)) ≡ answer
 
 -- reading refuses the file, and so do counting and building
 pub record Refuses (s : List ℕ) (number place : ℕ) : Type 0 where
@@ -78,7 +78,7 @@ pub record ReadAs (s : List ℕ) (r : Rule) (answer : Counted) : Type 0 where
 
 -- a table under 32,768 bytes, whatever the file: 10 at 0
 abbrev pub ShortTable : Type 0
-ShortTable = (s table : List ℕ) → length table < 32768 → countedOf (buildingOf 128 s (length table)) ≡ Refused 10 0
+ShortTable = (s table : List ℕ) → length table < 32768 → countedOf (fillingOf most s (length table)) ≡ Refused 10 0
 
 -- ---- the number-pool rule
 
@@ -145,7 +145,7 @@ pub record SmallFiles : Type 0 where
   pub empty : Refuses [] 1 0
   -- * 2: one equation, every entry 0
   pub truth-alone : ReadAs (2 ∷ []) (rule [] truth) (Equations 1)
-  pub truth-entries : (table : List ℕ) → 32768 ≤ length table → rowOf 256 (tableLeft 128 255 (2 ∷ []) table) 0 ≡ replicate 256 0
+  pub truth-entries : (table : List ℕ) → 32768 ≤ length table → rowOf 256 (tableLeft most mark (2 ∷ []) table) 0 ≡ replicate 256 0
   -- * 3: 8 at 0
   pub falsity-alone : ReadAs (3 ∷ []) (rule [] falsity) (Refused 8 0)
   -- * 2 2: 3 at 1
@@ -190,9 +190,9 @@ pub record RunsPool (outcome : Outcome Run) : Type 0 where
 
 -- These scans from the start, over a table of 3 equations, with an output and verdicts of any sizes. Under 6 bytes: 15 at 0.
 pub record PoolScans (table : List ℕ) : Type 0 where
-  pub enough : (output verdicts : ℕ) → 6 ≤ output → 6 ≤ verdicts → RunsPool (runOf 128 255 table 3 start poolScans output verdicts)
+  pub enough : (output verdicts : ℕ) → 6 ≤ output → 6 ≤ verdicts → RunsPool (runOf most mark table 3 start poolScans output verdicts)
   pub short : (output verdicts : ℕ) → (output < 6) ⊎ (verdicts < 6)
-      → checkedOf (runOf 128 255 table 3 start poolScans output verdicts) ≡ Unfit 15 0
+      → checkedOf (runOf most mark table 3 start poolScans output verdicts) ≡ Unfit 15 0
 
 -- ---- all of them
 
@@ -201,7 +201,7 @@ pub record PaperExamples : Type 0 where
   pub kind-bytes : KindBytes
   pub short-table : ShortTable
   pub number-pool : NumberPool
-  pub pool-table : (table : List ℕ) → 32768 ≤ length table → PoolTable (tableLeft 128 255 poolFile table)
+  pub pool-table : (table : List ℕ) → 32768 ≤ length table → PoolTable (tableLeft most mark poolFile table)
   pub texts : Texts
   pub small-files : SmallFiles
-  pub pool-scans : (table : List ℕ) → 32768 ≤ length table → PoolScans (tableLeft 128 255 poolFile table)
+  pub pool-scans : (table : List ℕ) → 32768 ≤ length table → PoolScans (tableLeft most mark poolFile table)

@@ -8,7 +8,7 @@ use lib.ListN.{length}
 use Rattle.reading.specs.Rule.{falsity, necessity, Rule}
 use Rattle.reading.specs.File.{accepted}
 use Rattle.synthesis.specs.Violation.{ViolatesRule}
-use Rattle.synthesis.specs.Monitor.{lookup}
+use Rattle.synthesis.specs.Monitor.{mark, most, lookup}
 use Rattle.synthesis.specs.Building.{tableLeft}
 use Rattle.synthesis.specs.declared.Counted.the-variants.{Equations}
 use Rattle.enforcement.specs.Model.{code, Model, Walk, Finite, Satisfies, Bisimilar, suppressing, monitored}
@@ -25,12 +25,12 @@ step from label to = record { from = from; label = label; to = to }
 
 -- a model behind the table that building leaves of a rule file
 abbrev pub behind : (s table : List ℕ) → Model → Model
-behind s table = monitored (suppressing (lookup 256 255 (tableLeft 128 255 s table))) 0
+behind s table = monitored (suppressing (lookup 256 mark (tableLeft most mark s table))) 0
 
 -- With every table of at least 32,768 bytes this is an answer of judging a model under a rule, and it is the only one.
 abbrev pub Judges : (s model : List ℕ) → Judged → Type 0
 Judges s f answer =
-    (table : List ℕ) → 32768 ≤ length table → (r : Judged) → JudgedAs (judgingOf 128 s (length table) f) r ↔ (r ≡ answer)
+    (table : List ℕ) → 32768 ≤ length table → (r : Judged) → JudgedAs (judgingOf most s (length table) f) r ↔ (r ≡ answer)
 
 abbrev pub JudgesPool : (model : List ℕ) → Judged → Type 0
 JudgesPool = Judges poolFile

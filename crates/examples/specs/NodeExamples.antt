@@ -5,7 +5,7 @@ use mathlib.Core.Path.{_≡_}
 use mathlib.Core.List.{List, [], _∷_, _++_}
 use lib.ListN.{length, replicate}
 use Rattle.reading.specs.Rule.{truth, falsity, both, necessity, max, variable, Rule}
-use Rattle.synthesis.specs.Monitor.{rowOf}
+use Rattle.synthesis.specs.Monitor.{mark, most, rowOf}
 use Rattle.synthesis.specs.Building.{tableLeft}
 use Rattle.synthesis.specs.declared.Counted.the-variants.{Equations}
 use Rattle.listing.specs.Text.{text}
@@ -65,5 +65,5 @@ pub record NodeExamples : Type 0 where
   -- depth 0: in equation 2, a sync leads back to equation 2
   pub inner-max : ReadAs (nestedFile 0) (nestedRule 0) (Equations 3)
   pub inner-row : (table : List ℕ) → 32768 ≤ length table
-      → rowOf 256 (tableLeft 128 255 (nestedFile 0) table) 2 ≡ replicate 5 1 ++ 255 ∷ replicate 122 1 ++ replicate 32 2 ++ replicate 96 1
+      → rowOf 256 (tableLeft most mark (nestedFile 0) table) 2 ≡ replicate 5 1 ++ 255 ∷ replicate 122 1 ++ replicate 32 2 ++ replicate 96 1
   pub twice : Numbers twiceFile twiceRule twiceSets twiceListing

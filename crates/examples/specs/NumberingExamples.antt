@@ -5,6 +5,7 @@ use mathlib.Core.List.{List, [], _∷_, _++_, map}
 use lib.ListN.{length}
 use Rattle.reading.specs.Pattern.{extentOf}
 use Rattle.reading.specs.Rule.{truth, both, necessity, Rule}
+use Rattle.synthesis.specs.Monitor.{mark, most}
 use Rattle.synthesis.specs.Building.{equationsOf, tableLeft}
 use Rattle.synthesis.specs.declared.Counted.the-variants.{Equations}
 use Rattle.listing.specs.Text.{text}
@@ -14,8 +15,8 @@ use Rattle.examples.specs.Examples.{pattern, rule, ReadAs}
 -- a file's rule, its equations as sets of nodes in their order, and what is listed of every table that building leaves
 pub record Numbers (s : List ℕ) (r : Rule) (sets lines : List ℕ) : Type 0 where
   pub file : ReadAs s r (Equations (length sets))
-  pub equations : equationsOf 128 r ≡ sets
-  pub listed : (table : List ℕ) → 32768 ≤ length table → listing (map extentOf (r .patterns)) (length sets) (tableLeft 128 255 s table) ≡ lines
+  pub equations : equationsOf most r ≡ sets
+  pub listed : (table : List ℕ) → 32768 ≤ length table → listing (map extentOf (r .patterns)) (length sets) (tableLeft most mark s table) ≡ lines
 
 -- ---- codes ascending, whatever the order of the nodes
 

@@ -11,6 +11,7 @@ use Rattle.reading.specs.Rule.{falsity, both, necessity, max, variable, Rule}
 use Rattle.reading.specs.File.{accepted}
 use Rattle.running.specs.Running.{start, moved, Run, runOf}
 use Rattle.listing.specs.Text.{text}
+use Rattle.synthesis.specs.Monitor.{mark, most}
 use Rattle.synthesis.specs.Building.{tableLeft}
 use Rattle.examples.specs.Examples.{pattern, rule}
 use Rattle.examples.specs.NumberingExamples.{Numbers}
@@ -57,5 +58,5 @@ overlapRun = record {
 pub record OverlapExample : Type 0 where
   pub numbers : Numbers overlapFile overlapRule overlapSets overlapListing
   pub run : (table : List ℕ) → 32768 ≤ length table → (output verdicts : ℕ) → 9 ≤ output → 9 ≤ verdicts
-      → runOf 128 255 (tableLeft 128 255 overlapFile table) 3 start overlapScans output verdicts ≡ accepted overlapRun
+      → runOf most mark (tableLeft most mark overlapFile table) 3 start overlapScans output verdicts ≡ accepted overlapRun
   pub ends-in : overlapRun .state .equation ≡ 1

@@ -10,8 +10,9 @@ use Rattle.reading.specs.Rule.{falsity, necessity, Rule}
 use Rattle.reading.specs.Numbered.{noPattern}
 use Rattle.reading.specs.Promises.{Covered}
 use Rattle.reading.specs.declared.Pattern.{Pattern}
+use Rattle.synthesis.specs.Monitor.{mark, most}
 use Rattle.synthesis.specs.Violation.{ViolatesRule}
-use Rattle.synthesis.specs.Building.{Builds}
+use Rattle.synthesis.specs.Building.{Fills}
 use Rattle.running.specs.Calls.{History, Calls, OnTableOrRefused}
 use Rattle.enforcement.specs.Model.{Satisfies}
 use Rattle.models.specs.Phone.{Phone, modelOf}
@@ -34,8 +35,8 @@ pub record PatternMeaning (ps : List Pattern) (i : ℕ) : Type 1 where
   -- a code by itself violates the rule
   pub violates : (c : ℕ) → ViolatesRule (never ps i) (c ∷ []) ↔ CoveredIn ps i c
   -- the first scan of a run is dropped
-  pub drops : (s table : List ℕ) (n : ℕ) (left : List ℕ) → Builds 128 255 s table (never ps i) n left
-      → (h : History) → Calls 128 255 (OnTableOrRefused 128 255 left n) h → 0 < length (h .scans)
+  pub drops : (s table : List ℕ) (n : ℕ) (left : List ℕ) → Fills most mark s table (never ps i) n left
+      → (h : History) → Calls most mark (OnTableOrRefused most mark left n) h → 0 < length (h .scans)
       → (getD (h .verdicts) 0 0 ≡ 1) ↔ CoveredIn ps i (getD (h .scans) 0 0)
   -- a phone that scans the code meets the rule
   pub satisfies : (c : ℕ) → c < 256 → Satisfies (modelOf (repeatingPhone c)) (never ps i) ↔ (CoveredIn ps i c → ⊥)

@@ -4,6 +4,7 @@ use Prim.Native.Nat.{ℕ}
 use mathlib.Core.Path.{_≡_}
 use mathlib.Core.List.{List, [], _∷_}
 use Rattle.reading.specs.Rule.{truth, falsity, both, necessity, max, variable, Rule}
+use Rattle.synthesis.specs.Monitor.{most}
 use Rattle.synthesis.specs.Reason.{ViolatesAt, onlyFalsity, explanationOf, reasonOf}
 use Rattle.synthesis.specs.declared.Counted.the-variants.{Equations}
 use Rattle.synthesis.specs.declared.Reason.{Reason}
@@ -12,7 +13,7 @@ use Rattle.examples.specs.Examples.{pattern, rule, ReadAs, poolFile, poo
 
 -- what is said of a scan after others, under a rule file
 abbrev pub reason : (s w : List ℕ) → (c : ℕ) → Reason
-reason s w c = reasonOf (explanationOf 128 s w c)
+reason s w c = reasonOf (explanationOf most s w c)
 
 -- max X of both "after an issue of 5, ff" and "after a cancel of 5, both after an issue of 5, ff, and X". Its nodes: 0 max, 1 both, 2 necessity, 3 ff,
 -- 4 necessity, 5 both, 6 necessity, 7 ff, 8 variable.

@@ -7,6 +7,7 @@ use lib.ListN.{length}
 use Rattle.reading.specs.Pattern.{covers, extentOf}
 use Rattle.reading.specs.Rule.{Rule}
 use Rattle.reading.specs.File.{accepted}
+use Rattle.synthesis.specs.Monitor.{mark, most}
 use Rattle.synthesis.specs.Violation.{ViolatesRule}
 use Rattle.synthesis.specs.Building.{tableLeft}
 use Rattle.synthesis.specs.declared.Reason.the-variants.{Kept, Node}
@@ -83,7 +84,7 @@ pub record RoundExample : Type 1 where
   pub violating-2 : ViolatesRule roundRule (2 ∷ [])
   pub not-violating : ViolatesRule roundRule (29 ∷ []) → ⊥
   pub run : (table : List ℕ) → 32768 ≤ length table → (output verdicts : ℕ) → 4 ≤ output → 4 ≤ verdicts
-      → runOf 128 255 (tableLeft 128 255 roundFile table) 2 start roundScans output verdicts ≡ accepted roundRun
+      → runOf most mark (tableLeft most mark roundFile table) 2 start roundScans output verdicts ≡ accepted roundRun
   -- node 1 is the ff
   pub dropped-31 : reason roundFile [] 31 ≡ Node 1
   pub dropped-2 : reason roundFile [] 2 ≡ Node 1

@@ -6,9 +6,9 @@ use lib.ListN.{length}
 use Rattle.reading.specs.Pattern.{extentOf}
 use Rattle.reading.specs.Rule.{truth, falsity, both, necessity, Rule}
 use Rattle.synthesis.specs.Violation.{ViolatesRule}
-use Rattle.synthesis.specs.Monitor.{ended, lookup}
+use Rattle.synthesis.specs.Monitor.{mark, most, ended, lookup}
 use Rattle.synthesis.specs.Merging.{DropAlike}
-use Rattle.synthesis.specs.Building.{equationsOf, withEquations, countedOf, tableAfter, classesOf, shortBuildingOf}
+use Rattle.synthesis.specs.Building.{equationsOf, withEquations, countedOf, tableAfter, classesOf, shortFillingOf}
 use Rattle.synthesis.specs.declared.Counted.the-variants.{Equations}
 use Rattle.synthesis.specs.declared.Reason.the-variants.{Node}
 use Rattle.listing.specs.Text.{text}
@@ -18,14 +18,14 @@ use Rattle.examples.specs.ReasonExamples.{reason}
 
 -- the table that the short build leaves
 abbrev pub shortTable : (s table : List ℕ) → List ℕ
-shortTable s table = tableAfter 255 (shortBuildingOf 128 s (length table)) table
+shortTable s table = tableAfter mark (shortFillingOf most s (length table)) table
 
 -- a file's rule, its equations as sets of nodes, their classes, and the count and the listing of every table that the short build leaves
 pub record Merges (s : List ℕ) (r : Rule) (sets classes : List ℕ) (n : ℕ) (lines : List ℕ) : Type 0 where
   pub file : ReadAs s r (Equations (length sets))
-  pub equations : equationsOf 128 r ≡ sets
-  pub classes-are : classesOf (withEquations 128 r) ≡ classes
-  pub counted : (table : List ℕ) → 32768 ≤ length table → countedOf (shortBuildingOf 128 s (length table)) ≡ Equations n
+  pub equations : equationsOf most r ≡ sets
+  pub classes-are : classesOf (withEquations most r) ≡ classes
+  pub counted : (table : List ℕ) → 32768 ≤ length table → countedOf (shortFillingOf most s (length table)) ≡ Equations n
   pub listed : (table : List ℕ) → 32768 ≤ length table → listing (map extentOf (r .patterns)) n (shortTable s table) ≡ lines
 
 -- ---- two branches that drop alike
@@ -64,7 +64,7 @@ branchesListing =
 -- short table.
 pub record MergedReasons : Type 0 where
   pub one-equation : (table : List ℕ) → 32768 ≤ length table
-      → ended (lookup 256 255 (shortTable branchesFile table)) 0 (5 ∷ []) ≡ ended (lookup 256 255 (shortTable branchesFile table)) 0 (7 ∷ [])
+      → ended (lookup 256 mark (shortTable branchesFile table)) 0 (5 ∷ []) ≡ ended (lookup 256 mark (shortTable branchesFile table)) 0 (7 ∷ [])
   pub safe-5 : ViolatesRule branchesRule (5 ∷ []) → ⊥
   pub safe-7 : ViolatesRule branchesRule (7 ∷ []) → ⊥
   pub after-5 : reason branchesFile (5 ∷ []) 6 ≡ Node 3
@@ -99,4 +99,4 @@ pub record ShortExamples : Type 0 where
   pub idle : Merges idleFile idleRule (1 ∷ 0 ∷ []) (0 ∷ 0 ∷ []) 1 idleListing
   pub closed : Merges closedFile closedRule (1 ∷ []) (0 ∷ []) 1 closedListing
   -- A table without rows drops alike, since a code that has no entry is dropped. So a rival must have a row.
-  pub needs-a-row : (table : List ℕ) → 32768 ≤ length table → DropAlike 256 (lookup 256 255 (shortTable closedFile table)) 0 (lookup 256 255 []) 0
+  pub needs-a-row : (table : List ℕ) → 32768 ≤ length table → DropAlike 256 (lookup 256 mark (shortTable closedFile table)) 0 (lookup 256 mark []) 0

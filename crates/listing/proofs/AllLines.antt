@@ -14,7 +14,7 @@ use Rattle.reading.specs.Numbered.{numbered, noExtent}
 use Rattle.reading.specs.declared.Extent.{Extent}
 use Rattle.reading.specs.declared.NumberedRule.{NumberedRule}
 use Rattle.reading.proofs.Numbering.NumberedLaws.{padded-long}
-use Rattle.synthesis.specs.Monitor.{rowOf, meaning}
+use Rattle.synthesis.specs.Monitor.{mark, rowOf, meaning}
 use Rattle.synthesis.proofs.Tables.Rows.{row-none, row-inside, row-short}
 use Rattle.listing.specs.Text.{text, decimal}
 use Rattle.listing.specs.Runs.{runsFrom, RunTo}
@@ -114,7 +114,7 @@ module _ (rule : NumberedRule) (table : List ℕ) (count : ℕ) where
           → from (suc most) (place k c) ≡ to-come k c many
       on true f rest =
           let (last, r) = some-run (row k) c (ltb-true c (length (row k)) f) in
-          let fields = decimal k ∷ decimal c ∷ decimal last ∷ answerText (meaning 255 (getD (row k) c 0)) ∷ [] in
+          let fields = decimal k ∷ decimal c ∷ decimal last ∷ answerText (meaning mark (getD (row k) c 0)) ∷ [] in
           lines-from-line most (place k c) (place k (suc last)) fields
           (line-at k c h ∙ at-run table count (n + 2) k c (place k c) last (omega arith) r)
           ∙ rw (first-run (row k) c last r, rest last r) (sym (append-assoc (line fields) _ _))

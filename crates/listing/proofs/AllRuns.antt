@@ -11,7 +11,7 @@ use borrow.Author.Tests.{ltb-true, ltb-false}
 use Rattle.reading.specs.Rule.{All}
 use Rattle.reading.proofs.Basics.AllLaws.{all-map}
 use Rattle.reading.proofs.Basics.ListLaws.{getD-inside}
-use Rattle.synthesis.specs.Monitor.{rowOf, meaning}
+use Rattle.synthesis.specs.Monitor.{mark, rowOf, meaning}
 use Rattle.listing.specs.Runs.{CodeRun, codeRun, runsFrom, runs, RunTo}
 use Rattle.listing.specs.Promises.{Longest, Consecutive, Groups, ShowsAnswers}
 use Rattle.listing.proofs.RunLaws.{first-run, no-runs, some-run}
@@ -66,5 +66,5 @@ shows-answers table k =
     let row = rowOf 256 table k in
     all-map (runs row) (λ r longest c h l.
     let reaches = longest .reaches in
-    ap (meaning 255) (getD-inside row c 255 0 (omega (arith, reaches .inside)) ∙ reaches .same c h l ∙ sym (longest .entry)))
+    ap (meaning mark) (getD-inside row c mark 0 (omega (arith, reaches .inside)) ∙ reaches .same c h l ∙ sym (longest .entry)))
     (groups row .longest)

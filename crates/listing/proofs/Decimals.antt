@@ -8,7 +8,7 @@ use native.Mathlib.Omega.{arith}
 use lib.ListN.{length, length-append}
 use lib.Dec.{ltb, eqb}
 use borrow.Author.Tests.{lt-ltb, le-ltb, eq-eqb, ne-eqb, ltb-true, ltb-false, eqb-true, eqb-false}
-use Rattle.synthesis.specs.Monitor.{meaning}
+use Rattle.synthesis.specs.Monitor.{mark, meaning}
 use Rattle.listing.specs.Text.{text, digit, decimalIn, decimal}
 use Rattle.listing.specs.Lines.{answerText}
 use Rattle.listing.specs.Promises.{SpellsDecimal}
@@ -59,14 +59,14 @@ decimal-digits (suc k) n h = on (ltb n 10) refl (decimal-digits k (n / 10) fewer
 
 module _ (x : ℕ) where
   pub drop-text : x ≡ 255 → answerText (meaning 255 x) ≡ text "drop"
-  drop-text e = rw (eq-eqb x 255 e)
+  drop-text e = rw (eq-eqb x mark e)
 
-  pub next-text : (x ≡ 255 → ⊥) → answerText (meaning 255 x) ≡ decimal x
-  next-text e = rw (ne-eqb x 255 e)
+  pub next-text : (x ≡ mark → ⊥) → answerText (meaning mark x) ≡ decimal x
+  next-text e = rw (ne-eqb x mark e)
 
-  pub answer-digits : x < 256 → length (answerText (meaning 255 x)) ≤ 4
-  answer-digits h = on (eqb x 255) refl
+  pub answer-digits : x < 256 → length (answerText (meaning mark x)) ≤ 4
+  answer-digits h = on (eqb x mark) refl
     where
-      on : (b : Bool) → eqb x 255 ≡ b → length (answerText (meaning 255 x)) ≤ 4
-      on true e = rw (drop-text (eqb-true x 255 e)) (omega arith)
-      on false e = rw (next-text (eqb-false x 255 e)) (omega (arith, decimal-digits 2 x (omega arith)))
+      on : (b : Bool) → eqb x mark ≡ b → length (answerText (meaning mark x)) ≤ 4
+      on true e = rw (drop-text (eqb-true x mark e)) (omega arith)
+      on false e = rw (next-text (eqb-false x mark e)) (omega (arith, decimal-digits 2 x (omega arith)))

@@ -4,7 +4,7 @@ use mathlib.Core.Bool.{Bool, true, false}
 use mathlib.Core.List.{List, [], _∷_, _++_}
 use lib.ListN.{length}
 use Rattle.reading.specs.declared.Extent.{Extent}
-use Rattle.synthesis.specs.Monitor.{Answer, cases, rowOf, meaning}
+use Rattle.synthesis.specs.Monitor.{mark, Answer, cases, rowOf, meaning}
 use Rattle.listing.specs.Text.{text, decimal}
 use Rattle.listing.specs.Runs.{CodeRun, runs}
 
@@ -42,7 +42,7 @@ abbrev pub answerText : Answer ℕ → List ℕ
 answerText a = cases a (text "drop") decimal
 
 abbrev pub runLine : (equation : ℕ) → CodeRun → List ℕ
-runLine k r = line (decimal k ∷ decimal (r .first) ∷ decimal (r .last) ∷ answerText (meaning 255 (r .entry)) ∷ [])
+runLine k r = line (decimal k ∷ decimal (r .first) ∷ decimal (r .last) ∷ answerText (meaning mark (r .entry)) ∷ [])
 
 -- ---- the listing
 

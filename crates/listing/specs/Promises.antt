@@ -7,7 +7,7 @@ use Rattle.reading.specs.Pattern.{extentOf}
 use Rattle.reading.specs.Rule.{Rule, RuleWithinLimits, All}
 use Rattle.reading.specs.Numbered.{numbered}
 use Rattle.reading.specs.declared.NumberedRule.{NumberedRule}
-use Rattle.synthesis.specs.Monitor.{rowOf, meaning, lookup}
+use Rattle.synthesis.specs.Monitor.{mark, rowOf, meaning, lookup}
 use Rattle.listing.specs.Text.{digit, decimal}
 use Rattle.listing.specs.Runs.{CodeRun, runs, RunTo}
 use Rattle.listing.specs.Lines.{listing}
@@ -45,7 +45,7 @@ pub record Groups (row : List ℕ) : Type 0 where
 -- 3. The entry in the line of a run is what the table answers to each of its codes.
 abbrev pub ShowsAnswers : Type 0
 ShowsAnswers =
-    (table : List ℕ) (k : ℕ) → All (λ (r : CodeRun). (c : ℕ) → r .first ≤ c → c ≤ r .last → lookup 256 255 table k c ≡ meaning 255 (r .entry))
+    (table : List ℕ) (k : ℕ) → All (λ (r : CodeRun). (c : ℕ) → r .first ≤ c → c ≤ r .last → lookup 256 mark table k c ≡ meaning mark (r .entry))
     (runs (rowOf 256 table k))
 
 -- 4. A number below 10 is one digit. Any other has the digits of n / 10, followed by the digit of n % 10.

@@ -7,7 +7,7 @@ use mathlib.Core.Bool.{cond}
 use mathlib.Core.List.{List}
 use lib.Dec.{eqb}
 use lib.ListN.{length, getD}
-use Rattle.synthesis.specs.Monitor.{Answer, dropped, next}
+use Rattle.synthesis.specs.Monitor.{mark, Answer, dropped, next}
 use Rattle.running.specs.Running.{occurrences}
 use Rattle.enforcement.specs.Model.{silent, code, Model}
 use Rattle.models.specs.Phone.{Phone, noStep, PhoneWithinLimits}
@@ -96,7 +96,7 @@ pub record Enqueued (pair : ℕ) (seen pairs : List ℕ) (found : ℕ) (seen′ 
 
 -- where a label leads from an equation with this row; 255 where it is dropped
 abbrev pub leadsTo : (row : List ℕ) → (equation label : ℕ) → ℕ
-leadsTo row equation label = cond (eqb label 256) equation (getD row label 255)
+leadsTo row equation label = cond (eqb label 256) equation (getD row label mark)
 
 -- step i is an outgoing step of the pair: it goes from its state
 abbrev pub Outgoing : Links → (pair i : ℕ) → Type 0
@@ -114,12 +114,12 @@ module _ (steps : List Step) (l : Links) (row : List ℕ) (pair : ℕ) where
   pub record Successor (p : ℕ) : Type 0 where
     pub step : ℕ
     pub outgoing : Outgoing l pair step
-    pub kept : equationAfter step ≡ 255 → ⊥
+    pub kept : equationAfter step ≡ mark → ⊥
     pub is : pairAfter step ≡ p
 
   -- step i has been followed: it isn't dropped, and leads to a pair seen
   pub record Followed (seen : List ℕ) (i : ℕ) : Type 0 where
-    pub kept : equationAfter i ≡ 255 → ⊥
+    pub kept : equationAfter i ≡ mark → ⊥
     pub is-seen : Seen seen (pairAfter i)
 
   -- The pair has been expanded up to `step`: its successors so far are on the worklist, and the steps on the chain from `step` on are left.

@@ -9,7 +9,7 @@ use Rattle.reading.specs.Rule.{Rule}
 use Rattle.reading.specs.File.{Outcome, accepted, refused, andThen}
 use Rattle.reading.specs.Numbered.{padded}
 use Rattle.reading.specs.declared.FileRead.the-variants.{Accepted, Refused}
-use Rattle.synthesis.specs.Building.{buildingOf}
+use Rattle.synthesis.specs.Building.{fillingOf}
 use Rattle.enforcement.specs.Model.{SatisfiesDecided}
 use Rattle.models.specs.Phone.{Phone, noStep, modelOf, phoneOf}
 use Rattle.models.specs.declared.PhoneModel.{PhoneModel}
@@ -42,7 +42,7 @@ pub record RuleAndModel : Type 0 where
 -- What is judged, with a table of so many bytes: 10 and 1 to 9 of building come first, then 11 to 14 of the model.
 unfoldable pub judgingOf : (limit : ℕ) → (rule : List ℕ) → (capacity : ℕ) → (model : List ℕ) → Outcome RuleAndModel
 judgingOf limit s capacity f =
-    andThen (buildingOf limit s capacity) (λ y. andThen (phoneOf f) (λ p. accepted (record { rule = y .rule; phone = p })))
+    andThen (fillingOf limit s capacity) (λ y. andThen (phoneOf f) (λ p. accepted (record { rule = y .rule; phone = p })))
 
 -- The answer of each outcome: meets where the model satisfies the rule, breaks where it doesn't, or the refusal with the paper's number
 -- and place.

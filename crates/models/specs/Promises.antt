@@ -10,7 +10,7 @@ use Rattle.reading.specs.File.{accepted, refused, ruleOf}
 use Rattle.reading.specs.Promises.{OneFault}
 use Rattle.reading.specs.declared.FileRead.the-variants.{Accepted, Refused as NotAccepted}
 use Rattle.synthesis.specs.Monitor.{Monitors, lookup}
-use Rattle.synthesis.specs.Building.{buildingOf, countedOf, tableLeft, Builds, BuildsShort}
+use Rattle.synthesis.specs.Building.{fillingOf, countedOf, tableLeft, Fills, FillsShort}
 use Rattle.synthesis.specs.Promises.{Closed}
 use Rattle.synthesis.specs.declared.Counted.the-variants.{Equations, Refused}
 use Rattle.enforcement.specs.Model.{Model, Finite, ByteCodes, Satisfies, SatisfiesDecided, Bisimilar, suppressing, monitored}
@@ -32,12 +32,12 @@ EnforcesRule mark r table =
 -- The table that building leaves does, whatever the table held before.
 abbrev pub TablesEnforce : Type 1
 TablesEnforce =
-    (limit mark : ℕ) (s table : List ℕ) (r : Rule) (n : ℕ) (left : List ℕ) → Builds limit mark s table r n left → EnforcesRule mark r left
+    (limit mark : ℕ) (s table : List ℕ) (r : Rule) (n : ℕ) (left : List ℕ) → Fills limit mark s table r n left → EnforcesRule mark r left
 
 -- So too for the table that the short build leaves, and for any other that monitors a rule.
 abbrev pub ShortTablesEnforce : Type 1
 ShortTablesEnforce =
-    (limit mark : ℕ) (s table : List ℕ) (r : Rule) (n : ℕ) (left : List ℕ) → BuildsShort limit mark s table r n left → EnforcesRule mark r left
+    (limit mark : ℕ) (s table : List ℕ) (r : Rule) (n : ℕ) (left : List ℕ) → FillsShort limit mark s table r n left → EnforcesRule mark r left
 
 abbrev pub MonitorTablesEnforce : Type 1
 MonitorTablesEnforce = (mark : ℕ) (r : Rule) (table : List ℕ) → Monitors r (lookup 256 mark table) 0 → EnforcesRule mark r table
@@ -45,8 +45,8 @@ MonitorTablesEnforce = (mark : ℕ) (r : Rule) (table : List ℕ) → Monitors r
 -- Behind the tables of the two builds, every model whose codes are bytes is strongly bisimilar to itself from its start, whatever the tables held before.
 abbrev pub ShortBisimilar : Type 1
 ShortBisimilar =
-    (limit mark : ℕ) (s table : List ℕ) (r : Rule) (n : ℕ) (long : List ℕ) → Builds limit mark s table r n long
-    → (table′ : List ℕ) (m : ℕ) (short : List ℕ) → BuildsShort limit mark s table′ r m short → (p : Model) → ByteCodes p
+    (limit mark : ℕ) (s table : List ℕ) (r : Rule) (n : ℕ) (long : List ℕ) → Fills limit mark s table r n long
+    → (table′ : List ℕ) (m : ℕ) (short : List ℕ) → FillsShort limit mark s table′ r m short → (p : Model) → ByteCodes p
     → Bisimilar (monitored (suppressing (lookup 256 mark short)) 0 p) (monitored (suppressing (lookup 256 mark long)) 0 p)
 
 -- ---- judging
@@ -62,7 +62,7 @@ pub record JudgedExactly (r : Rule) (y : Phone) (answer : Judged) : Type 1 where
 
 abbrev pub JudgesExactly : Type 1
 JudgesExactly =
-    (limit mark : ℕ) (s table : List ℕ) (r : Rule) (n : ℕ) (left : List ℕ) → Builds limit mark s table r n left
+    (limit mark : ℕ) (s table : List ℕ) (r : Rule) (n : ℕ) (left : List ℕ) → Fills limit mark s table r n left
     → (f : List ℕ) (y : Phone) (answer : Judged) → phoneOf f ≡ accepted y → JudgedAs (judgingOf limit s (length table) f) answer
     → JudgedExactly r y answer
 
@@ -97,13 +97,13 @@ pub record Acceptable (limit : ℕ) (s : List ℕ) : Type 1 where
 abbrev pub AcceptsExactly : Type 1
 AcceptsExactly =
     (limit : ℕ) (s table : List ℕ) → Bytes s → 256 * limit ≤ length table
-    → ((n : ℕ) × (countedOf (buildingOf limit s (length table)) ≡ Equations n)) ↔ Acceptable limit s
+    → ((n : ℕ) × (countedOf (fillingOf limit s (length table)) ≡ Equations n)) ↔ Acceptable limit s
 
 -- A rule that was read is refused with 8 exactly when no model satisfies it, exactly when no finite one does, and exactly when no phone model does.
 pub record RefusedAsUnsatisfiable (limit : ℕ) (s : List ℕ) (capacity : ℕ) (r : Rule) : Type 1 where
-  pub no-model : (countedOf (buildingOf limit s capacity) ≡ Refused 8 0) ↔ ((m : Model) → Satisfies m r → ⊥)
-  pub no-finite : (countedOf (buildingOf limit s capacity) ≡ Refused 8 0) ↔ ((m : Model) → Finite m → Satisfies m r → ⊥)
-  pub no-phone : (countedOf (buildingOf limit s capacity) ≡ Refused 8 0) ↔ ((y : Phone) → PhoneWithinLimits y → Satisfies (modelOf y) r → ⊥)
+  pub no-model : (countedOf (fillingOf limit s capacity) ≡ Refused 8 0) ↔ ((m : Model) → Satisfies m r → ⊥)
+  pub no-finite : (countedOf (fillingOf limit s capacity) ≡ Refused 8 0) ↔ ((m : Model) → Finite m → Satisfies m r → ⊥)
+  pub no-phone : (countedOf (fillingOf limit s capacity) ≡ Refused 8 0) ↔ ((y : Phone) → PhoneWithinLimits y → Satisfies (modelOf y) r → ⊥)
 
 abbrev pub RefusesUnsatisfiable : Type 1
 RefusesUnsatisfiable =

@@ -5,7 +5,7 @@ use mathlib.Core.Logic.{_↔_}
 use mathlib.Core.Bool.{Bool, false}
 use mathlib.Core.List.{List}
 use lib.ListN.{length, getD}
-use Rattle.synthesis.specs.Monitor.{rowOf, lookup}
+use Rattle.synthesis.specs.Monitor.{mark, most, rowOf, lookup}
 use Rattle.synthesis.specs.Table.{WellFormedTable}
 use Rattle.models.specs.Phone.{Phone, noStep, modelOf, WellFormedStep}
 use Rattle.models.specs.Exploring.{ReachablePair, NeverDrops, Chains, LinksInRange, Seen, Worklist, Outgoing, Followed, PartlyExpanded}
@@ -38,7 +38,7 @@ rowAt table pair = rowOf 256 table (pair / 64)
 
 -- the pair of this number is reachable in a phone model
 abbrev pub ReachablePairNumber : (table : List ℕ) → Phone → (pair : ℕ) → Type 0
-ReachablePairNumber table y pair = ReachablePair (lookup 256 255 table) 0 (modelOf y) (pair % 64) (pair / 64)
+ReachablePairNumber table y pair = ReachablePair (lookup 256 mark table) 0 (modelOf y) (pair % 64) (pair / 64)
 
 module _ (steps : List Step) (l : Links) (table : List ℕ) where
   -- the pair has been expanded: each of its outgoing steps has been followed
@@ -49,7 +49,7 @@ module _ (steps : List Step) (l : Links) (table : List ℕ) where
   pub record Explored (seen pairs : List ℕ) (found n : ℕ) : Type 0 where
     pub worklist : Worklist seen pairs found
     pub start-seen : Seen seen 0
-    pub inside : (count : ℕ) → WellFormedTable 128 255 count table → (p : ℕ) → Seen seen p → p / 64 < count
+    pub inside : (count : ℕ) → WellFormedTable most mark count table → (p : ℕ) → Seen seen p → p / 64 < count
     pub seen-reachable : (y : Phone) → OfPhone steps l y → (p : ℕ) → Seen seen p → ReachablePairNumber table y p
     pub expanded : (k : ℕ) → k < n → Expanded seen (getD pairs k 0)
 
@@ -69,11 +69,11 @@ module _ (steps : List Step) (l : Links) (table : List ℕ) where
     pub steps-range : (i : ℕ) → WellFormedStep 64 (getD steps i noStep)
     pub links-range : LinksInRange l
     pub count : ℕ
-    pub well-formed : WellFormedTable 128 255 count table
+    pub well-formed : WellFormedTable most mark count table
 
   -- what the end of a search says of each phone model that has the records and the links
   abbrev pub Searched : (dropped : Bool) → Type 0
-  Searched dropped = (y : Phone) → OfPhone steps l y → (dropped ≡ false) ↔ NeverDrops (lookup 256 255 table) 0 (modelOf y)
+  Searched dropped = (y : Phone) → OfPhone steps l y → (dropped ≡ false) ↔ NeverDrops (lookup 256 mark table) 0 (modelOf y)
 
   -- the invariant of the search: what is known where it is at a cursor
   pub record SearchInvariant (seen pairs : List ℕ) (at : Cursor) : Type 0 where

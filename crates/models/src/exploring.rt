@@ -11,7 +11,7 @@ ghost use mathlib.Core.Bool.{true};
 ghost use mathlib.Core.List.{List};
 ghost use Prim.Native.Nat.{ℕ, _+_, _*_, _-_, _≤_, _<_};
 ghost use lib.ListN.{length, getD};
-ghost use Rattle.synthesis.specs.Monitor.{rowOf, lookup};
+ghost use Rattle.synthesis.specs.Monitor.{mark, most, rowOf, lookup};
 ghost use Rattle.synthesis.specs.Table.{WellFormedTable};
 ghost use Rattle.models.specs.Phone.{Phone, noStep, modelOf};
 ghost use Rattle.models.specs.Judging.{stored};
@@ -180,8 +180,8 @@ fn search_array(
 
 // Whether no pair that is reached has a step that is dropped. Each pair is expanded once.
 pub(crate) fn never_drops(model: PhoneModel, table: &[u8]) -> bool
-    requires { ⌜ HasPhone model × ((count : ℕ) × WellFormedTable 128 255 count (now table)) ⌝ }
-    ensures { λ r. ⌜ ((y : Phone) → model ≡ stored y → (r ≡ true) ↔ NeverDrops (lookup 256 255 (now (table .entry))) 0 (modelOf y)) ⌝ }
+    requires { ⌜ HasPhone model × ((count : ℕ) × WellFormedTable most mark count (now table)) ⌝ }
+    ensures { λ r. ⌜ ((y : Phone) → model ≡ stored y → (r ≡ true) ↔ NeverDrops (lookup 256 mark (now (table .entry))) 0 (modelOf y)) ⌝ }
 {
     let links = links::of_model(model);
     let steps = model.steps;

@@ -10,7 +10,8 @@ use records::StatesRead;
 use synthesis::Counted;
 ghost use mathlib.Core.Path.{_≡_};
 ghost use lib.ListN.{length};
-ghost use Rattle.synthesis.specs.Building.{buildingOf, countedOf, tableAfter};
+ghost use Rattle.synthesis.specs.Monitor.{mark, most};
+ghost use Rattle.synthesis.specs.Building.{fillingOf, countedOf, tableAfter};
 ghost use Rattle.models.specs.Phone.{phoneOf};
 ghost use Rattle.models.specs.Judging.{blank, modelReadingOf, judgingOf, JudgedAs, tableJudged};
 ghost use Rattle.models.specs.Readings.{ruleRefusal, modelRefusal, refusalBefore};
@@ -111,7 +112,7 @@ fn refuse_model(answer: FileRead) -> Judged
 
 // What is said where the model is refused: 10 and the refusals of the rule come first.
 fn refuse(rule: &[u8], capacity: usize, answer: FileRead) -> Judged
-    ensures { λ r. ⌜ r ≡ refusalBefore (countedOf (buildingOf 128 (now (rule .entry)) capacity)) answer ⌝ }
+    ensures { λ r. ⌜ r ≡ refusalBefore (countedOf (fillingOf most (now (rule .entry)) capacity)) answer ⌝ }
 {
     if capacity < 32768 {
         return Judged::Refused(10, 0);
@@ -126,10 +127,10 @@ fn refuse(rule: &[u8], capacity: usize, answer: FileRead) -> Judged
 // Judges whether the model of a file meets the rule of another, and leaves the rule's rows in the table as building does. A refused call
 // leaves the table as it was: the model is read before a row is written.
 pub fn judge(rule: &[u8], model: &[u8], table: &mut [u8]) -> Judged
-    ensures { λ r. ⌜ JudgedAs (judgingOf 128 (now (rule .entry)) (length (now (table .entry))) (now (model .entry))) r ⌝ }
+    ensures { λ r. ⌜ JudgedAs (judgingOf most (now (rule .entry)) (length (now (table .entry))) (now (model .entry))) r ⌝ }
     ensures { λ _. ⌜ now (table .exit)
-        ≡ tableJudged (judgingOf 128 (now (rule .entry)) (length (now (table .entry))) (now (model .entry)))
-        (tableAfter 255 (buildingOf 128 (now (rule .entry)) (length (now (table .entry)))) (now (table .entry)))
+        ≡ tableJudged (judgingOf most (now (rule .entry)) (length (now (table .entry))) (now (model .entry)))
+        (tableAfter mark (fillingOf most (now (rule .entry)) (length (now (table .entry)))) (now (table .entry)))
         (now (table .entry)) ⌝ }
 {
     let reading = read_model(model);
@@ -137,7 +138,7 @@ pub fn judge(rule: &[u8], model: &[u8], table: &mut [u8]) -> Judged
     let FileRead::Accepted = answer else {
         return refuse(rule, table.len(), answer);
     };
-    let built = synthesis::build(rule, table);
+    let built = synthesis::fill(rule, table);
     let Counted::Equations(_) = built else {
         return refuse_rule(built);
     };

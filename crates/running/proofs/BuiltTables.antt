@@ -1,8 +1,8 @@
--- No call on a well-formed table is unfit, since a run on it stays inside it; and both builds leave one.
+-- No call on a well-formed table is unfit, since a run on it stays inside it; and both fillings leave one.
 use lib.ListN.{length}
 use Rattle.synthesis.proofs.Tables.WellFormedTables.{same-rows-well-formed}
 use Rattle.synthesis.proofs.Tables.Built.{built-well-formed}
-use Rattle.synthesis.proofs.Quotients.ShortBuilds.{short-in-range}
+use Rattle.synthesis.proofs.Quotients.ShortFillings.{short-in-range}
 use Rattle.running.specs.Promises.{NeverUnfit, ShortNeverUnfit, WellFormedNotUnfit}
 use Rattle.running.proofs.Refusals.{runs-on-tables}
 use Rattle.running.proofs.Histories.{one-run}

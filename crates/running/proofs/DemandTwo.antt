@@ -17,7 +17,7 @@ use Rattle.synthesis.proofs.Monitors.Verdicts.{verdicts-range, verdicts-take, d
 use Rattle.synthesis.proofs.Monitors.MonitorLaws.{drops-violations, kept-safe}
 use Rattle.synthesis.proofs.Monitors.Renaming.{Renames, renamed-monitors}
 use Rattle.synthesis.proofs.Tables.Built.{table-monitors, built-well-formed}
-use Rattle.synthesis.proofs.Quotients.ShortBuilds.{short-monitors, short-in-range}
+use Rattle.synthesis.proofs.Quotients.ShortFillings.{short-monitors, short-in-range}
 use Rattle.running.specs.Running.{start, moved, answerIn}
 use Rattle.running.specs.Calls.{History, withVerdict}
 use Rattle.running.specs.Promises.{Sifted, DropsExactly, ShortDropsExactly, MonitorsSift}

@@ -18,8 +18,8 @@ use Rattle.synthesis.specs.declared.Reason.the-variants.{Kept, Node, Refused}
 use Rattle.synthesis.proofs.Tables.Equations.{file-well-formed}
 use Rattle.synthesis.proofs.Monitors.Runs.{kept-all, ended-kept}
 use Rattle.synthesis.proofs.Monitors.Renaming.{renamed-runs}
-use Rattle.synthesis.proofs.Tables.Built.{built-well-formed, builds-counted}
-use Rattle.synthesis.proofs.Quotients.ShortTables.{builds-long}
+use Rattle.synthesis.proofs.Tables.Built.{built-well-formed, fills-counted}
+use Rattle.synthesis.proofs.Quotients.ShortTables.{short-fills-counted}
 use Rattle.synthesis.proofs.Reasons.Fronts.{extended, first-violates}
 use Rattle.synthesis.proofs.Reasons.Alone.{violates-somewhere}
 use Rattle.synthesis.proofs.Reasons.Explained.{reasons-exactly}
@@ -107,11 +107,11 @@ sifted-reasoned {limit} {s} {r} {n} bytes read counted h sifted = record {
 
 pub reasons-of-runs : ReasonsOfRuns
 reasons-of-runs limit mark s table r n left b h calls =
-    sifted-reasoned (b .bytes) (b .read) (builds-counted b) h (drops-exactly limit mark s table r n left b h calls)
+    sifted-reasoned (b .bytes) (b .read) (fills-counted b) h (drops-exactly limit mark s table r n left b h calls)
 
 pub short-reasons-of-runs : ShortReasonsOfRuns
 short-reasons-of-runs limit mark s table r n left b h calls =
-    sifted-reasoned (b .bytes) (b .read) (builds-counted (builds-long b)) h (short-drops-exactly limit mark s table r n left b h calls)
+    sifted-reasoned (b .bytes) (b .read) (short-fills-counted b) h (short-drops-exactly limit mark s table r n left b h calls)
 
 -- ---- another list to the same equation
 

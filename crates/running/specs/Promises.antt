@@ -1,5 +1,6 @@
 -- What this crate promises, as statements over the definitions; proofs/ has a theorem of each of these types. The limit on equations and
--- the mark for dropped are any; with 128 and 255 these are the terms of the contracts of `run` and of building.
+-- the mark for dropped are any; with `most` and `mark` these are the terms of the contracts of `run`, `fill` and
+-- `fill_short`.
 use Prim.Native.Nat.{ℕ, _+_, _*_, _≤_, _<_}
 use mathlib.Core.Path.{_≡_}
 use mathlib.Core.Logic.{_↔_, _⊎_}
@@ -11,7 +12,7 @@ use Rattle.reading.specs.File.{Outcome, accepted}
 use Rattle.synthesis.specs.Violation.{ViolatesRule}
 use Rattle.synthesis.specs.Monitor.{dropped, cases, next, ended, Monitors, meaning, lookup}
 use Rattle.synthesis.specs.Table.{WellFormedTable}
-use Rattle.synthesis.specs.Building.{Builds, BuildsShort}
+use Rattle.synthesis.specs.Building.{Fills, FillsShort}
 use Rattle.synthesis.specs.Reason.{explanationOf, reasonOf}
 use Rattle.synthesis.specs.declared.Reason.{Reason}
 use Rattle.synthesis.specs.declared.Reason.the-variants.{Kept, Node}
@@ -24,7 +25,7 @@ use Rattle.running.specs.declared.Checked.the-variants.{Fit, Refused}
 
 -- ---- scans are dropped by the rule
 
--- 1. Demand 2. After any number of calls on the table that building leaves, a scan has verdict 1 exactly when the scans kept before it,
+-- 1. Demand 2. After any number of calls on the table that filling leaves, a scan has verdict 1 exactly when the scans kept before it,
 -- with it after them, violate the rule. What was kept doesn't.
 pub record Sifted (r : Rule) (h : History) : Type 0 where
   pub one-each : length (h .verdicts) ≡ length (h .scans)
@@ -40,12 +41,12 @@ SiftsOn limit mark r n table = (h : History) → Calls limit mark (OnTableOrRefu
 
 abbrev pub DropsExactly : Type 0
 DropsExactly =
-    (limit mark : ℕ) (s table : List ℕ) (r : Rule) (n : ℕ) (left : List ℕ) → Builds limit mark s table r n left → SiftsOn limit mark r n left
+    (limit mark : ℕ) (s table : List ℕ) (r : Rule) (n : ℕ) (left : List ℕ) → Fills limit mark s table r n left → SiftsOn limit mark r n left
 
--- So too on the table that the short build leaves, and on any other that is well formed and monitors a rule.
+-- So too on the filled short table, and on any other that is well formed and monitors a rule.
 abbrev pub ShortDropsExactly : Type 0
 ShortDropsExactly =
-    (limit mark : ℕ) (s table : List ℕ) (r : Rule) (n : ℕ) (left : List ℕ) → BuildsShort limit mark s table r n left → SiftsOn limit mark r n left
+    (limit mark : ℕ) (s table : List ℕ) (r : Rule) (n : ℕ) (left : List ℕ) → FillsShort limit mark s table r n left → SiftsOn limit mark r n left
 
 abbrev pub MonitorsSift : Type 0
 MonitorsSift =
@@ -123,15 +124,15 @@ NotUnfit limit mark n table =
     (h : History) → Calls limit mark (OnTableOrRefused limit mark table n) h → (c : Call) → OnTable table n c
     → checkedOf (outcomeOf limit mark (h .state) c) ≡ Refused 16 0 → ⊥
 
--- So it is with the table that building leaves.
+-- So it is with the table that filling leaves.
 abbrev pub NeverUnfit : Type 0
 NeverUnfit =
-    (limit mark : ℕ) (s table : List ℕ) (r : Rule) (n : ℕ) (left : List ℕ) → Builds limit mark s table r n left → NotUnfit limit mark n left
+    (limit mark : ℕ) (s table : List ℕ) (r : Rule) (n : ℕ) (left : List ℕ) → Fills limit mark s table r n left → NotUnfit limit mark n left
 
--- So too with the table that the short build leaves, and with any other well-formed table.
+-- So too with the filled short table, and with any other well-formed table.
 abbrev pub ShortNeverUnfit : Type 0
 ShortNeverUnfit =
-    (limit mark : ℕ) (s table : List ℕ) (r : Rule) (n : ℕ) (left : List ℕ) → BuildsShort limit mark s table r n left → NotUnfit limit mark n left
+    (limit mark : ℕ) (s table : List ℕ) (r : Rule) (n : ℕ) (left : List ℕ) → FillsShort limit mark s table r n left → NotUnfit limit mark n left
 
 abbrev pub WellFormedNotUnfit : Type 0
 WellFormedNotUnfit = (limit mark n : ℕ) (table : List ℕ) → WellFormedTable limit mark n table → NotUnfit limit mark n table
@@ -184,23 +185,23 @@ pub record Reasoned (limit : ℕ) (s : List ℕ) (h : History) : Type 0 where
   pub kept : (i : ℕ) → i < length (h .scans) → (getD (h .verdicts) i 0 ≡ 0) ↔ (reasonAfter limit s h i (getD (h .scans) i 0) ≡ Kept)
   pub fit : (i c number place : ℕ) → reasonAfter limit s h i c ≡ Reason′.Refused number place → ⊥
 
--- After any calls as in 1 this holds of the rule file that was built, by the first build or by the short one.
+-- After any calls as in 1 this holds of the rule file from which the table was filled, the long one or the short one.
 abbrev pub ReasonsOn : (limit mark : ℕ) → (s : List ℕ) → (n : ℕ) → (table : List ℕ) → Type 0
 ReasonsOn limit mark s n table = (h : History) → Calls limit mark (OnTableOrRefused limit mark table n) h → Reasoned limit s h
 
 abbrev pub ReasonsOfRuns : Type 0
 ReasonsOfRuns =
-    (limit mark : ℕ) (s table : List ℕ) (r : Rule) (n : ℕ) (left : List ℕ) → Builds limit mark s table r n left → ReasonsOn limit mark s n left
+    (limit mark : ℕ) (s table : List ℕ) (r : Rule) (n : ℕ) (left : List ℕ) → Fills limit mark s table r n left → ReasonsOn limit mark s n left
 
 abbrev pub ShortReasonsOfRuns : Type 0
 ShortReasonsOfRuns =
-    (limit mark : ℕ) (s table : List ℕ) (r : Rule) (n : ℕ) (left : List ℕ) → BuildsShort limit mark s table r n left → ReasonsOn limit mark s n left
+    (limit mark : ℕ) (s table : List ℕ) (r : Rule) (n : ℕ) (left : List ℕ) → FillsShort limit mark s table r n left → ReasonsOn limit mark s n left
 
--- Any list that doesn't violate the rule and ends, over the table of the first build, in the equation of the caller's state gives every scan the reason
+-- Any list that doesn't violate the rule and ends, over the long table, in the equation of the caller's state gives every scan the reason
 -- that what was kept gives. Over the short table this fails: merged equations drop alike, but not for the same reasons (`MergedReasons` of `examples`).
 abbrev pub ReasonsByState : Type 0
 ReasonsByState =
-    (limit mark : ℕ) (s table : List ℕ) (r : Rule) (n : ℕ) (left : List ℕ) → Builds limit mark s table r n left
+    (limit mark : ℕ) (s table : List ℕ) (r : Rule) (n : ℕ) (left : List ℕ) → Fills limit mark s table r n left
     → (h : History) → Calls limit mark (OnTableOrRefused limit mark left n) h
     → (w : List ℕ) → Bytes w → (ViolatesRule r w → ⊥) → ended (lookup 256 mark left) 0 w ≡ h .state .equation
     → (c : ℕ) → reasonOf (explanationOf limit s w c) ≡ reasonOf (explanationOf limit s (h .kept) c)

@@ -1,5 +1,5 @@
 -- A run over scans, on any table: when it is refused, and else what it keeps, judges and leaves. The limit on equations and the mark for
--- dropped are any; the paper's are 128 and 255.
+-- dropped are any; the paper's are `most` and `mark`.
 use Prim.Native.Nat.{ℕ, suc, _*_}
 use mathlib.Core.Bool.{Bool, true, not, cond, _&&_, _||_}
 use mathlib.Core.List.{List, [], _∷_, _++_}

@@ -2,12 +2,14 @@
 use crate::Checked;
 use crate::State;
 use synthesis::DROPPED;
+use synthesis::MOST;
 ghost use mathlib.Core.Path.{_≡_};
+ghost use Rattle.synthesis.specs.Monitor.{mark, most};
 ghost use Rattle.running.specs.Running.{inRange, entriesInRange, isWellFormed, fits, hasRoom, runOf, checkedOf};
 
 // Whether an entry is the mark for dropped or the number of an equation.
 fn in_range(entry: u8, count: u8) -> bool
-    ensures { λ r. ⌜ r ≡ inRange 255 count entry ⌝ }
+    ensures { λ r. ⌜ r ≡ inRange mark count entry ⌝ }
 {
     if entry == DROPPED {
         return true;
@@ -17,7 +19,7 @@ fn in_range(entry: u8, count: u8) -> bool
 
 // Whether all entries are in range. There is no way out before the last, so that many can be looked at in one step.
 fn entries_in_range(entries: &[u8], count: u8) -> bool
-    ensures { λ r. ⌜ r ≡ entriesInRange 255 count (now (entries .entry)) ⌝ }
+    ensures { λ r. ⌜ r ≡ entriesInRange mark count (now (entries .entry)) ⌝ }
 {
     let mut all = true;
     let mut i = 0;
@@ -31,12 +33,12 @@ fn entries_in_range(entries: &[u8], count: u8) -> bool
 
 // Whether the table is well formed for so many equations.
 fn is_well_formed(table: &[u8], count: usize) -> bool
-    ensures { λ r. ⌜ r ≡ isWellFormed 128 255 (now (table .entry)) count ⌝ }
+    ensures { λ r. ⌜ r ≡ isWellFormed most mark (now (table .entry)) count ⌝ }
 {
     if count == 0 {
         return false;
     }
-    if 128 < count {
+    if MOST < count {
         return false;
     }
     let end = 256 * count;
@@ -48,7 +50,7 @@ fn is_well_formed(table: &[u8], count: usize) -> bool
 
 // Whether it is, and the state's equation is one of them.
 fn fits(table: &[u8], count: usize, state: State) -> bool
-    ensures { λ r. ⌜ r ≡ fits 128 255 (now (table .entry)) count state ⌝ }
+    ensures { λ r. ⌜ r ≡ fits most mark (now (table .entry)) count state ⌝ }
 {
     if !is_well_formed(table, count) {
         return false;
@@ -75,7 +77,7 @@ pub(crate) fn check(
     output: usize,
     verdicts: usize,
 ) -> Checked
-    ensures { λ r. ⌜ r ≡ checkedOf (runOf 128 255 (now (table .entry)) count state (now (scans .entry)) output verdicts) ⌝ }
+    ensures { λ r. ⌜ r ≡ checkedOf (runOf most mark (now (table .entry)) count state (now (scans .entry)) output verdicts) ⌝ }
 {
     let room = has_room(scans, output, verdicts);
     let is_fit = fits(table, count, state);

@@ -6,7 +6,7 @@ ghost use mathlib.Core.Path.{_≡_};
 ghost use mathlib.Core.Bool.{cond};
 ghost use Prim.Native.Nat.{_≤_, _<_};
 ghost use lib.ListN.{length, getD};
-ghost use Rattle.synthesis.specs.Monitor.{rowOf};
+ghost use Rattle.synthesis.specs.Monitor.{mark, most, rowOf};
 ghost use Rattle.running.specs.Running.{runFrom, overlay};
 
 // Where the loop ends: the state, and how many scans were kept.
@@ -17,7 +17,7 @@ pub(crate) struct End {
 
 // The entry of an equation for a code, from the row of the equation; DROPPED where the row has none.
 fn entry(table: &[u8], equation: usize, code: u8) -> usize
-    ensures { λ r. ⌜ r ≡ getD (rowOf 256 (now (table .entry)) equation) code 255 ⌝ }
+    ensures { λ r. ⌜ r ≡ getD (rowOf 256 (now (table .entry)) equation) code mark ⌝ }
     ensures { λ r. ⌜ r < 256 ⌝ }
 {
     let entries = row(table, equation);
@@ -51,12 +51,12 @@ pub(crate) fn follow(
     output: &mut [u8],
     verdicts: &mut [u8],
 ) -> End
-    requires { ⌜ (state .equation < 128) × (length (now scans) ≤ length (now output)) × (length (now scans) ≤ length (now verdicts)) ⌝ }
-    ensures { λ r. ⌜ r .state ≡ runFrom 255 (now (table .entry)) state (now (scans .entry)) .state ⌝ }
-    ensures { λ r. ⌜ r .kept ≡ length (runFrom 255 (now (table .entry)) state (now (scans .entry)) .kept) ⌝ }
-    ensures { λ _. ⌜ now (output .exit) ≡ overlay (runFrom 255 (now (table .entry)) state (now (scans .entry)) .kept) (now (output .entry)) ⌝ }
+    requires { ⌜ (state .equation < most) × (length (now scans) ≤ length (now output)) × (length (now scans) ≤ length (now verdicts)) ⌝ }
+    ensures { λ r. ⌜ r .state ≡ runFrom mark (now (table .entry)) state (now (scans .entry)) .state ⌝ }
+    ensures { λ r. ⌜ r .kept ≡ length (runFrom mark (now (table .entry)) state (now (scans .entry)) .kept) ⌝ }
+    ensures { λ _. ⌜ now (output .exit) ≡ overlay (runFrom mark (now (table .entry)) state (now (scans .entry)) .kept) (now (output .entry)) ⌝ }
     ensures { λ _. ⌜ now (verdicts .exit)
-        ≡ overlay (runFrom 255 (now (table .entry)) state (now (scans .entry)) .verdicts) (now (verdicts .entry)) ⌝ }
+        ≡ overlay (runFrom mark (now (table .entry)) state (now (scans .entry)) .verdicts) (now (verdicts .entry)) ⌝ }
 {
     let mut from = 256 * state.equation;
     let mut kept = 0;

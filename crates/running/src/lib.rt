@@ -6,6 +6,7 @@ use checking::check;
 use following::follow;
 ghost use mathlib.Core.Path.{_≡_};
 ghost use lib.ListN.{length};
+ghost use Rattle.synthesis.specs.Monitor.{mark, most};
 ghost use Rattle.running.specs.Running.{start, runOf, resultOf, outputAfter, verdictsAfter};
 
 // The state of a run: the number of its equation.
@@ -45,12 +46,12 @@ pub fn run(
     verdicts: &mut [u8],
 ) -> RunResult
     ensures { λ r. ⌜ r ≡ resultOf state
-        (runOf 128 255 (now (table .entry)) count state (now (scans .entry)) (length (now (output .entry))) (length (now (verdicts .entry)))) ⌝ }
+        (runOf most mark (now (table .entry)) count state (now (scans .entry)) (length (now (output .entry))) (length (now (verdicts .entry)))) ⌝ }
     ensures { λ _. ⌜ now (output .exit) ≡ outputAfter
-        (runOf 128 255 (now (table .entry)) count state (now (scans .entry)) (length (now (output .entry))) (length (now (verdicts .entry))))
+        (runOf most mark (now (table .entry)) count state (now (scans .entry)) (length (now (output .entry))) (length (now (verdicts .entry))))
         (now (output .entry)) ⌝ }
     ensures { λ _. ⌜ now (verdicts .exit) ≡ verdictsAfter
-        (runOf 128 255 (now (table .entry)) count state (now (scans .entry)) (length (now (output .entry))) (length (now (verdicts .entry))))
+        (runOf most mark (now (table .entry)) count state (now (scans .entry)) (length (now (output .entry))) (length (now (verdicts .entry))))
         (now (verdicts .entry)) ⌝ }
 {
     let checked = check(table, count, state, scans, output.len(), verdicts.len());

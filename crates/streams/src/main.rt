@@ -17,8 +17,8 @@ use printing::print_built;
 use printing::print_ran;
 use running::State;
 use testing::Head;
-use testing::built_count;
 use testing::fill;
+use testing::filled_count;
 use testing::read_byte;
 use testing::read_long;
 use testing::read_size;
@@ -65,10 +65,10 @@ fn read_rule(space: &mut [u8], table: &mut [u8]) -> Step {
     if io::read_full(STDIN_FILENO, space) < space.len() {
         return Step::Ended;
     }
-    let built = synthesis::build(space, table);
+    let built = synthesis::fill(space, table);
     print_built(built);
     Step::Next(Held {
-        count: built_count(built),
+        count: filled_count(built),
         state: running::start(),
     })
 }

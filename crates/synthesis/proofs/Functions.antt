@@ -10,7 +10,7 @@ pub mod Linking
 pub mod EnabledLaws
 pub mod GraphLaws
 pub mod PlanLaws
-pub mod BuildingWays
+pub mod FillingWays
 pub mod MergingRounds
 pub mod NumberingClasses
 pub mod ShortWays

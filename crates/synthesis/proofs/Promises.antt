@@ -4,8 +4,9 @@ use Rattle.synthesis.proofs.Unfolding.Extension.{closed-under-extension
 use Rattle.synthesis.proofs.Unfolding.OpeningLaws.{opens-as-defined}
 use Rattle.synthesis.proofs.Unfolding.AnsweringLaws.{answers-as-defined}
 use Rattle.synthesis.proofs.Unfolding.EquationLaws.{tracks-violation}
-use Rattle.synthesis.proofs.Tables.Equations.{answers-count, checks-table, refuses-too-many, reaches-equations}
-use Rattle.synthesis.proofs.Tables.Built.{refused-unchanged, builds-accepted, table-monitors, table-drops, refuses-violated-by-empty}
+use Rattle.synthesis.proofs.Tables.SynthesisOutcomes.{fills-as-counted}
+use Rattle.synthesis.proofs.Tables.Equations.{answers-count, refuses-too-many, reaches-equations}
+use Rattle.synthesis.proofs.Tables.Built.{refused-unchanged, fills-accepted, table-monitors, table-drops, refuses-violated-by-empty}
 use Rattle.synthesis.proofs.Tables.Built.{built-well-formed, entries-answer, table-rest}
 use Rattle.synthesis.proofs.Monitors.MonitorLaws.{monitors-drop}
 use Rattle.synthesis.proofs.Unfolding.NodeSetLaws.{same-members-same-set}
@@ -23,9 +24,9 @@ promises = record {
   answers-as-defined = answers-as-defined;
   tracks-violation = tracks-violation;
   answers-count = answers-count;
-  checks-table = checks-table;
+  fills-as-counted = fills-as-counted;
   refused-unchanged = refused-unchanged;
-  builds-accepted = builds-accepted;
+  fills-accepted = fills-accepted;
   table-monitors = table-monitors;
   monitors-drop = monitors-drop;
   table-drops = table-drops;

@@ -7,7 +7,7 @@ pub mod Refinement
 pub mod Firsts
 pub mod Quotient
 pub mod ShortTables
-pub mod ShortBuilds
+pub mod ShortFillings
 pub mod Minimal
 pub mod ShortOrder
 pub mod OnlyTable

@@ -1,4 +1,4 @@
--- Rows, tables as monitors, and what counting and building promise.
+-- Rows, tables as monitors, and what counting and filling promise.
 pub mod Rows
 pub mod WellFormedTables
 pub mod FilledTables

@@ -1,5 +1,5 @@
--- What counting and the two builds answer, and what the builds leave in the table that they are lent. The limit on equations and the mark for
--- dropped are any; the paper's are `most` and `mark`.
+-- What counting and filling answer, and what filling leaves in the table that it is lent: the table of a rule's equations, which is the long one, and
+-- the short one. The limit on equations and the mark for dropped are any; the paper's are `most` and `mark`.
 use Prim.Native.Nat.{ℕ, _*_, _≤_}
 use mathlib.Core.Path.{_≡_}
 use mathlib.Core.List.{List}
@@ -19,8 +19,8 @@ use Rattle.synthesis.specs.declared.Counted.the-variants.{Equations, Ref
 unfoldable pub equationsOf : (limit : ℕ) → Rule → List ℕ
 equationsOf limit r = found 256 (answerOf r) limit (firstOf r)
 
--- A rule, its equations as numbers, and what each of these answers to a code. By the first build the numbers are sets of nodes; by the short one they are
--- the numbers of equations of the first.
+-- A rule, its equations as numbers, and what each of these answers to a code. For the long table the numbers are sets of nodes; for the short one they
+-- are the numbers of rows of the long one.
 pub record Synthesis : Type 0 where
   pub rule : Rule
   pub equations : List ℕ
@@ -41,9 +41,13 @@ synthesisOfRule limit r =
 unfoldable pub synthesisOf : (limit : ℕ) → List ℕ → Outcome Synthesis
 synthesisOf limit s = andThen (ruleOf s) (synthesisOfRule limit)
 
--- The outcome of building, with a table of so many bytes for the rows: 10 where it is too short, and else that of counting.
-unfoldable pub buildingOf : (limit : ℕ) → List ℕ → (capacity : ℕ) → Outcome Synthesis
-buildingOf limit s capacity = refuse (ltb capacity (256 * limit)) 10 0 (synthesisOf limit s)
+-- The outcome of these equations in a table of so many bytes: 10 where their rows don't fit, 256 bytes each.
+abbrev pub inTable : (capacity : ℕ) → Synthesis → Outcome Synthesis
+inTable capacity y = refuse (ltb capacity (256 * length (y .equations))) 10 0 (accepted y)
+
+-- The outcome of filling a table of so many bytes: that of counting, and then whether the rows fit.
+unfoldable pub fillingOf : (limit : ℕ) → List ℕ → (capacity : ℕ) → Outcome Synthesis
+fillingOf limit s capacity = andThen (synthesisOf limit s) (inTable capacity)
 
 -- The answer of each outcome: the count of equations, or the refusal with the paper's number and place.
 abbrev pub countedOf : Outcome Synthesis → Counted
@@ -55,11 +59,11 @@ abbrev pub tableAfter : (mark : ℕ) → Outcome Synthesis → List ℕ → List
 tableAfter mark (accepted y) table = filled mark (y .answer) (y .equations) 256 table
 tableAfter mark (refused number place) table = table
 
--- what building leaves in a table
+-- what filling leaves in a table
 abbrev pub tableLeft : (limit mark : ℕ) → (s table : List ℕ) → List ℕ
-tableLeft limit mark s table = tableAfter mark (buildingOf limit s (length table)) table
+tableLeft limit mark s table = tableAfter mark (fillingOf limit s (length table)) table
 
--- ---- the short build
+-- ---- the short table
 
 -- what equation k, by its number, answers to a code, with the number of an equation for the equation
 abbrev pub numberedAnswer : Synthesis → (k c : ℕ) → Answer ℕ
@@ -77,15 +81,19 @@ shortened y = record {
   answer = merged (classesOf y) (numberedAnswer y);
 }
 
--- The outcome of the short build: that of building, and then its equations are merged. So 9 counts them before.
-unfoldable pub shortBuildingOf : (limit : ℕ) → List ℕ → (capacity : ℕ) → Outcome Synthesis
-shortBuildingOf limit s capacity = andThen (buildingOf limit s capacity) (λ y. accepted (shortened y))
+-- The outcome of counting the equations of the short table: that of counting, and then they are merged. So 9 counts them before.
+unfoldable pub shortOf : (limit : ℕ) → List ℕ → Outcome Synthesis
+shortOf limit s = andThen (synthesisOf limit s) (λ y. accepted (shortened y))
 
--- ---- what builds
+-- The outcome of filling the short table. Its own rows have to fit.
+unfoldable pub shortFillingOf : (limit : ℕ) → List ℕ → (capacity : ℕ) → Outcome Synthesis
+shortFillingOf limit s capacity = andThen (shortOf limit s) (inTable capacity)
 
--- By a build with these outcomes, the file s is accepted as the rule r, n equations are answered, and `left` is left in the table. The mark is no
+-- ---- what fills a table
+
+-- By a filling with these outcomes, the file s is accepted as the rule r, n equations are answered, and `left` is left in the table. The mark is no
 -- equation's number.
-pub record BuildsBy (outcomeOf : (limit : ℕ) → List ℕ → (capacity : ℕ) → Outcome Synthesis) (limit mark : ℕ) (s table : List ℕ) (r : Rule) (n : ℕ)
+pub record FillsBy (outcomeOf : (limit : ℕ) → List ℕ → (capacity : ℕ) → Outcome Synthesis) (limit mark : ℕ) (s table : List ℕ) (r : Rule) (n : ℕ)
     (left : List ℕ) : Type 0 where
   pub below : limit ≤ mark
   pub bytes : Bytes s
@@ -93,10 +101,10 @@ pub record BuildsBy (outcomeOf : (limit : ℕ) → List ℕ → (capacity : ℕ)
   pub counted : countedOf (outcomeOf limit s (length table)) ≡ Equations n
   pub left-is : left ≡ tableAfter mark (outcomeOf limit s (length table)) table
 
--- by the first build
-abbrev pub Builds : (limit mark : ℕ) → (s table : List ℕ) → Rule → (n : ℕ) → (left : List ℕ) → Type 0
-Builds limit mark s table r n left = BuildsBy buildingOf limit mark s table r n left
+-- the long table
+abbrev pub Fills : (limit mark : ℕ) → (s table : List ℕ) → Rule → (n : ℕ) → (left : List ℕ) → Type 0
+Fills limit mark s table r n left = FillsBy fillingOf limit mark s table r n left
 
--- by the short one
-abbrev pub BuildsShort : (limit mark : ℕ) → (s table : List ℕ) → Rule → (n : ℕ) → (left : List ℕ) → Type 0
-BuildsShort limit mark s table r n left = BuildsBy shortBuildingOf limit mark s table r n left
+-- the short one
+abbrev pub FillsShort : (limit mark : ℕ) → (s table : List ℕ) → Rule → (n : ℕ) → (left : List ℕ) → Type 0
+FillsShort limit mark s table r n left = FillsBy shortFillingOf limit mark s table r n left

@@ -14,7 +14,7 @@ use Rattle.synthesis.specs.NodeSet.{Has, emptySet}
 use Rattle.synthesis.specs.Opening.{Opens, OpensToFalsity, Answers, IsFirst, ViolatesEquation}
 use Rattle.synthesis.specs.Answering.{opening, opensAround, firstOf, answerOf}
 use Rattle.synthesis.specs.Table.{WellFormedTable}
-use Rattle.synthesis.specs.Building.{equationsOf, Synthesis, synthesisOf, buildingOf, countedOf, tableAfter, tableLeft, Builds}
+use Rattle.synthesis.specs.Building.{equationsOf, Synthesis, synthesisOf, fillingOf, countedOf, tableAfter, tableLeft, Fills}
 use Rattle.synthesis.specs.ReasonPromises.{ViolatesSomewhere, ReasonsExactly, ReasonsByEquation}
 use Rattle.synthesis.specs.declared.Counted.the-variants.{Equations, Refused}
 
@@ -72,34 +72,37 @@ pub record Counts (limit : ℕ) (s : List ℕ) (n : ℕ) : Type 0 where
 abbrev pub AnswersCount : Type 0
 AnswersCount = (limit : ℕ) (s : List ℕ) (n : ℕ) → countedOf (synthesisOf limit s) ≡ Equations n → Counts limit s n
 
--- Building looks at the table first; with one that is long enough it answers as counting does.
-pub record ChecksTable (limit : ℕ) (s : List ℕ) (capacity : ℕ) : Type 0 where
-  pub short : capacity < 256 * limit → buildingOf limit s capacity ≡ refused 10 0
-  pub enough : 256 * limit ≤ capacity → buildingOf limit s capacity ≡ synthesisOf limit s
+-- Filling a table of so many bytes goes by counting: it is refused where counting is, with the same number and place, and where counting answers n it
+-- answers n, if 256 × n bytes are there, and else 10. What it fills in is what was counted. Both tables are filled so.
+pub record FillsAsCounted (counting filling : Outcome Synthesis) (capacity : ℕ) : Type 0 where
+  pub refused : (number place : ℕ) → countedOf counting ≡ Refused number place → countedOf filling ≡ Refused number place
+  pub enough : (n : ℕ) → countedOf counting ≡ Equations n → 256 * n ≤ capacity → countedOf filling ≡ Equations n
+  pub too-short : (n : ℕ) → countedOf counting ≡ Equations n → capacity < 256 * n → countedOf filling ≡ Refused 10 0
+  pub same : (n : ℕ) → countedOf filling ≡ Equations n → filling ≡ counting
 
--- A building that is refused leaves every byte of what it is lent as it was: the table.
+-- A filling that is refused leaves every byte of what it is lent as it was: the table.
 pub record TableUnchanged (mark : ℕ) (before : List ℕ) (outcome : Outcome Synthesis) : Type 0 where
   pub table : tableAfter mark outcome before ≡ before
 
 abbrev pub RefusedUnchanged : Type 0
 RefusedUnchanged =
-    (limit mark : ℕ) (s table : List ℕ) (number place : ℕ) → countedOf (buildingOf limit s (length table)) ≡ Refused number place
-    → TableUnchanged mark table (buildingOf limit s (length table))
+    (limit mark : ℕ) (s table : List ℕ) (number place : ℕ) → countedOf (fillingOf limit s (length table)) ≡ Refused number place
+    → TableUnchanged mark table (fillingOf limit s (length table))
 
--- ---- the table that building leaves, as a monitor
+-- ---- the table that filling leaves, as a monitor
 
--- Where building answers a list of bytes with a count, and the limit is up to the mark, it builds: what is promised of each file that builds is promised
--- of each that isn't refused.
-abbrev pub BuildsAccepted : Type 0
-BuildsAccepted =
-    (limit mark : ℕ) (s table : List ℕ) (n : ℕ) → limit ≤ mark → Bytes s → countedOf (buildingOf limit s (length table)) ≡ Equations n
-    → (r : Rule) × Builds limit mark s table r n (tableLeft limit mark s table)
+-- Where filling answers a list of bytes with a count, and the limit is up to the mark, the file fills the table: what is promised of each file that does
+-- is promised of each that isn't refused.
+abbrev pub FillsAccepted : Type 0
+FillsAccepted =
+    (limit mark : ℕ) (s table : List ℕ) (n : ℕ) → limit ≤ mark → Bytes s → countedOf (fillingOf limit s (length table)) ≡ Equations n
+    → (r : Rule) × Fills limit mark s table r n (tableLeft limit mark s table)
 
--- 4. The table that building leaves monitors the rule, whatever it held before. The mark for dropped is any number that no equation
--- has; with 128 and 255 these are the terms of building's contract.
+-- 4. The table that filling leaves monitors the rule, whatever it held before. The mark for dropped is any number that no equation
+-- has; with `most` and `mark` these are the terms of the contract of `fill`.
 abbrev pub TableMonitors : Type 0
 TableMonitors =
-    (limit mark : ℕ) (s table : List ℕ) (r : Rule) (n : ℕ) (left : List ℕ) → Builds limit mark s table r n left
+    (limit mark : ℕ) (s table : List ℕ) (r : Rule) (n : ℕ) (left : List ℕ) → Fills limit mark s table r n left
     → Monitors r (lookup 256 mark left) 0
 
 -- A monitor drops a code exactly where the codes kept until then, with this one after them, violate the rule.
@@ -114,7 +117,7 @@ MonitorsDrop = (E : Type 0) (r : Rule) (answer : E → ℕ → Answer E) (first 
 -- So does the table.
 abbrev pub TableDrops : Type 0
 TableDrops =
-    (limit mark : ℕ) (s table : List ℕ) (r : Rule) (n : ℕ) (left : List ℕ) → Builds limit mark s table r n left
+    (limit mark : ℕ) (s table : List ℕ) (r : Rule) (n : ℕ) (left : List ℕ) → Fills limit mark s table r n left
     → DropsViolations r (lookup 256 mark left) 0
 
 -- ---- refusals of rules
@@ -191,7 +194,7 @@ OneNumbering =
 -- The table is well formed for its count: each equation has a whole row, whose entries are the mark or under the count.
 abbrev pub BuiltWellFormed : Type 0
 BuiltWellFormed =
-    (limit mark : ℕ) (s table : List ℕ) (r : Rule) (n : ℕ) (left : List ℕ) → Builds limit mark s table r n left
+    (limit mark : ℕ) (s table : List ℕ) (r : Rule) (n : ℕ) (left : List ℕ) → Fills limit mark s table r n left
     → WellFormedTable limit mark n left
 
 -- Row k is that of equation k: each entry, with the equation of its number for the number, is what equation k answers to the code.
@@ -201,7 +204,7 @@ pub record EntryAnswers (r : Rule) (es : List ℕ) (k c : ℕ) (a : Answer ℕ) 
 
 abbrev pub EntriesAnswer : Type 0
 EntriesAnswer =
-    (limit mark : ℕ) (s table : List ℕ) (r : Rule) (n : ℕ) (left : List ℕ) → Builds limit mark s table r n left
+    (limit mark : ℕ) (s table : List ℕ) (r : Rule) (n : ℕ) (left : List ℕ) → Fills limit mark s table r n left
     → (k c : ℕ) → k < n → c < 256 → EntryAnswers r (equationsOf limit r) k c (lookup 256 mark left k c)
 
 -- Behind the last row nothing changes, and the table keeps its length.
@@ -211,7 +214,7 @@ pub record SameAfterRows (count : ℕ) (before after : List ℕ) : Type 0 where
 
 abbrev pub TableRest : Type 0
 TableRest =
-    (limit mark : ℕ) (s table : List ℕ) (r : Rule) (n : ℕ) (left : List ℕ) → Builds limit mark s table r n left
+    (limit mark : ℕ) (s table : List ℕ) (r : Rule) (n : ℕ) (left : List ℕ) → Fills limit mark s table r n left
     → SameAfterRows n table left
 
 -- What `row` hands back, of any table and for any number: the entries of the row, byte 256 × k + c for the code c, where it is wholly inside the table,
@@ -233,9 +236,9 @@ pub record Promises : Type 1 where
   pub answers-as-defined : AnswersAsDefined
   pub tracks-violation : TracksViolation
   pub answers-count : AnswersCount
-  pub checks-table : (limit : ℕ) (s : List ℕ) (capacity : ℕ) → ChecksTable limit s capacity
+  pub fills-as-counted : (limit : ℕ) (s : List ℕ) (capacity : ℕ) → FillsAsCounted (synthesisOf limit s) (fillingOf limit s capacity) capacity
   pub refused-unchanged : RefusedUnchanged
-  pub builds-accepted : BuildsAccepted
+  pub fills-accepted : FillsAccepted
   pub table-monitors : TableMonitors
   pub monitors-drop : MonitorsDrop
   pub table-drops : TableDrops

@@ -11,7 +11,7 @@ use Rattle.synthesis.specs.Violation.{ViolatesRule}
 use Rattle.synthesis.specs.Monitor.{ended, lookup}
 use Rattle.synthesis.specs.Opening.{IsFalsity}
 use Rattle.synthesis.specs.Answering.{firstOf, answerOf}
-use Rattle.synthesis.specs.Building.{synthesisOf, countedOf, Builds}
+use Rattle.synthesis.specs.Building.{synthesisOf, countedOf, Fills}
 use Rattle.synthesis.specs.Reason.{ViolatesAt, onlyFalsity, LowestPlace, FirstViolated, LowestOpened, explanationOf, reasonOf}
 use Rattle.synthesis.specs.declared.Counted.the-variants as Counted
 use Rattle.synthesis.specs.declared.Reason.{Reason}
@@ -57,10 +57,10 @@ ReasonsExactly = (limit : ℕ) (s : List ℕ) → Bytes s → (w : List ℕ) (c 
 
 -- ---- by the equation alone
 
--- Under the table that building leaves, two lists that don't violate the rule and end in the same equation give every scan the same reason.
+-- Under the table that filling leaves, two lists that don't violate the rule and end in the same equation give every scan the same reason.
 abbrev pub ReasonsByEquation : Type 0
 ReasonsByEquation =
-    (limit mark : ℕ) (s table : List ℕ) (r : Rule) (n : ℕ) (left : List ℕ) → Builds limit mark s table r n left
+    (limit mark : ℕ) (s table : List ℕ) (r : Rule) (n : ℕ) (left : List ℕ) → Fills limit mark s table r n left
     → (w w′ : List ℕ) → Bytes w → Bytes w′ → (ViolatesRule r w → ⊥) → (ViolatesRule r w′ → ⊥)
     → ended (lookup 256 mark left) 0 w ≡ ended (lookup 256 mark left) 0 w′
     → (c : ℕ) → reasonOf (explanationOf limit s w c) ≡ reasonOf (explanationOf limit s w′ c)

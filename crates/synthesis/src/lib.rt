@@ -1,23 +1,31 @@
-// Builds the monitor of a rule as a table, and explains why it drops a scan. The definitions that the contracts cite stand in specs/.
+// Counts the equations of a rule, fills tables with its monitor, and explains why it drops a scan. The definitions that the contracts cite stand in specs/.
 mod explaining;
 mod filling;
 mod graph;
 mod merging;
 mod renumbering;
 mod search;
+mod shortening;
 
 use explaining::Followed;
 use graph::Graph;
 use reading::FileRead;
 ghost use mathlib.Core.Path.{_≡_};
+ghost use Prim.Native.Nat.{_≤_};
 ghost use lib.ListN.{length};
 ghost use Rattle.synthesis.specs.Monitor.{mark, most, rowOf};
-ghost use Rattle.synthesis.specs.Building.{synthesisOf, buildingOf, shortBuildingOf, countedOf, tableAfter};
+ghost use Rattle.synthesis.specs.Building.{synthesisOf, fillingOf, shortOf, shortFillingOf, countedOf, tableAfter};
 ghost use Rattle.synthesis.specs.Reason.{explanationOf, reasonOf};
 ghost use Rattle.synthesis.specs.Plans.{refusalOf, IsPlan};
 
 // The entry of a code that is dropped.
 pub const DROPPED: u8 = 255;
+
+// The most equations that a rule may have.
+pub const MOST: usize = 128;
+
+// The bytes of the rows of so many.
+const LONGEST: usize = 256 * MOST;
 
 // What is said of a rule file: how many equations its rule has, or a refusal with a number and a place.
 pub enum Counted {
@@ -36,7 +44,7 @@ pub enum Reason {
 struct Plan {
     answer: Counted,
     graph: Graph,
-    found: [u64; 128],
+    found: [u64; MOST],
 }
 
 // The refusal of a rule file that couldn't be read.
@@ -54,7 +62,7 @@ fn no_plan(answer: Counted) -> Plan
     ensures { λ r. ⌜ r .answer ≡ answer ⌝ }
 {
     let graph = graph::empty();
-    let found = [0u64; 128];
+    let found = [0u64; MOST];
     Plan {
         answer,
         graph,
@@ -63,8 +71,9 @@ fn no_plan(answer: Counted) -> Plan
 }
 
 // Reads a rule file and finds the equations of its rule.
-fn plan_of(rule: &[u8]) -> Plan
-    ensures { λ r. ⌜ IsPlan (synthesisOf most (now (rule .entry))) r ⌝ }
+fn plan_of(rule: &[u8], limit: usize) -> Plan
+    requires { ⌜ limit ≤ most ⌝ }
+    ensures { λ r. ⌜ IsPlan (synthesisOf limit (now (rule .entry))) r ⌝ }
 {
     let reading = reading::read_rule(rule);
     let answer = reading.answer;
@@ -75,11 +84,18 @@ fn plan_of(rule: &[u8]) -> Plan
     if graph.first & graph.falsities != 0 {
         return no_plan(Counted::Refused(8, 0));
     }
-    let mut found = [0u64; 128];
+    let mut found = [0u64; MOST];
     let after = graph.after;
     let enabled = graph.enabled;
-    let count = search::search(&after, &enabled, graph.falsities, graph.first, &mut found);
-    if 128 < count {
+    let count = search::search(
+        &after,
+        &enabled,
+        graph.falsities,
+        graph.first,
+        &mut found,
+        limit,
+    );
+    if limit < count {
         return no_plan(Counted::Refused(9, 0));
     }
     Plan {
@@ -93,44 +109,55 @@ fn plan_of(rule: &[u8]) -> Plan
 pub fn count(rule: &[u8]) -> Counted
     ensures { λ r. ⌜ r ≡ countedOf (synthesisOf most (now (rule .entry))) ⌝ }
 {
-    plan_of(rule).answer
+    plan_of(rule, MOST).answer
 }
 
-// Fills a table with a row for each equation of the rule of a file, and answers how many there are. A refused call leaves the table as it was.
-pub fn build(rule: &[u8], table: &mut [u8]) -> Counted
-    ensures { λ r. ⌜ r ≡ countedOf (buildingOf most (now (rule .entry)) (length (now (table .entry)))) ⌝ }
-    ensures { λ _. ⌜ now (table .exit) ≡ tableAfter mark (buildingOf most (now (rule .entry)) (length (now (table .entry)))) (now (table .entry)) ⌝ }
+// Fills a table with a row for each equation of the rule of a file, and answers how many there are: 1 to 9 as counting has it, and 10 where the rows don't
+// fit. A refused call leaves the table as it was.
+pub fn fill(rule: &[u8], table: &mut [u8]) -> Counted
+    ensures { λ r. ⌜ r ≡ countedOf (fillingOf most (now (rule .entry)) (length (now (table .entry)))) ⌝ }
+    ensures { λ _. ⌜ now (table .exit) ≡ tableAfter mark (fillingOf most (now (rule .entry)) (length (now (table .entry)))) (now (table .entry)) ⌝ }
 {
-    if table.len() < 32768 {
-        return Counted::Refused(10, 0);
-    }
-    let plan = plan_of(rule);
+    let plan = plan_of(rule, MOST);
     let answer = plan.answer;
     let Counted::Equations(n) = answer else {
         return answer;
     };
+    if table.len() < 256 * n {
+        return Counted::Refused(10, 0);
+    }
     let found = plan.found;
     filling::fill_table(plan.graph, found, n, table);
     answer
 }
 
-// Fills a table with a row for each class of equations that drop alike, and answers how many there are. A refused call leaves the table as it was.
-pub fn build_short(rule: &[u8], table: &mut [u8]) -> Counted
-    ensures { λ r. ⌜ r ≡ countedOf (shortBuildingOf most (now (rule .entry)) (length (now (table .entry)))) ⌝ }
-    ensures { λ _. ⌜ now (table .exit) ≡ tableAfter mark (shortBuildingOf most (now (rule .entry)) (length (now (table .entry)))) (now (table .entry)) ⌝ }
+// Answers how many equations the short table of the rule of a file has, one for each class of equations that drop alike, or a refusal of 1 to 9.
+pub fn count_short(rule: &[u8]) -> Counted
+    ensures { λ r. ⌜ r ≡ countedOf (shortOf most (now (rule .entry))) ⌝ }
 {
-    if table.len() < 32768 {
-        return Counted::Refused(10, 0);
-    }
-    let plan = plan_of(rule);
+    let mut long = [0u8; LONGEST];
+    shortening::short_plan_of(rule, &mut long).answer
+}
+
+// Fills a table with a row for each of these classes, and answers how many there are: 1 to 9 as counting has it, and 10 where the rows don't fit. A
+// refused call leaves the table as it was.
+pub fn fill_short(rule: &[u8], table: &mut [u8]) -> Counted
+    ensures { λ r. ⌜ r ≡ countedOf (shortFillingOf most (now (rule .entry)) (length (now (table .entry)))) ⌝ }
+    ensures { λ _. ⌜ now (table .exit) ≡ tableAfter mark (shortFillingOf most (now (rule .entry)) (length (now (table .entry)))) (now (table .entry)) ⌝ }
+{
+    let mut long = [0u8; LONGEST];
+    let plan = shortening::short_plan_of(rule, &mut long);
     let answer = plan.answer;
-    let Counted::Equations(count) = answer else {
+    let Counted::Equations(m) = answer else {
         return answer;
     };
-    let mut long = [0u8; 32768];
-    let found = plan.found;
-    filling::fill_table(plan.graph, found, count, &mut long);
-    Counted::Equations(renumbering::shorten(&long, count, table))
+    if table.len() < 256 * m {
+        return Counted::Refused(10, 0);
+    }
+    let firsts = plan.firsts;
+    let numbers = plan.numbers;
+    renumbering::fill_short_rows(&long, plan.equations, &firsts, m, &numbers, table);
+    answer
 }
 
 // The row of equation k, a part of the table; empty where it isn't wholly inside.
@@ -150,7 +177,7 @@ pub fn row(table: &[u8], k: usize) -> &[u8]
 pub fn explain(rule: &[u8], kept: &[u8], scan: u8) -> Reason
     ensures { λ r. ⌜ r ≡ reasonOf (explanationOf most (now (rule .entry)) (now (kept .entry)) scan) ⌝ }
 {
-    let plan = plan_of(rule);
+    let plan = plan_of(rule, MOST);
     let answer = plan.answer;
     let Counted::Equations(_) = answer else {
         return explaining::unexplained(answer);

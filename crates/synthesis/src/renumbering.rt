@@ -1,5 +1,6 @@
 // Numbers the classes of the equations of a table, and fills the short table, which has a row for each class.
 use crate::DROPPED;
+use crate::MOST;
 use crate::merging::merge_first;
 use crate::row;
 ghost use mathlib.Core.Path.{_≡_};
@@ -45,6 +46,22 @@ fn number(classes: &[u16], n: usize, firsts: &mut [u16], numbers: &mut [u16]) ->
     m
 }
 
+// The same for the classes of equations that drop alike in a long table of n rows.
+pub(crate) fn number_classes(
+    long: &[u8],
+    n: usize,
+    firsts: &mut [u16],
+    numbers: &mut [u16],
+) -> usize
+    requires { ⌜ WellFormedTable most mark n (now long) × (n ≤ length (now firsts)) × (n ≤ length (now numbers)) ⌝ }
+    ensures { λ r. ⌜ ClassesNumbered n (rounds 256 (lookup 256 mark (now (long .entry))) n n) r (now (firsts .exit)) (now (numbers .exit)) ⌝ }
+{
+    let mut classes = [0u16; MOST];
+    let mut next = [0u16; MOST];
+    merge_first(long, n, &mut classes, &mut next);
+    number(&classes, n, firsts, numbers)
+}
+
 // The entry of the short table for one of the long table: the number of its class for that of an equation.
 fn renumbered(x: u8, numbers: &[u16]) -> u8
     requires { ⌜ InRange mark (length (now numbers)) x × All (λ i. i < most) (now numbers) ⌝ }
@@ -72,7 +89,14 @@ fn fill_short_row(long: &[u8], k: usize, numbers: &[u16], short: &mut [u8])
 }
 
 // Fills a row for the first equation of each of m classes, with the numbers of the classes of n equations.
-fn fill_short(long: &[u8], n: usize, firsts: &[u16], m: usize, numbers: &[u16], table: &mut [u8])
+pub(crate) fn fill_short_rows(
+    long: &[u8],
+    n: usize,
+    firsts: &[u16],
+    m: usize,
+    numbers: &[u16],
+    table: &mut [u8],
+)
     requires { ⌜ WellFormedTable most mark n (now long) × (m ≤ length (now firsts)) × (n ≤ length (now numbers)) × (256 * m ≤ length (now table))
         × All (λ k. k < n) (take m (now firsts)) × All (λ i. i < most) (take n (now numbers)) ⌝ }
     ensures { λ _. ⌜ ((classes : List ℕ) → AreNumbers n classes (take m (now (firsts .entry))) (now (numbers .entry)) → now (table .exit)
@@ -86,22 +110,4 @@ fn fill_short(long: &[u8], n: usize, firsts: &[u16], m: usize, numbers: &[u16], 
         fill_short_row(long, k, &numbers[..n], &mut table[from..to]);
         i += 1;
     }
-}
-
-// Fills the short table for a long table of n equations, and answers how many rows it has.
-pub(crate) fn shorten(long: &[u8], n: usize, table: &mut [u8]) -> usize
-    requires { ⌜ WellFormedTable most mark n (now long) × (256 * n ≤ length (now table)) ⌝ }
-    ensures { λ r. ⌜ r ≡ length (firsts (rounds 256 (lookup 256 mark (now (long .entry))) n n) n) ⌝ }
-    ensures { λ _. ⌜ now (table .exit)
-        ≡ filled mark (merged (rounds 256 (lookup 256 mark (now (long .entry))) n n) (lookup 256 mark (now (long .entry))))
-        (firsts (rounds 256 (lookup 256 mark (now (long .entry))) n n) n) 256 (now (table .entry)) ⌝ }
-{
-    let mut classes = [0u16; 128];
-    let mut next = [0u16; 128];
-    merge_first(long, n, &mut classes, &mut next);
-    let mut firsts = [0u16; 128];
-    let mut numbers = [0u16; 128];
-    let m = number(&classes, n, &mut firsts, &mut numbers);
-    fill_short(long, n, &firsts, m, &numbers, table);
-    m
 }

@@ -3,7 +3,7 @@ ghost use mathlib.Core.Path.{_≡_};
 ghost use Prim.Native.Nat.{ℕ, _≤_, _<_};
 ghost use mathlib.Core.List.{List};
 ghost use lib.ListN.{length, getD, take};
-ghost use Rattle.synthesis.specs.Monitor.{most, cases};
+ghost use Rattle.synthesis.specs.Monitor.{cases};
 ghost use Rattle.synthesis.specs.NodeSet.{intersection};
 ghost use Rattle.synthesis.specs.Answering.{answerFrom};
 ghost use Rattle.synthesis.specs.Search.{indexOf, insert, explored, expanded, found};
@@ -48,35 +48,35 @@ pub(crate) fn find(list: &[u64], n: usize, e: u64) -> usize
     n
 }
 
-// Puts a set after the first n of the list if it is new. 129 says that there was no room for it.
-fn insert(list: &mut [u64], n: usize, e: u64) -> usize
-    requires { ⌜ length (now list) ≡ most ⌝ }
-    ensures { λ r. ⌜ ((l : List ℕ) → Holds most (now (list .entry)) n l → Holds most (now (list .exit)) r (insert l e)) ⌝ }
+// Puts a set after the first n of the list if it is new. One more than the limit says that there was no room for it.
+fn insert(list: &mut [u64], limit: usize, n: usize, e: u64) -> usize
+    requires { ⌜ limit ≤ length (now list) ⌝ }
+    ensures { λ r. ⌜ ((l : List ℕ) → Holds limit (now (list .entry)) n l → Holds limit (now (list .exit)) r (insert l e)) ⌝ }
 {
-    if 128 < n {
+    if limit < n {
         return n;
     }
     let i = find(list, n, e);
     if i < n {
         return n;
     }
-    if n == 128 {
-        return 129;
+    if n == limit {
+        return limit + 1;
     }
     list[n] = e;
     n + 1
 }
 
 // Inserts the next equation, unless the set of reached nodes has an ff node.
-fn insert_answer(list: &mut [u64], n: usize, falsities: u64, reached: u64) -> usize
-    requires { ⌜ length (now list) ≡ most ⌝ }
-    ensures { λ r. ⌜ ((l : List ℕ) → Holds most (now (list .entry)) n l
-        → Holds most (now (list .exit)) r (cases (answerFrom falsities reached) l (insert l))) ⌝ }
+fn insert_answer(list: &mut [u64], limit: usize, n: usize, falsities: u64, reached: u64) -> usize
+    requires { ⌜ limit ≤ length (now list) ⌝ }
+    ensures { λ r. ⌜ ((l : List ℕ) → Holds limit (now (list .entry)) n l
+        → Holds limit (now (list .exit)) r (cases (answerFrom falsities reached) l (insert l))) ⌝ }
 {
     if reached & falsities != 0 {
         return n;
     }
-    insert(list, n, reached)
+    insert(list, limit, n, reached)
 }
 
 // Explores what an equation answers to each code, and inserts what is new.
@@ -85,18 +85,19 @@ fn explore(
     enabled: &[u64],
     falsities: u64,
     list: &mut [u64],
+    limit: usize,
     n: usize,
     e: u64,
 ) -> usize
-    requires { ⌜ (length (now after) ≡ 64) × (length (now enabled) ≡ 256) × (length (now list) ≡ most) ⌝ }
-    ensures { λ r. ⌜ ((l : List ℕ) → Holds most (now (list .entry)) n l
-        → Holds most (now (list .exit)) r (explored 256 (answerBy (now (after .entry)) (now (enabled .entry)) falsities) e 256 l)) ⌝ }
+    requires { ⌜ (length (now after) ≡ 64) × (length (now enabled) ≡ 256) × (limit ≤ length (now list)) ⌝ }
+    ensures { λ r. ⌜ ((l : List ℕ) → Holds limit (now (list .entry)) n l
+        → Holds limit (now (list .exit)) r (explored 256 (answerBy (now (after .entry)) (now (enabled .entry)) falsities) e 256 l)) ⌝ }
 {
     let mut m = n;
     let mut c: usize = 0;
     while c < 256 {
         let e2 = reached(after, enabled, e, c);
-        m = insert_answer(list, m, falsities, e2);
+        m = insert_answer(list, limit, m, falsities, e2);
         c += 1;
     }
     m
@@ -108,39 +109,40 @@ fn expand(
     enabled: &[u64],
     falsities: u64,
     list: &mut [u64],
+    limit: usize,
     n: usize,
     k: usize,
 ) -> usize
-    requires { ⌜ (length (now after) ≡ 64) × (length (now enabled) ≡ 256) × (length (now list) ≡ most) × (k < most) ⌝ }
-    ensures { λ r. ⌜ ((l : List ℕ) → Holds most (now (list .entry)) n l
-        → Holds most (now (list .exit)) r (expanded 256 (answerBy (now (after .entry)) (now (enabled .entry)) falsities) k l)) ⌝ }
+    requires { ⌜ (length (now after) ≡ 64) × (length (now enabled) ≡ 256) × (limit ≤ length (now list)) ⌝ }
+    ensures { λ r. ⌜ ((l : List ℕ) → Holds limit (now (list .entry)) n l
+        → Holds limit (now (list .exit)) r (expanded 256 (answerBy (now (after .entry)) (now (enabled .entry)) falsities) k l)) ⌝ }
 {
-    if 128 < n {
+    if limit < n {
         return n;
     }
     if n <= k {
         return n;
     }
     let e = list[k];
-    explore(after, enabled, falsities, list, n, e)
+    explore(after, enabled, falsities, list, limit, n, e)
 }
 
-// Finds the equations from the first on, and says how many there are; 129 where they are over 128.
+// Finds the equations from the first on, and says how many there are; one more than the limit where they are over it.
 pub(crate) fn search(
     after: &[u64],
     enabled: &[u64],
     falsities: u64,
     first: u64,
     list: &mut [u64],
+    limit: usize,
 ) -> usize
-    requires { ⌜ (length (now after) ≡ 64) × (length (now enabled) ≡ 256) × (length (now list) ≡ most) ⌝ }
-    ensures { λ r. ⌜ Holds most (now (list .exit)) r (found 256 (answerBy (now (after .entry)) (now (enabled .entry)) falsities) most first) ⌝ }
+    requires { ⌜ (length (now after) ≡ 64) × (length (now enabled) ≡ 256) × (limit ≤ length (now list)) ⌝ }
+    ensures { λ r. ⌜ Holds limit (now (list .exit)) r (found 256 (answerBy (now (after .entry)) (now (enabled .entry)) falsities) limit first) ⌝ }
 {
-    list[0] = first;
-    let mut n: usize = 1;
+    let mut n = insert(list, limit, 0, first);
     let mut k: usize = 0;
-    while k < 128 {
-        n = expand(after, enabled, falsities, list, n, k);
+    while k < limit {
+        n = expand(after, enabled, falsities, list, limit, n, k);
         k += 1;
     }
     n

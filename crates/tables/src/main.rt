@@ -8,9 +8,9 @@ use listing::Line;
 use reading::NumberedRule;
 use synthesis::Counted;
 use testing::Head;
-use testing::built_count;
 use testing::digest;
 use testing::fill;
+use testing::filled_count;
 use testing::print_counted;
 use testing::print_field;
 use testing::read_size;
@@ -138,7 +138,7 @@ fn print_rows(table: &[u8], n: usize) {
 // What a build answers, leaves in the table, and what is listed of it.
 fn print_built(answer: Counted, file: &[u8], table: &[u8]) {
     print_counted(answer);
-    print_table(table, built_count(answer));
+    print_table(table, filled_count(answer));
     io::write_all(STDOUT_FILENO, b" listing");
     print_summary(text_summary(answer, file, table));
 }
@@ -146,14 +146,14 @@ fn print_built(answer: Counted, file: &[u8], table: &[u8]) {
 fn answer_long(rule: &[u8], table: &mut [u8]) {
     print_counted(synthesis::count(rule));
     io::write_all(STDOUT_FILENO, b" ");
-    let built = synthesis::build(rule, table);
+    let built = synthesis::fill(rule, table);
     print_built(built, rule, table);
-    print_rows(table, built_count(built));
+    print_rows(table, filled_count(built));
 }
 
 fn answer_short(rule: &[u8], table: &mut [u8]) {
     io::write_all(STDOUT_FILENO, b" short ");
-    let built = synthesis::build_short(rule, table);
+    let built = synthesis::fill_short(rule, table);
     print_built(built, rule, table);
     io::write_all(STDOUT_FILENO, b"\n");
 }

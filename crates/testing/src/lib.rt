@@ -10,7 +10,7 @@ pub use numbers::Head;
 pub use numbers::read_byte;
 pub use numbers::read_long;
 pub use numbers::read_size;
-pub use printing::built_count;
+pub use printing::filled_count;
 pub use printing::print_counted;
 pub use printing::print_field;
 pub use printing::print_refusal;

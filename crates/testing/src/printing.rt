@@ -32,7 +32,7 @@ pub fn print_counted(answer: Counted) {
 }
 
 // How many equations were built, and so how many rows were written.
-pub fn built_count(answer: Counted) -> usize
+pub fn filled_count(answer: Counted) -> usize
     ensures { λ r. ⌜ r ≡ countIn answer ⌝ }
 {
     match answer {

@@ -9,8 +9,8 @@ use lib.ListN.{length}
 use Rattle.reading.specs.Rule.{Rule}
 use Rattle.reading.specs.File.{Outcome, accepted, refused}
 use Rattle.reading.proofs.Basics.Outcomes.{andThen-accepts}
-use Rattle.synthesis.specs.Building.{tableLeft, Builds}
-use Rattle.synthesis.proofs.Tables.Built.{builds-outcome}
+use Rattle.synthesis.specs.Building.{tableLeft, Fills}
+use Rattle.synthesis.proofs.Tables.Built.{fills-outcome}
 use Rattle.models.specs.Phone.{Phone, phoneOf}
 use Rattle.models.specs.Judging.{RuleAndModel, judgingOf, JudgedAs, tableJudged}
 use Rattle.models.specs.Promises.{JudgedExactly, JudgesExactly, JudgingLeaves, RefusedUnchanged}
@@ -19,10 +19,10 @@ use Rattle.models.specs.declared.Judged.the-variants.{Meets, Breaks}
 use Rattle.models.proofs.Phones.DecidedSets.{decided-satisfies}
 
 -- what is judged is the file's rule and the file's model
-pub judging-case : {limit mark : ℕ} {s table : List ℕ} {r : Rule} {n : ℕ} {left : List ℕ} → Builds limit mark s table r n left
+pub judging-case : {limit mark : ℕ} {s table : List ℕ} {r : Rule} {n : ℕ} {left : List ℕ} → Fills limit mark s table r n left
     → (f : List ℕ) (y : Phone) → phoneOf f ≡ accepted y → judgingOf limit s (length table) f ≡ accepted (record { rule = r; phone = y })
 unfolding judgingOf
-judging-case b f y read = andThen-accepts _ (builds-outcome b) (andThen-accepts _ read refl)
+judging-case b f y read = andThen-accepts _ (fills-outcome b) (andThen-accepts _ read refl)
 
 judged-case : (r : Rule) (y : Phone) (answer : Judged) → JudgedAs (accepted (record { rule = r; phone = y })) answer → JudgedExactly r y answer
 judged-case r y answer (inl (q, sat)) =

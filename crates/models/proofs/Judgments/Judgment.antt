@@ -10,13 +10,13 @@ use lib.ListN.{length}
 use Rattle.reading.specs.Rule.{Rule, Bytes}
 use Rattle.reading.specs.File.{Outcome, accepted, refused}
 use Rattle.reading.specs.declared.FileRead as FileRead′
-use Rattle.synthesis.specs.Monitor.{lookup}
+use Rattle.synthesis.specs.Monitor.{mark, most, lookup}
 use Rattle.synthesis.specs.Table.{WellFormedTable}
-use Rattle.synthesis.specs.Building.{Synthesis, buildingOf, countedOf, tableAfter, tableLeft, Builds}
+use Rattle.synthesis.specs.Building.{Synthesis, fillingOf, countedOf, tableAfter, tableLeft, Fills}
 use Rattle.synthesis.specs.declared.Counted.{Counted}
 use Rattle.synthesis.specs.declared.Counted.the-variants.{Equations, Refused}
 use Rattle.synthesis.proofs.Tables.SynthesisOutcomes.{counted-refuses}
-use Rattle.synthesis.proofs.Tables.Built.{builds-accepted, table-monitors, built-well-formed}
+use Rattle.synthesis.proofs.Tables.Built.{fills-accepted, table-monitors, built-well-formed}
 use Rattle.enforcement.specs.Model.{SatisfiesDecided}
 use Rattle.models.specs.Phone.{Phone, modelOf, PhoneWithinLimits, phoneOf}
 use Rattle.models.specs.Judging.{stored, modelReadingOf, judgingOf, JudgedAs, tableJudged}
@@ -40,42 +40,42 @@ module _ (s table f : List ℕ) where
   -- what a call answers, and the table after it
   abbrev Judges : (answer : Judged) → (after : List ℕ) → Type 0
   Judges answer after =
-      JudgedAs (judgingOf 128 s (length table) f) answer
-      × (after ≡ tableJudged (judgingOf 128 s (length table) f) (tableLeft 128 255 s table) table)
+      JudgedAs (judgingOf most s (length table) f) answer
+      × (after ≡ tableJudged (judgingOf most s (length table) f) (tableLeft most mark s table) table)
 
   -- ---- the answer where the rule or the model is refused
 
-  refused-judges : {number place : ℕ} → judgingOf 128 s (length table) f ≡ refused number place
+  refused-judges : {number place : ℕ} → judgingOf most s (length table) f ≡ refused number place
       → Judges (Judged′.the-variants.Refused number place) table
   refused-judges e = rw e (refl, refl)
 
-  building-refused-judges : {number place : ℕ} → buildingOf 128 s (length table) ≡ refused number place
+  filling-refused-judges : {number place : ℕ} → fillingOf most s (length table) ≡ refused number place
       → Judges (Judged′.the-variants.Refused number place) table
   unfolding judgingOf
-  building-refused-judges e = refused-judges (rw e)
+  filling-refused-judges e = refused-judges (rw e)
 
-  phone-refused-judges : {y : Synthesis} {number place : ℕ} → buildingOf 128 s (length table) ≡ accepted y → phoneOf f ≡ refused number place
+  phone-refused-judges : {y : Synthesis} {number place : ℕ} → fillingOf most s (length table) ≡ accepted y → phoneOf f ≡ refused number place
       → Judges (Judged′.the-variants.Refused number place) table
   unfolding judgingOf
   phone-refused-judges e q = refused-judges (rw (e, q))
 
   pub judges-model-refused : {reading : ModelReading} {number place : ℕ} {r : Judged} → reading ≡ modelReadingOf (phoneOf f)
       → reading .answer ≡ FileRead′.the-variants.Refused number place
-      → r ≡ refusalBefore (countedOf (buildingOf 128 s (length table))) (reading .answer) → Judges r table
-  judges-model-refused {reading} {number} {place} {r} read told e = on (buildingOf 128 s (length table)) refl (rw told at e)
+      → r ≡ refusalBefore (countedOf (fillingOf most s (length table))) (reading .answer) → Judges r table
+  judges-model-refused {reading} {number} {place} {r} read told e = on (fillingOf most s (length table)) refl (rw told at e)
     where
-      on : (o : Outcome Synthesis) → buildingOf 128 s (length table) ≡ o
+      on : (o : Outcome Synthesis) → fillingOf most s (length table) ≡ o
           → r ≡ refusalBefore (countedOf o) (FileRead′.the-variants.Refused number place) → Judges r table
       on (accepted y) built e =
           rw e (phone-refused-judges built (model-refused (phoneOf f) number place .1 (sym (ap (λ (x : ModelReading). x .answer) read) ∙ told)))
-      on (refused number′ place′) built e = rw e (building-refused-judges built)
+      on (refused number′ place′) built e = rw e (filling-refused-judges built)
 
   pub judges-rule-refused : {built : Counted} {number place : ℕ} {r : Judged} {after : List ℕ}
-      → built ≡ countedOf (buildingOf 128 s (length table)) → after ≡ tableLeft 128 255 s table
+      → built ≡ countedOf (fillingOf most s (length table)) → after ≡ tableLeft most mark s table
       → built ≡ Refused number place → r ≡ ruleRefusal built → Judges r after
   judges-rule-refused {number = number} {place} is left told e =
-      let building = counted-refuses (buildingOf 128 s (length table)) number place (sym is ∙ told) in
-      rw (e, told, left ∙ ap (λ (o : Outcome Synthesis). tableAfter 255 o table) building) (building-refused-judges building)
+      let building = counted-refuses (fillingOf most s (length table)) number place (sym is ∙ told) in
+      rw (e, told, left ∙ ap (λ (o : Outcome Synthesis). tableAfter mark o table) building) (filling-refused-judges building)
 
   -- ---- a rule and a model that were accepted, and what the calls ask for
 
@@ -84,23 +84,23 @@ module _ (s table f : List ℕ) where
     pub rule : Rule
     pub count : ℕ
     pub phone : Phone
-    pub builds : Builds 128 255 s table rule count after
+    pub builds : Fills most mark s table rule count after
     pub phone-is : phoneOf f ≡ accepted phone
     pub within-limits : PhoneWithinLimits phone
     pub is-stored : model ≡ stored phone
 
   pub both-accepted : {reading : ModelReading} {built : Counted} {after : List ℕ} (n : ℕ) → Bytes s → Bytes f
       → reading ≡ modelReadingOf (phoneOf f) → reading .answer ≡ FileRead′.the-variants.Accepted
-      → built ≡ countedOf (buildingOf 128 s (length table)) → after ≡ tableLeft 128 255 s table
+      → built ≡ countedOf (fillingOf most s (length table)) → after ≡ tableLeft most mark s table
       → built ≡ Equations n → Accepts after (reading .model)
   both-accepted n rule-bytes bytes read told is left counted =
-      let (rule, builds) = builds-accepted 128 255 s table n (omega arith) rule-bytes (sym is ∙ counted) in
+      let (rule, builds) = fills-accepted most mark s table n (omega arith) rule-bytes (sym is ∙ counted) in
       let p = phone-accepted (phoneOf f) (sym (ap (λ (x : ModelReading). x .answer) read) ∙ told) in
       record {
         rule = rule;
         count = n;
         phone = p .0;
-        builds = subst (Builds 128 255 s table rule n) (sym left) builds;
+        builds = subst (Fills most mark s table rule n) (sym left) builds;
         phone-is = p .1;
         within-limits = phone-within-limits f (p .0) bytes (p .1);
         is-stored = ap (λ (x : ModelReading). x .model) read ∙ p .2;
@@ -110,29 +110,29 @@ module _ (s table f : List ℕ) where
     pub model-has-phone : HasPhone model
     model-has-phone = record { phone = a .phone; within-limits = a .within-limits; is-stored = a .is-stored }
 
-    pub table-well-formed : (count : ℕ) × WellFormedTable 128 255 count after
-    table-well-formed = (a .count, built-well-formed 128 255 s table (a .rule) (a .count) after (a .builds))
+    pub table-well-formed : (count : ℕ) × WellFormedTable most mark count after
+    table-well-formed = (a .count, built-well-formed most mark s table (a .rule) (a .count) after (a .builds))
 
     -- ---- the answer of the search
 
     -- nothing is dropped exactly where the model satisfies the rule
     never-drops-satisfies :
-        NeverDrops (lookup 256 255 after) 0 (modelOf (a .phone)) ↔ SatisfiesDecided (modelOf (a .phone)) (a .rule)
+        NeverDrops (lookup 256 mark after) 0 (modelOf (a .phone)) ↔ SatisfiesDecided (modelOf (a .phone)) (a .rule)
     never-drops-satisfies =
         let m = modelOf (a .phone) in
-        let monitors = table-monitors 128 255 s table (a .rule) (a .count) after (a .builds) in
-        let safe = never-drops-safe ℕ (a .rule) (lookup 256 255 after) 0 monitors m (phone-codes (a .phone) (a .within-limits .well-formed)) in
+        let monitors = table-monitors most mark s table (a .rule) (a .count) after (a .builds) in
+        let safe = never-drops-safe ℕ (a .rule) (lookup 256 mark after) 0 monitors m (phone-codes (a .phone) (a .within-limits .well-formed)) in
         let satisfies = satisfies-safe m (a .rule) in
         let decided = decided-satisfies (a .phone) (a .rule) in
         (λ never. decided .1 (satisfies .1 (safe .0 never)), λ sat. safe .1 (satisfies .0 (decided .0 sat)))
 
     module _ {r : Bool}
-        (never : (y : Phone) → model ≡ stored y → (r ≡ true) ↔ NeverDrops (lookup 256 255 after) 0 (modelOf y)) where
-      judging-is : judgingOf 128 s (length table) f ≡ accepted (record { rule = a .rule; phone = a .phone })
+        (never : (y : Phone) → model ≡ stored y → (r ≡ true) ↔ NeverDrops (lookup 256 mark after) 0 (modelOf y)) where
+      judging-is : judgingOf most s (length table) f ≡ accepted (record { rule = a .rule; phone = a .phone })
       judging-is = judging-case (a .builds) f (a .phone) (a .phone-is)
 
       -- the search finds no dropped step exactly where there is none
-      search-iff : (r ≡ true) ↔ NeverDrops (lookup 256 255 after) 0 (modelOf (a .phone))
+      search-iff : (r ≡ true) ↔ NeverDrops (lookup 256 mark after) 0 (modelOf (a .phone))
       search-iff = never (a .phone) (a .is-stored)
 
       pub judges-meets : r ≡ true → Judges Judged′.the-variants.Meets after

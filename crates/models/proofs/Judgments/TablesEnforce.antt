@@ -3,7 +3,7 @@
 use Prim.Native.Nat.{ℕ}
 use Rattle.synthesis.specs.Monitor.{lookup}
 use Rattle.synthesis.proofs.Tables.Built.{table-monitors}
-use Rattle.synthesis.proofs.Quotients.ShortBuilds.{short-monitors, short-drops-alike}
+use Rattle.synthesis.proofs.Quotients.ShortFillings.{short-monitors, short-drops-alike}
 use Rattle.enforcement.specs.Model.{suppressing}
 use Rattle.enforcement.proofs.Responses.{suppressing-passes}
 use Rattle.enforcement.proofs.Suppressing.{runs-behind}

@@ -5,6 +5,7 @@ use mathlib.Core.Path.{_≡_, sym}
 use mathlib.Core.Logic.{_⊎_, inl, inr}
 use mathlib.Core.List.{List}
 use lib.ListN.{getD}
+use Rattle.synthesis.specs.Monitor.{mark}
 use Rattle.models.specs.Phone.{noStep}
 use Rattle.models.specs.Exploring.{OnChain, chain-first, chain-later, Worklist, Enqueued}
 use Rattle.models.specs.Exploring.{Outgoing, equationAfter, pairAfter, Successor, Followed, PartlyExpanded}
@@ -28,7 +29,7 @@ module _ (steps : List Step) (l : Links) (row : List ℕ) (pair : ℕ) (seen₀ 
     pub next-outgoing : Outgoing l pair j
     next-outgoing = h .left-outgoing j (rw begins chain-first)
 
-    pub expanded-next : (seen′ pairs′ : List ℕ) (found′ next : ℕ) → next ≡ equationAfter steps l row pair j → (next ≡ 255 → ⊥)
+    pub expanded-next : (seen′ pairs′ : List ℕ) (found′ next : ℕ) → next ≡ equationAfter steps l row pair j → (next ≡ mark → ⊥)
         → Enqueued (64 * next + getD steps j noStep .to) seen pairs found seen′ pairs′ found′
         → PartlyExpanded steps l row pair seen₀ pairs₀ found₀ (getD (l .earlier) j 0) seen′ pairs′ found′
     expanded-next seen′ pairs′ found′ next is kept enqueued = record {

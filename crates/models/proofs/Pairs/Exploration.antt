@@ -9,7 +9,7 @@ use native.Mathlib.Decide.{decLt}
 use native.Mathlib.Omega.{arith}
 use lib.ListN.{getD, replicate}
 use Rattle.reading.proofs.Numbering.NumberedLaws.{repeated-at}
-use Rattle.synthesis.specs.Monitor.{lookup}
+use Rattle.synthesis.specs.Monitor.{mark, most, lookup}
 use Rattle.synthesis.specs.Table.{WellFormedTable}
 use Rattle.enforcement.specs.Model.{Label}
 use Rattle.models.specs.Phone.{Phone, noStep, labelOf, StepIn, modelOf, WellFormedStep}
@@ -38,7 +38,7 @@ module _ (steps : List Step) (l : Links) (table : List ℕ) (steps-range : (i : 
         → (p % 64 ≡ getD steps (h .step) noStep .to) × (p / 64 ≡ equationAfter steps l (rowAt table pair) pair (h .step))
     successor-is p h = let state = steps-range (h .step) .to in (omega (arith, h .is), omega (arith, h .is))
 
-    successor-inside : (count : ℕ) → WellFormedTable 128 255 count table → pair / 64 < count
+    successor-inside : (count : ℕ) → WellFormedTable most mark count table → pair / 64 < count
         → (p : ℕ) → Successor steps l (rowAt table pair) pair p → p / 64 < count
     successor-inside count wf inside p h =
         rw (successor-is p h .1)
@@ -85,7 +85,7 @@ module _ (steps : List Step) (l : Links) (table : List ℕ) (steps-range : (i : 
       abbrev Added : ℕ → Type 0
       Added p = Seen seen p ⊎ Successor steps l (rowAt table pair) pair p
 
-      added-inside : (count : ℕ) → WellFormedTable 128 255 count table → (p : ℕ) → Added p → p / 64 < count
+      added-inside : (count : ℕ) → WellFormedTable most mark count table → (p : ℕ) → Added p → p / 64 < count
       added-inside count wf p (inl h) = explored .inside count wf p h
       added-inside count wf p (inr h) =
           successor-inside pair count wf (explored .inside count wf pair pair-seen) p h
@@ -120,8 +120,8 @@ module _ (steps : List Step) (l : Links) (table : List ℕ) (steps-range : (i : 
 
     -- ---- the end where a step is dropped
 
-    pub ends-dropped : (count : ℕ) → WellFormedTable 128 255 count table
-        → (i : ℕ) → Outgoing l pair i → equationAfter steps l (rowAt table pair) pair i ≡ 255 → Searched steps l table true
+    pub ends-dropped : (count : ℕ) → WellFormedTable most mark count table
+        → (i : ℕ) → Outgoing l pair i → equationAfter steps l (rowAt table pair) pair i ≡ mark → Searched steps l table true
     ends-dropped count wf i out is y has = (
       λ e. absurd (let z : _≡_ {A = ℕ} 0 1 = cc in omega arith),
       λ never.
@@ -143,7 +143,7 @@ module _ (steps : List Step) (l : Links) (table : List ℕ) (steps-range : (i : 
       label : ℕ
       label-is : labelOf label ≡ a
       target : t < 64
-      kept : stepsTo table e label ≡ 255 → ⊥
+      kept : stepsTo table e label ≡ mark → ⊥
       is-seen : Seen seen (64 * stepsTo table e label + t)
 
     step-target-seen : (s e : ℕ) → s < 64 → Seen seen (64 * e + s) → (a : Label) (t : ℕ) → StepIn (y .steps) s a t → SeenTarget e a t
@@ -162,7 +162,7 @@ module _ (steps : List Step) (l : Links) (table : List ℕ) (steps-range : (i : 
           is-seen = rw (equation, to-is) at (d .is-seen);
         }
 
-    reachable-seen : {s e : ℕ} → ReachablePair (lookup 256 255 table) 0 (modelOf y) s e → (s < 64) × Seen seen (64 * e + s)
+    reachable-seen : {s e : ℕ} → ReachablePair (lookup 256 mark table) 0 (modelOf y) s e → (s < 64) × Seen seen (64 * e + s)
     reachable-seen begin = (omega arith, explored .start-seen)
     reachable-seen (silently {s} {t} {e} r step) =
         let h = reachable-seen r in
@@ -175,7 +175,7 @@ module _ (steps : List Step) (l : Links) (table : List ℕ) (steps-range : (i : 
 
     -- ---- the end where no step is dropped
 
-    pub ends-undropped : (false ≡ false) ↔ NeverDrops (lookup 256 255 table) 0 (modelOf y)
+    pub ends-undropped : (false ≡ false) ↔ NeverDrops (lookup 256 mark table) 0 (modelOf y)
     ends-undropped = (
       λ _ s t e c r step answer.
           let h = reachable-seen r in

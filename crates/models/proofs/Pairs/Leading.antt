@@ -9,7 +9,7 @@ use lib.Dec.{eqb}
 use lib.ListN.{getD}
 use borrow.Author.Tests.{eqb-true, eqb-false, eq-eqb, ne-eqb}
 use Rattle.reading.proofs.Basics.ListLaws.{getD-inside}
-use Rattle.synthesis.specs.Monitor.{dropped, next, rowOf, meaning, lookup}
+use Rattle.synthesis.specs.Monitor.{mark, dropped, next, rowOf, meaning, lookup}
 use Rattle.synthesis.specs.Table.{RowInRange}
 use Rattle.enforcement.specs.Model.{silent, code, Model}
 use Rattle.models.specs.Phone.{labelOf}
@@ -38,11 +38,11 @@ module _ (row : List ℕ) (e label : ℕ) where
   pub leads-silently : label ≡ 256 → leadsTo row e label ≡ e
   leads-silently h = rw (eq-eqb label 256 h)
 
-  pub leads-by-code : (label ≡ 256 → ⊥) → leadsTo row e label ≡ getD row label 255
+  pub leads-by-code : (label ≡ 256 → ⊥) → leadsTo row e label ≡ getD row label mark
   leads-by-code other = rw (ne-eqb label 256 other)
 
   -- to an equation, unless it is dropped
-  pub leads-inside : (count : ℕ) → RowInRange 255 count row → e < count → label ≤ 256 → (leadsTo row e label ≡ 255 → ⊥)
+  pub leads-inside : (count : ℕ) → RowInRange mark count row → e < count → label ≤ 256 → (leadsTo row e label ≡ mark → ⊥)
       → leadsTo row e label < count
   leads-inside count fits inside h kept = on (eqb label 256) refl
     where
@@ -50,9 +50,9 @@ module _ (row : List ℕ) (e label : ℕ) where
       on true q = rw q inside
       on false q =
           let byte : label < 256 = omega (arith, eqb-false label 256 q) in
-          rw q (kept-entry-below (rw (getD-inside row label 0 255 (omega (arith, fits .whole))) at (fits .range label byte)) (rw q at kept))
+          rw q (kept-entry-below (rw (getD-inside row label 0 mark (omega (arith, fits .whole))) at (fits .range label byte)) (rw q at kept))
         where
-          kept-entry-below : (getD row label 255 ≡ 255) ⊎ (getD row label 255 < count) → (getD row label 255 ≡ 255 → ⊥) → getD row label 255 < count
+          kept-entry-below : (getD row label mark ≡ mark) ⊎ (getD row label mark < count) → (getD row label mark ≡ mark → ⊥) → getD row label mark < count
           kept-entry-below (inl z) other = absurd (other z)
           kept-entry-below (inr a) other = a
 
@@ -68,36 +68,36 @@ module _ (table : List ℕ) where
     pub steps-silent : labelOf label ≡ silent → stepsTo e label ≡ e
     steps-silent h = leads-silently (rowOf 256 table e) e label (label-silent label h)
 
-    steps-code : (c : ℕ) → labelOf label ≡ code c → stepsTo e label ≡ getD (rowOf 256 table e) c 255
+    steps-code : (c : ℕ) → labelOf label ≡ code c → stepsTo e label ≡ getD (rowOf 256 table e) c mark
     steps-code c h = let x = label-code label c h in rw (← x .0) (leads-by-code (rowOf 256 table e) e label (x .1))
 
-    pub steps-kept : (c e′ : ℕ) → labelOf label ≡ code c → lookup 256 255 table e c ≡ next e′ → stepsTo e label ≡ e′
-    steps-kept c e′ h q = steps-code c h ∙ meaning-next 255 (getD (rowOf 256 table e) c 255) e′ q
+    pub steps-kept : (c e′ : ℕ) → labelOf label ≡ code c → lookup 256 mark table e c ≡ next e′ → stepsTo e label ≡ e′
+    steps-kept c e′ h q = steps-code c h ∙ meaning-next mark (getD (rowOf 256 table e) c mark) e′ q
 
-    pub steps-dropped : (c : ℕ) → labelOf label ≡ code c → lookup 256 255 table e c ≡ dropped → stepsTo e label ≡ 255
-    steps-dropped c h q = steps-code c h ∙ meaning-dropped 255 (getD (rowOf 256 table e) c 255) q
+    pub steps-dropped : (c : ℕ) → labelOf label ≡ code c → lookup 256 mark table e c ≡ dropped → stepsTo e label ≡ mark
+    steps-dropped c h q = steps-code c h ∙ meaning-dropped mark (getD (rowOf 256 table e) c mark) q
 
   -- ---- from reachable pairs
 
-  module _ (m : Model) (s t : m .State) (e label : ℕ) (reached : ReachablePair (lookup 256 255 table) 0 m s e)
+  module _ (m : Model) (s t : m .State) (e label : ℕ) (reached : ReachablePair (lookup 256 mark table) 0 m s e)
       (step : m .Step s (labelOf label) t) where
     abbrev x : ℕ
-    x = getD (rowOf 256 table e) label 255
+    x = getD (rowOf 256 table e) label mark
 
-    pub reachable-step : (stepsTo e label ≡ 255 → ⊥) → ReachablePair (lookup 256 255 table) 0 m t (stepsTo e label)
+    pub reachable-step : (stepsTo e label ≡ mark → ⊥) → ReachablePair (lookup 256 mark table) 0 m t (stepsTo e label)
     reachable-step kept = on (eqb label 256) refl
       where
-        on : (b : Bool) → eqb label 256 ≡ b → ReachablePair (lookup 256 255 table) 0 m t (stepsTo e label)
+        on : (b : Bool) → eqb label 256 ≡ b → ReachablePair (lookup 256 mark table) 0 m t (stepsTo e label)
         on true q = rw q (silently reached (rw q at step))
         on false q =
-            let answer : lookup 256 255 table e label ≡ next x = rw (ne-eqb x 255 (rw q at kept)) in
+            let answer : lookup 256 mark table e label ≡ next x = rw (ne-eqb x mark (rw q at kept)) in
             rw q (keeping reached (rw q at step) answer)
 
-    pub dropped-step-refutes : e < 255 → stepsTo e label ≡ 255 → NeverDrops (lookup 256 255 table) 0 m → ⊥
+    pub dropped-step-refutes : e < mark → stepsTo e label ≡ mark → NeverDrops (lookup 256 mark table) 0 m → ⊥
     dropped-step-refutes inside h never = on (eqb label 256) refl
       where
         on : (b : Bool) → eqb label 256 ≡ b → ⊥
-        on true q = let z : e ≡ 255 = rw q at h in omega arith
+        on true q = let z : e ≡ mark = rw q at h in omega arith
         on false q =
-            let answer : lookup 256 255 table e label ≡ dropped = rw (eq-eqb x 255 (rw q at h)) in
+            let answer : lookup 256 mark table e label ≡ dropped = rw (eq-eqb x mark (rw q at h)) in
             never s t e label reached (rw q at step) answer

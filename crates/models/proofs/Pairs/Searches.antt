@@ -10,7 +10,7 @@ use native.Mathlib.Omega.{arith}
 use lib.ListN.{length, getD, replicate}
 use borrow.Author.Tests.{not-true}
 use Rattle.synthesis.proofs.Tables.WellFormedTables.{row-in-range-weaken, well-formed-row}
-use Rattle.synthesis.specs.Monitor.{lookup}
+use Rattle.synthesis.specs.Monitor.{mark, most, lookup}
 use Rattle.synthesis.specs.Table.{RowInRange, WellFormedTable}
 use Rattle.models.specs.Phone.{Phone, noStep, modelOf}
 use Rattle.models.specs.Judging.{stored}
@@ -110,10 +110,10 @@ module _ {steps : List Step} {l : Links} {table seen pairs : List ℕ} {at : Cur
   pub row-inside : 256 * (at .pair / 64) + 256 ≤ length table
   row-inside = well-formed-row (s .searchable .well-formed) (at .pair / 64) equation-inside
 
-  row-range : RowInRange 255 128 (rowAt table (at .pair))
+  row-range : RowInRange mark most (rowAt table (at .pair))
   row-range =
       let wf = s .searchable .well-formed in
-      row-in-range-weaken 255 _ 128 (wf .few) (rowAt table (at .pair)) (wf .row (at .pair / 64) equation-inside)
+      row-in-range-weaken mark _ most (wf .few) (rowAt table (at .pair)) (wf .row (at .pair / 64) equation-inside)
 
   -- the step that is followed
   module _ {step : Step} (is : step ≡ getD steps (at .step - 1) noStep) where
@@ -128,13 +128,13 @@ module _ {steps : List Step} {l : Links} {table seen pairs : List ℕ} {at : Cur
       leads-from : next ≡ equationAfter steps l (rowAt table listed) listed (at .step - 1)
       leads-from = rw (expansion .pair-is, is) at leads
 
-      pub next-inside : (next ≡ 255 → ⊥) → next < 128
+      pub next-inside : (next ≡ mark → ⊥) → next < most
       next-inside kept =
           rw leads
-          (leads-inside (rowAt table (at .pair)) (at .pair / 64) (step .label) 128 row-range
+          (leads-inside (rowAt table (at .pair)) (at .pair / 64) (step .label) most row-range
           (omega (arith, equation-inside, s .searchable .well-formed .few)) label-inside (λ e. kept (leads ∙ e)))
 
-      pub followed-dropped : next ≡ 255
+      pub followed-dropped : next ≡ mark
           → SearchInvariant steps l table seen pairs (record { found = at .found; index = at .index; pair = at .pair; step = 0; dropped = true })
       followed-dropped e = record {
         searchable = s .searchable;
@@ -146,7 +146,7 @@ module _ {steps : List Step} {l : Links} {table seen pairs : List ℕ} {at : Cur
             (at .step - 1) (next-outgoing steps l _ _ _ _ _ _ (at .step - 1) (omega arith) _ _ _ expanded-before) (sym leads-from ∙ e);
       }
 
-      module _ (kept : next ≡ 255 → ⊥) {seen′ pairs′ : List ℕ} {found′ left : ℕ}
+      module _ (kept : next ≡ mark → ⊥) {seen′ pairs′ : List ℕ} {found′ left : ℕ}
           (enqueued : Enqueued (64 * next + step .to) seen pairs (at .found) seen′ pairs′ found′)
           (rest : left ≡ getD (l .earlier) (at .step - 1) 0) where
         expanded-after : UpTo listed left seen′ pairs′ found′
@@ -181,7 +181,7 @@ module _ {steps : List Step} {l : Links} {table seen pairs : List ℕ} {at : Cur
 -- ---- a search of a stored model
 
 module _ {model : PhoneModel} {l : Links} {table : List ℕ} (has : HasPhone model) (ranges : LinksInRange l)
-    (fits : (count : ℕ) × WellFormedTable 128 255 count table) where
+    (fits : (count : ℕ) × WellFormedTable most mark count table) where
   stored-searchable : Searchable (model .steps) l table
   stored-searchable = record {
     steps-length = stored-length has;
@@ -199,7 +199,7 @@ module _ {model : PhoneModel} {l : Links} {table : List ℕ} (has : HasPhone mod
 
 -- what the end of a search says of the model
 pub stored-searched : (model : PhoneModel) (l : Links) (table : List ℕ) (dropped : Bool) → Searched (model .steps) l table dropped
-    → (y : Phone) → model ≡ stored y → Chains (y .steps) l → (not dropped ≡ true) ↔ NeverDrops (lookup 256 255 table) 0 (modelOf y)
+    → (y : Phone) → model ≡ stored y → Chains (y .steps) l → (not dropped ≡ true) ↔ NeverDrops (lookup 256 mark table) 0 (modelOf y)
 stored-searched model l table dropped searched y is chains =
     let found = searched y (record { alike = stored-alike y is; chains = chains }) in
     (λ e. found .0 (not-true dropped e), λ never. rw (found .1 never) refl)

@@ -19,12 +19,12 @@ model-bytes c =
 -- the model is read and the rule built
 accepts : (c : tie.After-enum-told3) → let b = c .before .before .before .before in let m = b .before .before .before .before in
     let x = m .before .before .before .before .args in
-    Accepts (x .rule .now) (x .table .now) (x .model .now) (b .build .last .1 .0) (m .read-model .result .model)
+    Accepts (x .rule .now) (x .table .now) (x .model .now) (b .fill .last .1 .0) (m .read-model .result .model)
 accepts c =
     let b = c .before .before .before .before in
     let m = b .before .before .before .before in
     both-accepted _ _ _ _ (rule-bytes (m .before)) (model-bytes (m .before)) (m .read-model .ensures) (b .before .before .enum-told .given .1)
-    (b .build .ensures .0) (b .build .ensures .1) (c .enum-told3 .given .1)
+    (b .fill .ensures .0) (b .fill .ensures .1) (c .enum-told3 .given .1)
 
 read-model-requires : tie.Need-read-model-requires
 read-model-requires c κs = search needs
@@ -43,8 +43,8 @@ returns c =
     let told = c .before in
     judges-model-refused _ _ _ (told .before .before .read-model .ensures) (told .enum-told2 .given .1) (c .refuse .ensures)
 
-build-requires : tie.Need-build-requires
-build-requires c κs = search needs
+fill-requires : tie.Need-fill-requires
+fill-requires c κs = search needs
 
 enum-told-3 : tie.Need-enum-told-3
 enum-told-3 c = search needs
@@ -63,7 +63,7 @@ returns-2 c =
     let told = c .before in
     let b = told .before .before .before .before in
     let x = b .before .before .before .before .before .before .before .before .args in
-    judges-rule-refused (x .rule .now) (x .table .now) (x .model .now) (b .build .ensures .0) (b .build .ensures .1) (told .enum-told4 .given .1)
+    judges-rule-refused (x .rule .now) (x .table .now) (x .model .now) (b .fill .ensures .0) (b .fill .ensures .1) (told .enum-told4 .given .1)
     (c .refuse-rule .ensures)
 
 never-drops-requires : tie.Need-never-drops-requires
@@ -90,7 +90,7 @@ judge-spec =
     enum-told-2
     refuse-requires
     returns
-    build-requires
+    fill-requires
     enum-told-3
     enum-told-4
     refuse-rule-requires

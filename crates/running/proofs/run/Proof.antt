@@ -2,6 +2,7 @@
 use native.Mathlib.Omega.{arith}
 use borrow.Author.Needs.{needs}
 use lib.ListN.{length}
+use Rattle.synthesis.specs.Monitor.{mark, most}
 use Rattle.running.specs.Running.{answerIn, runOf}
 use Rattle.running.proofs.Counting.{kept-dropped}
 use Rattle.running.proofs.Outcomes.{Passed, passed, refused-leaves, accepted-leaves}
@@ -10,10 +11,10 @@ use Rattle.running.proofs.run.Tie as tie
 
 -- what a run that isn't refused has passed
 fit : (c : tie.After-enum-told) → let x = c .before .before .before .before .before .before .before .args in
-    Passed 128 255 (x .table .now) (x .count) (x .state) (x .scans .now) (length (x .output .now)) (length (x .verdicts .now))
+    Passed most mark (x .table .now) (x .count) (x .state) (x .scans .now) (length (x .output .now)) (length (x .verdicts .now))
 fit c =
     let x = c .before .before .before .before .before .before .before .args in
-    passed 128 255 (x .table .now) (x .count) (x .state) (x .scans .now) (length (x .output .now)) (length (x .verdicts .now))
+    passed most mark (x .table .now) (x .count) (x .state) (x .scans .now) (length (x .output .now)) (length (x .verdicts .now))
     (c .before .before .check .ensures) (c .enum-told .given .1)
 
 check-requires : tie.Need-check-requires
@@ -29,7 +30,7 @@ returns : tie.Need-returns
 returns c =
     let x = c .before .before .before .before .before .before .before .args in
     refused-leaves (x .state)
-    (runOf 128 255 (x .table .now) (x .count) (x .state) (x .scans .now) (length (x .output .now)) (length (x .verdicts .now)))
+    (runOf most mark (x .table .now) (x .count) (x .state) (x .scans .now) (length (x .output .now)) (length (x .verdicts .now)))
     (c .before .before .check .ensures) (c .enum-told2 .given .1) (x .output .now) (x .verdicts .now)
 
 follow-requires : tie.Need-follow-requires
@@ -41,7 +42,7 @@ sub-dropped : tie.Need-sub-dropped
 sub-dropped c =
     let f = c .before .before .before .before .before in
     let x = f .before .before .before .before .before .before .before .before .before .before .args in
-    omega (arith, f .follow .ensures .1 .0, kept-dropped (answerIn 255 (x .table .now)) (x .state) (x .scans .now))
+    omega (arith, f .follow .ensures .1 .0, kept-dropped (answerIn mark (x .table .now)) (x .state) (x .scans .now))
 
 same-length : tie.Need-same-length
 same-length c = search needs
@@ -55,7 +56,7 @@ returns-2 c =
     let t = f .before .before .before in
     let x = t .before .before .before .before .before .before .before .args in
     let e = f .follow .ensures in
-    accepted-leaves 255 (x .table .now) (x .state) (x .scans .now) (fit t .is) (t .enum-told .given .1) (e .0) (e .1 .0)
+    accepted-leaves mark (x .table .now) (x .state) (x .scans .now) (fit t .is) (t .enum-told .given .1) (e .0) (e .1 .0)
     (x .output .now) (x .verdicts .now) (e .1 .1 .0) (e .1 .1 .1)
 
 pub run-spec : {M : Type 1} → statement M

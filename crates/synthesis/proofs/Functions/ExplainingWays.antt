@@ -25,7 +25,7 @@ use Rattle.synthesis.specs.declared.explaining.Followed.the-variants as 
 use Rattle.synthesis.proofs.Tables.SynthesisOutcomes.{counted-refuses}
 use Rattle.synthesis.proofs.Reasons.Following.{followed-cong}
 use Rattle.synthesis.proofs.Functions.GraphLaws.{graph-answers, graph-opens}
-use Rattle.synthesis.proofs.Functions.BuildingWays.{CountedPlan}
+use Rattle.synthesis.proofs.Functions.FillingWays.{CountedPlan}
 
 -- ---- a plan that is refused
 

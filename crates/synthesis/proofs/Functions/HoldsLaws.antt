@@ -1,5 +1,5 @@
 -- Laws of an array that holds the found equations: as long as they are within the limit its front is their list, and then it stays over the limit.
-use Prim.Native.Nat.{ℕ, suc, _+_, _≤_, _<_}
+use Prim.Native.Nat.{ℕ, _+_, _≤_, _<_}
 use mathlib.Core.Path.{_≡_, refl}
 use mathlib.Core.Logic.{inl, inr}
 use mathlib.Core.List.{List, [], _∷_, _++_}
@@ -29,7 +29,7 @@ module _ (limit : ℕ) (a : List ℕ) (n : ℕ) (l : List ℕ) where
   held-over-limit m (inl p) h g = absurd (omega arith)
   held-over-limit m (inr p) h g = inr (p .0, omega (arith, grows-length l m g))
 
-module _ (limit : ℕ) (a : List ℕ) (n : ℕ) (l : List ℕ) (room : length a ≡ limit) (held : Holds limit a n l) where
+module _ (limit : ℕ) (a : List ℕ) (n : ℕ) (l : List ℕ) (room : limit ≤ length a) (held : Holds limit a n l) where
   held-list : n ≤ limit → take n a ≡ l
   held-list = held-few limit a n l held
 
@@ -44,9 +44,9 @@ module _ (limit : ℕ) (a : List ℕ) (n : ℕ) (l : List ℕ) (room : length a 
   insert-absent : (e : ℕ) → n ≤ limit → n ≤ indexOf e (take n a) → insert l e ≡ take n a ++ (e ∷ [])
   insert-absent e h absent = rw (← held-list h) (insert-new (take n a) e (λ m. omega (arith, length-is h)))
 
-  pub held-insert-full : (e : ℕ) → n ≡ limit → n ≤ indexOf e (take n a) → Holds limit a (suc limit) (insert l e)
+  pub held-insert-full : (e : ℕ) → n ≡ limit → n ≤ indexOf e (take n a) → Holds limit a (limit + 1) (insert l e)
   held-insert-full e h absent =
-      rw (insert-absent e (omega arith) absent) (inr (refl, omega (arith, length-is (omega arith), length-append (take n a) (e ∷ []))))
+      rw (insert-absent e (omega arith) absent) (inr (add-one limit, omega (arith, length-is (omega arith), length-append (take n a) (e ∷ []))))
 
   pub held-insert-new : (e : ℕ) → n < limit → n ≤ indexOf e (take n a) → Holds limit (set a n e) (n + 1) (insert l e)
   held-insert-new e h absent = rw (insert-absent e (omega arith) absent, add-one n) (inl (omega arith, take-suc-set a n e (omega arith)))

@@ -94,42 +94,42 @@ module _ {s : List ℕ} {n : NumberedRule} (d : Read s n) (g : Graph) (is : (r :
   unfolding unsatisfiable
   unsatisfiable-test = rw (graph .first-is, graph .falsities-are)
 
-  pub unsatisfiable-plan : (bitAnd (g .first) (g .falsities) ≡ 0 → ⊥) → {p : Plan} → p .answer ≡ counted.Refused 8 0
-      → IsPlan (synthesisOf most s) p
-  unsatisfiable-plan h e =
-      refused-plan most s 8 0 (refuses-eight most s (d .rule) (d .is) (rw (unsatisfiable-test, ne-eqb (intersection (g .first) (g .falsities)) emptySet h))) e
+  pub unsatisfiable-plan : (limit : ℕ) → (bitAnd (g .first) (g .falsities) ≡ 0 → ⊥) → {p : Plan} → p .answer ≡ counted.Refused 8 0
+      → IsPlan (synthesisOf limit s) p
+  unsatisfiable-plan limit h e =
+      refused-plan limit s 8 0 (refuses-eight limit s (d .rule) (d .is) (rw (unsatisfiable-test, ne-eqb (intersection (g .first) (g .falsities)) emptySet h))) e
 
   satisfiable-test : bitAnd (g .first) (g .falsities) ≡ 0 → unsatisfiable (d .rule) ≡ false
   satisfiable-test h = rw (unsatisfiable-test, eq-eqb (intersection (g .first) (g .falsities)) emptySet h)
 
   -- ---- refusal 9
 
-  module _ (calm : bitAnd (g .first) (g .falsities) ≡ 0) (list : List ℕ) (count : ℕ)
-      (holds : Holds most list count (found 256 (answerBy (g .after) (g .enabled) (g .falsities)) most (g .first))) where
+  module _ (limit : ℕ) (calm : bitAnd (g .first) (g .falsities) ≡ 0) (list : List ℕ) (count : ℕ)
+      (holds : Holds limit list count (found 256 (answerBy (g .after) (g .enabled) (g .falsities)) limit (g .first))) where
     -- what the search over the graph finds is what the definition finds
-    equations-found : found 256 (answerBy (g .after) (g .enabled) (g .falsities)) most (g .first) ≡ equationsOf most (d .rule)
+    equations-found : found 256 (answerBy (g .after) (g .enabled) (g .falsities)) limit (g .first) ≡ equationsOf limit (d .rule)
     unfolding equationsOf
     equations-found =
-        found-cong 256 (answerBy (g .after) (g .enabled) (g .falsities)) (answerOf (d .rule)) (graph-answers g graph) most (g .first)
-        ∙ ap (found 256 (answerOf (d .rule)) most) (graph .first-is)
+        found-cong 256 (answerBy (g .after) (g .enabled) (g .falsities)) (answerOf (d .rule)) (graph-answers g graph) limit (g .first)
+        ∙ ap (found 256 (answerOf (d .rule)) limit) (graph .first-is)
 
-    equations-held : Holds most list count (equationsOf most (d .rule))
+    equations-held : Holds limit list count (equationsOf limit (d .rule))
     equations-held = rw equations-found at holds
 
-    pub many-plan : most < count → {p : Plan} → p .answer ≡ counted.Refused 9 0 → IsPlan (synthesisOf most s) p
+    pub many-plan : limit < count → {p : Plan} → p .answer ≡ counted.Refused 9 0 → IsPlan (synthesisOf limit s) p
     many-plan h e =
-        refused-plan most s 9 0
-        (refuses-nine most s (d .rule) (d .is) (satisfiable-test calm) (held-many most list count (equationsOf most (d .rule)) equations-held h)) e
+        refused-plan limit s 9 0
+        (refuses-nine limit s (d .rule) (d .is) (satisfiable-test calm) (held-many limit list count (equationsOf limit (d .rule)) equations-held h)) e
 
     -- ---- the count
 
-    pub counted-plan : count ≤ most → length list ≡ most
-        → IsPlan (synthesisOf most s) (record { answer = counted.Equations count; graph = g; found = list })
-    counted-plan h k =
-        let es : take count list ≡ equationsOf most (d .rule) = held-few most list count (equationsOf most (d .rule)) equations-held h in
-        let n : count ≡ length (equationsOf most (d .rule)) = sym (length-take-le count list (omega (arith, h, k))) ∙ ap length es in
-        rw (accepts-with-equations most s (d .rule) (d .is) (satisfiable-test calm) (omega (arith, n, h)))
+    pub counted-plan : limit ≤ most → count ≤ limit → length list ≡ most
+        → IsPlan (synthesisOf limit s) (record { answer = counted.Equations count; graph = g; found = list })
+    counted-plan small h k =
+        let es : take count list ≡ equationsOf limit (d .rule) = held-few limit list count (equationsOf limit (d .rule)) equations-held h in
+        let n : count ≡ length (equationsOf limit (d .rule)) = sym (length-take-le count list (omega (arith, small, h, k))) ∙ ap length es in
+        rw (accepts-with-equations limit s (d .rule) (d .is) (satisfiable-test calm) (omega (arith, n, h)))
         (record {
           answer-is = ap counted.Equations n;
-          fills = record { graph-is = graph; answer-is = refl; found-is = rw (← n) es; few = omega (arith, n, h); found-length = k };
+          fills = record { graph-is = graph; answer-is = refl; found-is = rw (← n) es; few = omega (arith, small, n, h); found-length = k };
         })

@@ -11,7 +11,7 @@ use Rattle.synthesis.specs.Monitor.{Answer, ended, lookup}
 use Rattle.synthesis.specs.Answering.{firstOf, answerOf}
 use Rattle.synthesis.specs.Search.{indexOf}
 use Rattle.synthesis.specs.Merging.{DropAlike}
-use Rattle.synthesis.specs.Building.{equationsOf, withEquations, BuildsShort}
+use Rattle.synthesis.specs.Building.{equationsOf, withEquations, FillsShort}
 use Rattle.synthesis.specs.ShortPromises.{ShortMerges, ShortIsMinimal, ShortestMonitor}
 use Rattle.synthesis.proofs.Monitors.Runs.{run-induction}
 use Rattle.synthesis.proofs.Monitors.Renaming.{renamed-runs}
@@ -20,14 +20,14 @@ use Rattle.synthesis.proofs.Numberings.Indices.{Member}
 use Rattle.synthesis.proofs.Numberings.Tabulating.{Injective, injective-fits}
 use Rattle.synthesis.proofs.Tables.WellFormedTables.{lookup-inside}
 use Rattle.synthesis.proofs.Tables.Equations.{first-index, first-member, equations-distinct, equations-reached}
-use Rattle.synthesis.proofs.Tables.Built.{builds-count}
+use Rattle.synthesis.proofs.Tables.Built.{fills-count}
 use Rattle.synthesis.proofs.Quotients.NumberedAnswers.{numbered-renames}
 use Rattle.synthesis.proofs.Quotients.Quotient.{class-member, number-of-first, rows-apart}
 use Rattle.synthesis.proofs.Quotients.Firsts.{first-at}
 use Rattle.synthesis.proofs.Quotients.Settled.{Inside}
 use Rattle.synthesis.proofs.Quotients.ShortTables.{count, classes, numbered, classFirsts, number, count-some, rule-closed, rule-inside, rule-settled, number-zero}
-use Rattle.synthesis.proofs.Quotients.ShortTables.{shortens, firsts-few, short-room, short-renames, rows-rename}
-use Rattle.synthesis.proofs.Quotients.ShortBuilds.{short-monitors}
+use Rattle.synthesis.proofs.Quotients.ShortTables.{shortens, firsts-few, short-renames, rows-rename}
+use Rattle.synthesis.proofs.Quotients.ShortFillings.{short-monitors}
 
 -- ---- rivals of any monitor
 
@@ -86,9 +86,9 @@ choose {A} P n other some = (λ i. pick i (decLt i n), λ i h. picked i h (decLt
     picked i h (yes h′) = some i h′ .1
     picked i h (no none) = absurd (none h)
 
-module _ {limit mark : ℕ} {s table : List ℕ} {r : Rule} {n : ℕ} {short : List ℕ} (b : BuildsShort limit mark s table r n short) where
+module _ {limit mark : ℕ} {s table : List ℕ} {r : Rule} {n : ℕ} {short : List ℕ} (b : FillsShort limit mark s table r n short) where
   few : count limit r ≤ limit
-  few = shortens b .rows .few
+  few = shortens b .counted .few
 
   -- a word leads to each row
   record LeadsTo (i : ℕ) (w : List ℕ) : Type 0 where
@@ -119,7 +119,7 @@ module _ {limit mark : ℕ} {s table : List ℕ} {r : Rule} {n : ℕ} {short : L
   rows-differ : (i j : ℕ) → i < n → j < n → DropAlike 256 (lookup 256 mark short) i (lookup 256 mark short) j → i ≡ j
   rows-differ =
       rw (shortens b .filled-is, shortens b .count-is)
-      (rows-apart (rule-settled limit r few) (rule-inside limit r few) mark table (short-room (shortens b)) (omega (arith, firsts-few (shortens b), b .below)))
+      (rows-apart (rule-settled limit r few) (rule-inside limit r few) mark table (shortens b .room) (omega (arith, firsts-few (shortens b), b .below)))
 
   pub separated : Separated 256 (lookup 256 mark short) n
   separated =
@@ -135,12 +135,12 @@ pub short-merges : ShortMerges
 short-merges limit mark s table r n long b table′ m short b′ =
     let renames = rows-rename b′ table long n b in
     let zero : DropAlike 256 (lookup 256 mark long) 0 (lookup 256 mark short) (number limit r 0) =
-    renamed-alike 256 (lookup 256 mark long) (lookup 256 mark short) (λ k. k < n) (number limit r) renames 0 (omega (arith, builds-count b, count-some limit r)) in
+    renamed-alike 256 (lookup 256 mark long) (lookup 256 mark short) (λ k. k < n) (number limit r) renames 0 (omega (arith, fills-count b, count-some limit r)) in
     record {
-      start = rw (number-zero limit r (shortens b′ .rows .few)) at zero;
+      start = rw (number-zero limit r (shortens b′ .counted .few)) at zero;
       each = λ k h. (
         number limit r k,
-        omega (arith, class-member (rule-settled limit r (few b′)) (rule-inside limit r (few b′)) k (omega (arith, builds-count b)), shortens b′ .count-is),
+        omega (arith, class-member (rule-settled limit r (few b′)) (rule-inside limit r (few b′)) k (omega (arith, fills-count b)), shortens b′ .count-is),
         renamed-alike 256 (lookup 256 mark long) (lookup 256 mark short) (λ k. k < n) (number limit r) renames k h,
       );
       apart = rows-differ b′;

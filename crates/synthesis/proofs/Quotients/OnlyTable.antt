@@ -21,7 +21,7 @@ use Rattle.synthesis.proofs.Numberings.Tabulating.{Injective, tabulate-
 use Rattle.synthesis.proofs.Numberings.Numbering.{Numbering, numberings-same, namesOf, name-at, renamed-numbering}
 use Rattle.synthesis.proofs.Tables.WellFormedTables.{lookup-inside}
 use Rattle.synthesis.proofs.Quotients.Settled.{Inside}
-use Rattle.synthesis.proofs.Quotients.ShortBuilds.{short-in-range}
+use Rattle.synthesis.proofs.Quotients.ShortFillings.{short-in-range}
 use Rattle.synthesis.proofs.Quotients.Minimal.{Separated, rivalRow, rival-alike, rival-apart, rival-injective, rival-below, separated}
 use Rattle.synthesis.proofs.Quotients.ShortOrder.{short-as-found}
 

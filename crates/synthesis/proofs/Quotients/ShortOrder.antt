@@ -147,7 +147,7 @@ module _ {codes : ℕ} {answer : ℕ → ℕ → Answer ℕ} {n : ℕ} {classes 
 
 pub short-as-found : ShortAsFound
 short-as-found limit mark s table r n short b =
-    let few = shortens b .rows .few in
+    let few = shortens b .counted .few in
     let y = withEquations limit r in
     let settled = rule-settled limit r few in
     let inside = rule-inside limit r few in

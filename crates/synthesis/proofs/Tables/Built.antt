@@ -1,4 +1,4 @@
--- The table that building leaves: it is the monitor of the rule's equations, each renamed to its row. The limit on equations and the mark for
+-- The table that filling leaves: it is the monitor of the rule's equations, each renamed to its row. The limit on equations and the mark for
 -- dropped are any, the limit not over the mark.
 use Prim.Native.Nat.{ℕ, _*_, _≤_, _<_}
 use mathlib.Core.Path.{_≡_, refl, sym, _∙_, ap, subst}
@@ -17,17 +17,17 @@ use Rattle.synthesis.specs.Opening.{Answers}
 use Rattle.synthesis.specs.Answering.{firstOf, answerOf, unsatisfiable}
 use Rattle.synthesis.specs.Search.{indexOf}
 use Rattle.synthesis.specs.Table.{filled, WellFormedTable}
-use Rattle.synthesis.specs.Building.{equationsOf, Synthesis, withEquations, synthesisOf, buildingOf, countedOf, tableAfter, tableLeft}
-use Rattle.synthesis.specs.Building.{numberedAnswer, BuildsBy, Builds}
+use Rattle.synthesis.specs.Building.{equationsOf, Synthesis, withEquations, synthesisOf, fillingOf, countedOf, tableAfter, tableLeft}
+use Rattle.synthesis.specs.Building.{numberedAnswer, FillsBy, Fills}
 use Rattle.synthesis.specs.declared.Counted.the-variants.{Equations, Refused}
 use Rattle.synthesis.specs.Promises.{TableMonitors, TableDrops, RefusesViolatedByEmpty, TableUnchanged, RefusedUnchanged}
-use Rattle.synthesis.specs.Promises.{BuildsAccepted, BuiltWellFormed, EntryAnswers, EntriesAnswer, SameAfterRows, TableRest}
+use Rattle.synthesis.specs.Promises.{FillsAccepted, BuiltWellFormed, EntryAnswers, EntriesAnswer, SameAfterRows, TableRest}
 use Rattle.synthesis.proofs.Unfolding.AnsweringLaws.{answers-as-defined}
 use Rattle.synthesis.proofs.Monitors.RuleMonitor.{rule-monitors, unsatisfiable-iff}
 use Rattle.synthesis.proofs.Numberings.Indices.{Member}
 use Rattle.synthesis.proofs.Monitors.MonitorLaws.{drops-violations}
 use Rattle.synthesis.proofs.Tables.TableMonitors.{table-numbered, table-renames, table-answers, filled-well-formed, filled-same-after}
-use Rattle.synthesis.proofs.Tables.SynthesisOutcomes.{synthesis-accepts, building-accepts, refused-eight, refuses-eight}
+use Rattle.synthesis.proofs.Tables.SynthesisOutcomes.{synthesis-accepts, refused-eight, refuses-eight, filling-by-count, filling-accepted, fills-as-counted}
 use Rattle.synthesis.proofs.Tables.SynthesisOutcomes.{counted-accepts, counted-refuses, accepts-as}
 use Rattle.synthesis.proofs.Tables.Equations.{file-well-formed, first-index, first-member, equations-closed}
 
@@ -51,23 +51,22 @@ module _ (limit mark : ℕ) (s table : List ℕ) where
     few : length (equationsOf limit r) ≤ limit
     room : 256 * length (equationsOf limit r) ≤ length table
 
-  -- what holds of the table of each rule that is admitted, holds of what building leaves
+  -- what holds of the table of each rule that is admitted, holds of what filling leaves
   leaves-admitted : (P : Synthesis → List ℕ → Type 0) → ((r : Rule) → Admits r → P (withEquations limit r) (rowsFor r)) → (y : Synthesis)
-      → buildingOf limit s (length table) ≡ accepted y → P y (tableLeft limit mark s table)
+      → fillingOf limit s (length table) ≡ accepted y → P y (tableLeft limit mark s table)
   leaves-admitted P holds y e =
-      let enough = building-accepts limit s (length table) y e in
+      let (synthesis, room) = filling-accepted (length table) (filling-by-count limit s (length table)) y e in
       rw e
-      (synthesis-accepts limit s (λ y. P y (tableAfter mark (accepted y) table))
-      (λ r read satisfiable few. holds r (record { read = read; satisfiable = satisfiable; few = few; room = omega (arith, enough .0) })) y
-      (enough .1))
+      (synthesis-accepts limit s (λ y. 256 * length (y .equations) ≤ length table → P y (tableAfter mark (accepted y) table))
+      (λ r read satisfiable few room. holds r (record { read = read; satisfiable = satisfiable; few = few; room = room })) y synthesis room)
 
-  pub accepted-well-formed : (y : Synthesis) → buildingOf limit s (length table) ≡ accepted y
+  pub accepted-well-formed : (y : Synthesis) → fillingOf limit s (length table) ≡ accepted y
       → WellFormedTable limit mark (length (y .equations)) (tableLeft limit mark s table)
   accepted-well-formed = leaves-admitted (λ y t. WellFormedTable limit mark (length (y .equations)) t) λ r admits.
       filled-well-formed limit mark (answerOf r) (equationsOf limit r) table (admits .room) (equations-closed limit r (admits .few))
       (omega (arith, first-member limit r)) (admits .few)
 
-  pub built-rest : (y : Synthesis) → buildingOf limit s (length table) ≡ accepted y → SameAfterRows (length (y .equations)) table (tableLeft limit mark s table)
+  pub built-rest : (y : Synthesis) → fillingOf limit s (length table) ≡ accepted y → SameAfterRows (length (y .equations)) table (tableLeft limit mark s table)
   built-rest = leaves-admitted (λ y t. SameAfterRows (length (y .equations)) table t) λ r admits.
       filled-same-after limit mark (answerOf r) (equationsOf limit r) table (admits .room)
 
@@ -78,7 +77,7 @@ module _ (limit mark : ℕ) (s table : List ℕ) where
         table-renames 256 mark (answerOf r) (equationsOf limit r) (equations-closed limit r (admits .few)) table (admits .room)
         (omega (arith, admits .few))
 
-    pub built-runs : (w : List ℕ) → Bytes w → (y : Synthesis) → buildingOf limit s (length table) ≡ accepted y → RunsAs mark y (tableLeft limit mark s table) w
+    pub built-runs : (w : List ℕ) → Bytes w → (y : Synthesis) → fillingOf limit s (length table) ≡ accepted y → RunsAs mark y (tableLeft limit mark s table) w
     built-runs w bytes = leaves-admitted (λ y t. RunsAs mark y t w) λ r admits.
         let l = equationsOf limit r in
         let t = lookup 256 mark (rowsFor r) in
@@ -92,14 +91,14 @@ module _ (limit mark : ℕ) (s table : List ℕ) where
         }
 
     -- each entry of the table is what its equation answers, by numbers
-    pub built-numbers : (k c : ℕ) → c < 256 → (y : Synthesis) → buildingOf limit s (length table) ≡ accepted y → k < length (y .equations)
+    pub built-numbers : (k c : ℕ) → c < 256 → (y : Synthesis) → fillingOf limit s (length table) ≡ accepted y → k < length (y .equations)
         → lookup 256 mark (tableLeft limit mark s table) k c ≡ numberedAnswer y k c
     built-numbers k c b = leaves-admitted (λ y t. k < length (y .equations) → lookup 256 mark t k c ≡ numberedAnswer y k c) λ r admits h.
         table-numbered 256 mark (answerOf r) (equationsOf limit r) (equations-closed limit r (admits .few)) table (admits .room)
         (omega (arith, admits .few)) k c h b
 
     module _ (bytes : Bytes s) where
-      pub built-monitors : (y : Synthesis) → buildingOf limit s (length table) ≡ accepted y
+      pub built-monitors : (y : Synthesis) → fillingOf limit s (length table) ≡ accepted y
           → Monitors (y .rule) (lookup 256 mark (tableLeft limit mark s table)) 0
       built-monitors = leaves-admitted (λ y t. Monitors (y .rule) (lookup 256 mark t) 0) λ r admits.
           let l = equationsOf limit r in
@@ -109,7 +108,7 @@ module _ (limit mark : ℕ) (s table : List ℕ) where
           subst (Monitors r t) (first-index limit r)
           (renamed-monitors r (λ e. Member e l) (answerOf r) t (λ e. indexOf e l) renames (firstOf r) (first-member limit r) monitors)
 
-      pub built-answers : (k c : ℕ) → c < 256 → (y : Synthesis) → buildingOf limit s (length table) ≡ accepted y → k < length (y .equations)
+      pub built-answers : (k c : ℕ) → c < 256 → (y : Synthesis) → fillingOf limit s (length table) ≡ accepted y → k < length (y .equations)
           → EntryAnswers (y .rule) (y .equations) k c (lookup 256 mark (tableLeft limit mark s table) k c)
       built-answers k c b =
           leaves-admitted (λ y t. k < length (y .equations) → EntryAnswers (y .rule) (y .equations) k c (lookup 256 mark t k c)) λ r admits h.
@@ -121,23 +120,23 @@ module _ (limit mark : ℕ) (s table : List ℕ) where
 
 -- ---- from the count alone, whatever the mark
 
-module _ (limit mark : ℕ) (s table : List ℕ) (n : ℕ) (e : countedOf (buildingOf limit s (length table)) ≡ Equations n) where
+module _ (limit mark : ℕ) (s table : List ℕ) (n : ℕ) (e : countedOf (fillingOf limit s (length table)) ≡ Equations n) where
   pub counted-well-formed : WellFormedTable limit mark n (tableLeft limit mark s table)
   counted-well-formed =
-      let y = counted-accepts (buildingOf limit s (length table)) n e in
+      let y = counted-accepts (fillingOf limit s (length table)) n e in
       rw (y .2) (accepted-well-formed limit mark s table (y .0) (y .1))
 
   pub counted-rest : SameAfterRows n table (tableLeft limit mark s table)
   counted-rest =
-      let y = counted-accepts (buildingOf limit s (length table)) n e in
+      let y = counted-accepts (fillingOf limit s (length table)) n e in
       rw (y .2) (built-rest limit mark s table (y .0) (y .1))
 
--- ---- what builds
+-- ---- what fills a table
 
-pub builds-accepted : BuildsAccepted
-builds-accepted limit mark s table n below bytes e =
-    let y = counted-accepts (buildingOf limit s (length table)) n e in
-    let synthesis = building-accepts limit s (length table) (y .0) (y .1) .1 in (
+pub fills-accepted : FillsAccepted
+fills-accepted limit mark s table n below bytes e =
+    let y = counted-accepts (fillingOf limit s (length table)) n e in
+    let synthesis = filling-accepted (length table) (filling-by-count limit s (length table)) (y .0) (y .1) .0 in (
       y .0 .rule,
       record {
         below = below;
@@ -148,48 +147,46 @@ builds-accepted limit mark s table n below bytes e =
       },
     )
 
--- A file builds as a rule, by any build, exactly where it is the encoding of that rule, within the limits, and is counted.
-pub builds-by-iff : (outcomeOf : (limit : ℕ) → List ℕ → (capacity : ℕ) → Outcome Synthesis) (limit mark : ℕ) (s table : List ℕ) (r : Rule) (n : ℕ)
+-- A file fills a table as a rule, by either filling, exactly where it is the encoding of that rule, within the limits, and is counted.
+pub fills-by-iff : (outcomeOf : (limit : ℕ) → List ℕ → (capacity : ℕ) → Outcome Synthesis) (limit mark : ℕ) (s table : List ℕ) (r : Rule) (n : ℕ)
     (after : List ℕ) → limit ≤ mark
-    → BuildsBy outcomeOf limit mark s table r n after
+    → FillsBy outcomeOf limit mark s table r n after
     ↔ (RuleWithinLimits r × (s ≡ encode r) × (countedOf (outcomeOf limit s (length table)) ≡ Equations n)
     × (after ≡ tableAfter mark (outcomeOf limit s (length table)) table))
-builds-by-iff outcomeOf limit mark s table r n after below = (
+fills-by-iff outcomeOf limit mark s table r n after below = (
   λ b. let (within, is) = accepts-encodings s (b .bytes) r .0 (b .read) in (within, is, b .counted, b .left-is),
   λ (within, is, counted, left-is).
       let bytes : Bytes s = rw is (encoding-is-bytes r within) in
       record { below = below; bytes = bytes; read = accepts-encodings s bytes r .1 (within, is); counted = counted; left-is = left-is },
 )
 
--- the encoding of a rule builds as that rule
-pub builds-encoded : (limit mark : ℕ) (r : Rule) (table : List ℕ) (n : ℕ) → limit ≤ mark → RuleWithinLimits r
-    → countedOf (buildingOf limit (encode r) (length table)) ≡ Equations n → Builds limit mark (encode r) table r n (tableLeft limit mark (encode r) table)
-builds-encoded limit mark r table n below within e =
-    builds-by-iff buildingOf limit mark (encode r) table r n (tableLeft limit mark (encode r) table) below .1 (within, refl, e, refl)
+-- the encoding of a rule does so as that rule
+pub fills-encoded : (limit mark : ℕ) (r : Rule) (table : List ℕ) (n : ℕ) → limit ≤ mark → RuleWithinLimits r
+    → countedOf (fillingOf limit (encode r) (length table)) ≡ Equations n → Fills limit mark (encode r) table r n (tableLeft limit mark (encode r) table)
+fills-encoded limit mark r table n below within e =
+    fills-by-iff fillingOf limit mark (encode r) table r n (tableLeft limit mark (encode r) table) below .1 (within, refl, e, refl)
 
-module _ {limit mark : ℕ} {s table : List ℕ} {r : Rule} {n : ℕ} {after : List ℕ} (b : Builds limit mark s table r n after) where
+module _ {limit mark : ℕ} {s table : List ℕ} {r : Rule} {n : ℕ} {after : List ℕ} (b : Fills limit mark s table r n after) where
   -- the outcome is that of the rule
-  pub builds-outcome : buildingOf limit s (length table) ≡ accepted (withEquations limit r)
-  builds-outcome =
-      let y = counted-accepts (buildingOf limit s (length table)) n (b .counted) in
-      y .1 ∙ ap accepted (accepts-as limit s r (b .read) (y .0) (building-accepts limit s (length table) (y .0) (y .1) .1))
+  pub fills-outcome : fillingOf limit s (length table) ≡ accepted (withEquations limit r)
+  fills-outcome =
+      let y = counted-accepts (fillingOf limit s (length table)) n (b .counted) in
+      y .1 ∙ ap accepted (accepts-as limit s r (b .read) (y .0) (filling-accepted (length table) (filling-by-count limit s (length table)) (y .0) (y .1) .0))
 
-  -- counting answers as building did
-  pub builds-counted : countedOf (synthesisOf limit s) ≡ Equations n
-  builds-counted =
-      let y = counted-accepts (buildingOf limit s (length table)) n (b .counted) in
-      rw (building-accepts limit s (length table) (y .0) (y .1) .1) (ap Equations (sym (y .2)))
+  -- counting answers as filling did
+  pub fills-counted : countedOf (synthesisOf limit s) ≡ Equations n
+  fills-counted = rw (← fills-as-counted limit s (length table) .same n (b .counted)) (b .counted)
 
-  pub builds-count : n ≡ length (equationsOf limit r)
-  builds-count =
-      let e : Equations (length (equationsOf limit r)) ≡ Equations n = sym (ap countedOf builds-outcome) ∙ b .counted in
+  pub fills-count : n ≡ length (equationsOf limit r)
+  fills-count =
+      let e : Equations (length (equationsOf limit r)) ≡ Equations n = sym (ap countedOf fills-outcome) ∙ b .counted in
       cc
 
 -- ---- the promises
 
 pub table-monitors : TableMonitors
 table-monitors limit mark s table r n after b =
-    rw (b .left-is) (built-monitors limit mark s table (b .below) (b .bytes) (withEquations limit r) (builds-outcome b))
+    rw (b .left-is) (built-monitors limit mark s table (b .below) (b .bytes) (withEquations limit r) (fills-outcome b))
 
 pub table-drops : TableDrops
 table-drops limit mark s table r n after b = drops-violations r (lookup 256 mark after) 0 (table-monitors limit mark s table r n after b)
@@ -203,15 +200,15 @@ built-well-formed limit mark s table r n after b = rw (b .left-is) (counted-well
 pub entries-answer : EntriesAnswer
 entries-answer limit mark s table r n after b k c h code =
     rw (b .left-is)
-    (built-answers limit mark s table (b .below) (b .bytes) k c code (withEquations limit r) (builds-outcome b) (omega (arith, builds-count b, h)))
+    (built-answers limit mark s table (b .below) (b .bytes) k c code (withEquations limit r) (fills-outcome b) (omega (arith, fills-count b, h)))
 
--- a refusal leaves any table as it was, whichever build is refused
+-- a refusal leaves any table as it was, whichever filling is refused
 pub outcome-unchanged : (mark : ℕ) (table : List ℕ) (o : Outcome Synthesis) (number place : ℕ) → countedOf o ≡ Refused number place
     → TableUnchanged mark table o
 outcome-unchanged mark table o number place e = rw (counted-refuses o number place e) (record { table = refl })
 
 pub refused-unchanged : RefusedUnchanged
-refused-unchanged limit mark s table = outcome-unchanged mark table (buildingOf limit s (length table))
+refused-unchanged limit mark s table = outcome-unchanged mark table (fillingOf limit s (length table))
 
 pub refuses-violated-by-empty : RefusesViolatedByEmpty
 refuses-violated-by-empty limit s bytes r read =

@@ -20,7 +20,7 @@ use Rattle.synthesis.specs.Opening.{IsFalsity, Leads, leads, Answers}
 use Rattle.synthesis.specs.Answering.{firstOf, answerOf, unsatisfiable}
 use Rattle.synthesis.specs.Search.{indexOf, found}
 use Rattle.synthesis.specs.Building.{equationsOf, Synthesis, withEquations, synthesisOf, countedOf}
-use Rattle.synthesis.specs.Promises.{WellFormedFormula, Counts, AnswersCount, ChecksTable, Closed, RefusesTooMany, ReachableEquations, ReachesEquations}
+use Rattle.synthesis.specs.Promises.{WellFormedFormula, Counts, AnswersCount, Closed, RefusesTooMany, ReachableEquations, ReachesEquations}
 use Rattle.synthesis.specs.declared.Counted.the-variants.{Refused}
 use Rattle.synthesis.proofs.Numberings.Indices.{Member, index-is, index-first, member-at, Distinct, distinct-indices, distinct-fits}
 use Rattle.synthesis.proofs.Numberings.Finding.{ClosedUnder, found-closed, found-inside, ReachedBy, found-reached, found-all}
@@ -28,7 +28,7 @@ use Rattle.synthesis.proofs.Numberings.Finding.{found-first, found-dist
 use Rattle.synthesis.proofs.Unfolding.AnsweringLaws.{answers-as-defined}
 use Rattle.synthesis.proofs.Unfolding.EquationLaws.{tracks-violation}
 use Rattle.synthesis.proofs.Monitors.RuleMonitor.{unsatisfiable-iff}
-use Rattle.synthesis.proofs.Tables.SynthesisOutcomes.{synthesis-accepts, building-too-short, building-enough, refused-nine, refuses-eight, refuses-nine}
+use Rattle.synthesis.proofs.Tables.SynthesisOutcomes.{synthesis-accepts, refused-nine, refuses-eight, refuses-nine}
 use Rattle.synthesis.proofs.Tables.SynthesisOutcomes.{counted-accepts, counted-refuses, accepts-as}
 
 -- a file that is read is a rule with a well-formed formula
@@ -147,9 +147,6 @@ answers-count limit s n e =
       some = omega (arith, q, first-member limit r);
       few = omega (arith, q, few);
     }) (y .0) (y .1) (y .2)
-
-pub checks-table : (limit : ℕ) (s : List ℕ) (capacity : ℕ) → ChecksTable limit s capacity
-checks-table limit s capacity = record { short = building-too-short limit s capacity; enough = building-enough limit s capacity }
 
 pub reaches-equations : ReachesEquations
 reaches-equations limit s bytes r n read e =

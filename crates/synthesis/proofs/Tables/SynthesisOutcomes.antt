@@ -1,5 +1,5 @@
--- What counting and the two builds accept and refuse. All are checks one after the other, so an acceptance has passed each, and a refusal is that of the
--- first that fails.
+-- What counting and filling accept and refuse. All are checks one after the other, so an acceptance has passed each, and a refusal is that of the
+-- first that fails. Filling is counting and then the check of the table, whichever table is filled.
 use Prim.Native.Nat.{ℕ, _*_, _≤_, _<_}
 use mathlib.Core.Path.{_≡_, refl, sym, _∙_, ap, subst}
 use mathlib.Core.Logic.{_↔_}
@@ -10,10 +10,13 @@ use lib.Dec.{ltb}
 use lib.ListN.{length}
 use borrow.Author.Tests.{ltb-true, ltb-false, lt-ltb, le-ltb}
 use Rattle.reading.specs.Rule.{Rule}
-use Rattle.reading.specs.File.{Outcome, accepted, refused, refuse, ruleOf}
+use Rattle.reading.specs.File.{Outcome, accepted, refused, refuse, andThen, ruleOf}
 use Rattle.reading.proofs.Basics.Outcomes.{accepted-is, never-refused, refuse-accepted, andThen-refused, andThen-accepted}
 use Rattle.synthesis.specs.Answering.{unsatisfiable}
-use Rattle.synthesis.specs.Building.{equationsOf, Synthesis, withEquations, synthesisOfRule, synthesisOf, buildingOf, countedOf, shortened, shortBuildingOf}
+use Rattle.synthesis.specs.Building.{equationsOf, Synthesis, withEquations, synthesisOfRule, synthesisOf, inTable, fillingOf, countedOf}
+use Rattle.synthesis.specs.Building.{shortened, shortOf, shortFillingOf}
+use Rattle.synthesis.specs.Promises.{FillsAsCounted}
+use Rattle.synthesis.specs.ShortPromises.{ShortFillsAsCounted}
 use Rattle.synthesis.specs.declared.Counted.the-variants.{Equations, Refused}
 
 -- What holds of the synthesis of each rule that no check refuses, holds of what is accepted.
@@ -28,42 +31,23 @@ synthesis-accepts limit s P holds y e =
     let nine = refuse-accepted (ltb limit (length (equationsOf limit r))) 9 0 _ (eight .1) in
     subst P (accepted-is (nine .1)) (holds r (read .1) (eight .0) (ltb-false limit (length (equationsOf limit r)) (nine .0)))
 
--- ---- a table for the rows
+-- ---- the short table: refused as counting is, and else what is counted is shortened
 
-pub building-enough : (limit : ℕ) (s : List ℕ) (capacity : ℕ) → 256 * limit ≤ capacity → buildingOf limit s capacity ≡ synthesisOf limit s
-unfolding buildingOf
-building-enough limit s capacity h = rw (le-ltb capacity (256 * limit) h)
-
-pub building-too-short : (limit : ℕ) (s : List ℕ) (capacity : ℕ) → capacity < 256 * limit → buildingOf limit s capacity ≡ refused 10 0
-unfolding buildingOf
-building-too-short limit s capacity h = rw (lt-ltb capacity (256 * limit) h)
-
--- building accepts where there is room for the rows and synthesis accepts
-pub building-accepts : (limit : ℕ) (s : List ℕ) (capacity : ℕ) (y : Synthesis) → buildingOf limit s capacity ≡ accepted y
-    → (256 * limit ≤ capacity) × (synthesisOf limit s ≡ accepted y)
-unfolding buildingOf
-building-accepts limit s capacity y e =
-    let ten = refuse-accepted (ltb capacity (256 * limit)) 10 0 (synthesisOf limit s) e in
-    (ltb-false capacity (256 * limit) (ten .0), ten .1)
-
--- ---- the short build: refused as building is, and else what building accepts is shortened
-
-module _ (limit : ℕ) (s : List ℕ) (capacity : ℕ) where
-  pub short-accepts : {y : Synthesis} → buildingOf limit s capacity ≡ accepted y → shortBuildingOf limit s capacity ≡ accepted (shortened y)
-  unfolding shortBuildingOf
+module _ (limit : ℕ) (s : List ℕ) where
+  pub short-accepts : {y : Synthesis} → synthesisOf limit s ≡ accepted y → shortOf limit s ≡ accepted (shortened y)
+  unfolding shortOf
   short-accepts e = rw e
 
-  pub short-accepted : (z : Synthesis) → shortBuildingOf limit s capacity ≡ accepted z
-      → (y : Synthesis) × (buildingOf limit s capacity ≡ accepted y) × (shortened y ≡ z)
-  unfolding shortBuildingOf
+  pub short-accepted : (z : Synthesis) → shortOf limit s ≡ accepted z → (y : Synthesis) × (synthesisOf limit s ≡ accepted y) × (shortened y ≡ z)
+  unfolding shortOf
   short-accepted z e =
-      let (y, is, made) = andThen-accepted (buildingOf limit s capacity) (λ y. accepted (shortened y)) e in
+      let (y, is, made) = andThen-accepted (synthesisOf limit s) (λ y. accepted (shortened y)) e in
       (y, is, accepted-is made)
 
-  pub short-refused : (number place : ℕ) → (shortBuildingOf limit s capacity ≡ refused number place) ↔ (buildingOf limit s capacity ≡ refused number place)
-  unfolding shortBuildingOf
+  pub short-refused : (number place : ℕ) → (shortOf limit s ≡ refused number place) ↔ (synthesisOf limit s ≡ refused number place)
+  unfolding shortOf
   short-refused number place = (
-    λ e. andThen-refused (buildingOf limit s capacity) (λ y. accepted (shortened y)) e (λ h. h) (λ y h q. absurd (never-refused q)),
+    λ e. andThen-refused (synthesisOf limit s) (λ y. accepted (shortened y)) e (λ h. h) (λ y h q. absurd (never-refused q)),
     λ e. rw e,
   )
 
@@ -116,3 +100,47 @@ counted-refuses (refused number′ place′) number place e = cc
 pub accepts-as : (limit : ℕ) (s : List ℕ) (r : Rule) → ruleOf s ≡ accepted r → (y : Synthesis) → synthesisOf limit s ≡ accepted y → y ≡ withEquations limit r
 accepts-as limit s r read =
     synthesis-accepts limit s (λ y. y ≡ withEquations limit r) (λ r′ read′ h few. ap (withEquations limit) (accepted-is (sym read′ ∙ read)))
+
+-- ---- a table for the rows
+
+-- either filling is counting, and then the check of the table
+pub filling-by-count : (limit : ℕ) (s : List ℕ) (capacity : ℕ) → fillingOf limit s capacity ≡ andThen (synthesisOf limit s) (inTable capacity)
+unfolding fillingOf
+filling-by-count limit s capacity = refl
+
+pub short-filling-by-count : (limit : ℕ) (s : List ℕ) (capacity : ℕ) → shortFillingOf limit s capacity ≡ andThen (shortOf limit s) (inTable capacity)
+unfolding shortFillingOf
+short-filling-by-count limit s capacity = refl
+
+module _ {counting filling : Outcome Synthesis} (capacity : ℕ) (by-count : filling ≡ andThen counting (inTable capacity)) where
+  pub filling-accepts : {y : Synthesis} → counting ≡ accepted y → 256 * length (y .equations) ≤ capacity → filling ≡ accepted y
+  filling-accepts {y} e room = rw (by-count, e, le-ltb capacity (256 * length (y .equations)) room)
+
+  pub filling-too-short : {y : Synthesis} → counting ≡ accepted y → capacity < 256 * length (y .equations) → filling ≡ refused 10 0
+  filling-too-short {y} e h = rw (by-count, e, lt-ltb capacity (256 * length (y .equations)) h)
+
+  pub filling-refuses : {number place : ℕ} → counting ≡ refused number place → filling ≡ refused number place
+  filling-refuses e = rw (by-count, e)
+
+  pub filling-accepted : (y : Synthesis) → filling ≡ accepted y → (counting ≡ accepted y) × (256 * length (y .equations) ≤ capacity)
+  filling-accepted y e =
+      let (y′, is, fits) = andThen-accepted counting (inTable capacity) (sym by-count ∙ e) in
+      let (room, same) = refuse-accepted (ltb capacity (256 * length (y′ .equations))) 10 0 (accepted y′) fits in
+      let z : y′ ≡ y = accepted-is same in
+      (is ∙ ap accepted z, rw z at (ltb-false capacity (256 * length (y′ .equations)) room))
+
+  pub filled-as-counted : FillsAsCounted counting filling capacity
+  filled-as-counted = record {
+    refused = λ number place e. ap countedOf (filling-refuses (counted-refuses counting number place e));
+    enough = λ n e room.
+        let (y, is, n-is) = counted-accepts counting n e in
+        ap countedOf (filling-accepts is (omega (arith, room, n-is))) ∙ ap Equations (sym n-is);
+    too-short = λ n e h. let (y, is, n-is) = counted-accepts counting n e in ap countedOf (filling-too-short is (omega (arith, h, n-is)));
+    same = λ n e. let (y, is, n-is) = counted-accepts filling n e in is ∙ sym (filling-accepted y is .0);
+  }
+
+pub fills-as-counted : (limit : ℕ) (s : List ℕ) (capacity : ℕ) → FillsAsCounted (synthesisOf limit s) (fillingOf limit s capacity) capacity
+fills-as-counted limit s capacity = filled-as-counted capacity (filling-by-count limit s capacity)
+
+pub short-fills-as-counted : ShortFillsAsCounted
+short-fills-as-counted limit s capacity = filled-as-counted capacity (short-filling-by-count limit s capacity)

@@ -6,7 +6,7 @@ use Rattle.reading.specs.Rule.{Bytes}
 use Rattle.synthesis.specs.Monitor.{most}
 use Rattle.synthesis.specs.Building.{synthesisOf}
 use Rattle.synthesis.specs.declared.Plan.{Plan}
-use Rattle.synthesis.proofs.Functions.BuildingWays.{CountedPlan, plan-counted}
+use Rattle.synthesis.proofs.Functions.FillingWays.{CountedPlan, plan-counted}
 use Rattle.synthesis.proofs.Functions.ExplainingWays.{refused-plan-reason, dropped-reason, kept-reason}
 use Rattle.synthesis.proofs.explain.Statement.{statement}
 use Rattle.synthesis.proofs.explain.Tie as tie

@@ -1,7 +1,6 @@
 -- `plan_of` meets its contract: each return is the plan of what is made of the file.
 use borrow.Author.Needs.{needs}
 use Rattle.reading.proofs.Basics.ByteLaws.{slice-bytes}
-use Rattle.synthesis.specs.Monitor.{most}
 use Rattle.synthesis.proofs.Functions.PlanLaws.{Read, unread-plan, reading-read, read-some-numbered, unsatisfiable-plan, many-plan, counted-plan}
 use Rattle.synthesis.proofs.plan_of.Statement.{statement}
 use Rattle.synthesis.proofs.plan_of.Tie as tie
@@ -32,7 +31,7 @@ returns : tie.Need-returns
 returns c =
     let e = c .before .before in
     let r = e .before .before in
-    unread-plan most _ _ (r .read-rule .ensures) (e .enum-told2 .given .1) _ (c .before .refusal .ensures) _ (c .no-plan .ensures)
+    unread-plan _ _ _ (r .read-rule .ensures) (e .enum-told2 .given .1) _ (c .before .refusal .ensures) _ (c .no-plan .ensures)
 
 of-rule-requires : tie.Need-of-rule-requires
 of-rule-requires c κs = read-some-numbered (read c)
@@ -43,7 +42,7 @@ no-plan-requires-2 c κs = search needs
 returns-2 : tie.Need-returns-2
 returns-2 c =
     let o = c .before .before .before in
-    unsatisfiable-plan (read (o .before)) _ (o .of-rule .ensures) (c .before .if1 .taken) (c .no-plan2 .ensures)
+    unsatisfiable-plan (read (o .before)) _ (o .of-rule .ensures) _ (c .before .if1 .taken) (c .no-plan2 .ensures)
 
 slice-aggregate-search : tie.Need-slice-aggregate-search
 slice-aggregate-search c = search needs
@@ -65,7 +64,7 @@ returns-3 c =
     let f = c .before .before .before in
     let e = f .before .before .before .before .before .before in
     let o = e .before .before in
-    many-plan (read (o .before)) _ (o .of-rule .ensures) (e .if1 .left) _ _ (f .search .ensures) (c .before .if2 .taken)
+    many-plan (read (o .before)) _ (o .of-rule .ensures) _ (e .if1 .left) _ _ (f .search .ensures) (c .before .if2 .taken)
     (c .no-plan3 .ensures)
 
 returns-4 : tie.Need-returns-4
@@ -73,7 +72,7 @@ returns-4 c =
     let f = c .before .before in
     let e = f .before .before .before .before .before .before in
     let o = e .before .before in
-    counted-plan (read (o .before)) _ (o .of-rule .ensures) (e .if1 .left) _ _ (f .search .ensures) (c .if2 .left) (search needs)
+    counted-plan (read (o .before)) _ (o .of-rule .ensures) _ (e .if1 .left) _ _ (f .search .ensures) (search needs) (c .if2 .left) (search needs)
 
 pub plan-of-spec : {M : Type 1} → statement M
 plan-of-spec =

@@ -5,6 +5,7 @@ use lib.ListN.{length}
 use borrow.Author.Needs.{needs}
 use Rattle.io.proofs.Counting.{front}
 use Rattle.reading.proofs.Basics.ByteLaws.{slice-bytes}
+use Rattle.synthesis.specs.Monitor.{mark, most}
 use Rattle.running.proofs.Outcomes.{kept-room}
 use Rattle.commands.proofs.sifting.sift_block.Statement.{statement}
 use Rattle.commands.proofs.sifting.sift_block.Tie as tie
@@ -13,7 +14,7 @@ room : (c : tie.After-run) →
     c .run .result .kept ≤ length (c .before .before .before .before .before .before .before .args .output .now)
 room c =
     let x = c .before .before .before .before .before .before .before .args in
-    kept-room 128 255 (x .table .now) (x .count) (x .state) (x .scans .now) (length (x .output .now)) (length (x .verdicts .now))
+    kept-room most mark (x .table .now) (x .count) (x .state) (x .scans .now) (length (x .output .now)) (length (x .verdicts .now))
     (c .run .ensures .0)
 
 run-requires : tie.Need-run-requires

@@ -4,7 +4,8 @@ use lib.ListN.{length}
 use borrow.Author.Needs.{needs}
 use Rattle.reading.specs.Rule.{Bytes}
 use Rattle.reading.proofs.Basics.ByteLaws.{slice-bytes}
-use Rattle.synthesis.specs.Building.{buildingOf}
+use Rattle.synthesis.specs.Monitor.{mark, most}
+use Rattle.synthesis.specs.Building.{fillingOf}
 use Rattle.running.specs.Calls.{noCalls, none}
 use Rattle.synthesis.specs.Table.{WellFormedTable}
 use Rattle.synthesis.proofs.Tables.Built.{counted-well-formed}
@@ -12,13 +13,13 @@ use Rattle.commands.proofs.SiftingLaws.{ends-calls-under-rule}
 use Rattle.commands.proofs.sifting.sift_under.Statement.{statement}
 use Rattle.commands.proofs.sifting.sift_under.Tie as tie
 
-bytes : (c : tie.After-build) → Bytes (c .before .before .before .before .args .file .now)
+bytes : (c : tie.After-fill) → Bytes (c .before .before .before .before .args .file .now)
 bytes c =
     let known = c .before .before .before in
     slice-bytes (known .before .args .file .now) (known .shared-slice-known .given)
 
-build-requires : tie.Need-build-requires
-build-requires c κs = search needs
+fill-requires : tie.Need-fill-requires
+fill-requires c κs = search needs
 
 enum-known-answer : tie.Need-enum-known-answer
 enum-known-answer c = search needs
@@ -29,8 +30,8 @@ sift-all-requires c κs =
     let built = told .before .before .before .before in
     let x = built .before .before .before .before .args in
     let n = told .answer .given .0 .0 in
-    subst (WellFormedTable 128 255 n) (sym (built .build .ensures .1))
-    (counted-well-formed 128 255 (x .file .now) (x .table .now) n (sym (built .build .ensures .0) ∙ told .answer .given .1))
+    subst (WellFormedTable most mark n) (sym (built .fill .ensures .1))
+    (counted-well-formed most mark (x .file .now) (x .table .now) n (sym (built .fill .ensures .0) ∙ told .answer .given .1))
 
 enum-known-answer-2 : tie.Need-enum-known-answer-2
 enum-known-answer-2 c = search needs
@@ -55,12 +56,12 @@ returns c =
     let told = c .before .before .before in
     let built = told .before .before .before .before in
     let x = built .before .before .before .before .args in
-    let answer = sym (told .answer .given .1) ∙ built .build .ensures .0 in (
+    let answer = sym (told .answer .given .1) ∙ built .fill .ensures .0 in (
       bytes built,
       record {
         answer = answer;
-        state = ends-calls-under-rule (buildingOf 128 (x .file .now) (length (x .table .now))) (x .table .now) (told .answer .given .0 .0)
-            (built .build .ensures .1) (sym answer) (c .sift-all .ensures);
+        state = ends-calls-under-rule (fillingOf most (x .file .now) (length (x .table .now))) (x .table .now) (told .answer .given .0 .0)
+            (built .fill .ensures .1) (sym answer) (c .sift-all .ensures);
       },
     )
 
@@ -73,7 +74,7 @@ returns-2 c =
     let built = told .before .before .before .before in (
       bytes built,
       record {
-        answer = sym (told .answer2 .given .1) ∙ built .build .ensures .0;
+        answer = sym (told .answer2 .given .1) ∙ built .fill .ensures .0;
         state = (noCalls, none, c .start .ensures);
       },
     )
@@ -82,7 +83,7 @@ pub sift-under-spec : {M : Type 1} → statement M
 sift-under-spec =
     tie.close
     (tie.spec
-    build-requires
+    fill-requires
     enum-known-answer
     sift-all-requires
     enum-known-answer-2

@@ -2,7 +2,7 @@
 use native.Mathlib.Omega.{arith}
 use borrow.Author.Needs.{needs}
 use mathlib.Core.List.{[], _∷_}
-use Rattle.synthesis.specs.Monitor.{meaning}
+use Rattle.synthesis.specs.Monitor.{mark, meaning}
 use Rattle.listing.specs.Text.{decimal}
 use Rattle.listing.specs.Lines.{answerText}
 use Rattle.listing.proofs.Decimals.{decimal-digits, answer-digits}
@@ -34,10 +34,10 @@ with-last c =
 
 with-entry : (c : tie.After-entry) →
     let x = c .before .before .before .before .before .args in
-    LineBegun (decimal (x .k) ∷ decimal (x .first) ∷ decimal (x .last) ∷ answerText (meaning 255 (x .entry)) ∷ []) 31 (c .entry .result)
+    LineBegun (decimal (x .k) ∷ decimal (x .first) ∷ decimal (x .last) ∷ answerText (meaning mark (x .entry)) ∷ []) 31 (c .entry .result)
 with-entry c =
     let x = c .before .before .before .before .before .args in
-    next-field 31 (answerText (meaning 255 (x .entry))) (with-last (c .before)) (c .entry .ensures)
+    next-field 31 (answerText (meaning mark (x .entry))) (with-last (c .before)) (c .entry .ensures)
     (omega (arith, answer-digits (x .entry) (search needs)))
 
 empty-requires : tie.Need-empty-requires

@@ -3,7 +3,7 @@ use mathlib.Core.Path.{sym, _∙_}
 use Prim.Native.Nat.{_+_, _*_}
 use native.Mathlib.Omega.{arith}
 use borrow.Author.Needs.{needs}
-use Rattle.synthesis.specs.Monitor.{rowOf}
+use Rattle.synthesis.specs.Monitor.{mark, rowOf}
 use Rattle.synthesis.proofs.Tables.Rows.{row-at}
 use Rattle.models.proofs.Pairs.Leading.{leads-silently, leads-by-code}
 use Rattle.models.proofs.exploring.equation_after.Statement.{statement}
@@ -31,7 +31,7 @@ returns-2 c =
     let other = c .before .if1 .left in
     sym
     (leads-by-code (rowOf 256 (x .table .now) (x .equation)) (x .equation) (x .label) other
-    ∙ row-at (x .table .now) (x .equation) (x .label) 255 (p .0) (omega (arith, other, p .1)))
+    ∙ row-at (x .table .now) (x .equation) (x .label) mark (p .0) (omega (arith, other, p .1)))
 
 pub equation-after-spec : {M : Type 1} → statement M
 equation-after-spec =

@@ -6,6 +6,7 @@ use mathlib.Core.List.{List}
 use native.Mathlib.Omega.{arith}
 use lib.ListN.{getD}
 use borrow.Author.Needs.{needs}
+use Rattle.synthesis.specs.Monitor.{most}
 use Rattle.models.specs.Phone.{noStep}
 use Rattle.models.specs.Exploring.{leadsTo, linksOf}
 use Rattle.models.specs.Searching.{searchMeasure, rowAt, SearchInvariant}
@@ -33,7 +34,7 @@ leads-by-row : (c : tie.After-equation-after) → let x = at-start c .args in
 leads-by-row c = c .equation-after .ensures
 
 -- a step that is kept leads to an equation and to a state
-next-in-range : (c : tie.Else1) → c .before .equation-after .result < 128
+next-in-range : (c : tie.Else1) → c .before .equation-after .result < most
 next-in-range c = let p = at-start (c .before) .pre in next-inside (p .1) (p .2) (p .3) (leads-by-row (c .before)) (c .if1 .left)
 
 target-in-range : (c : tie.After-equation-after) → at-start c .args .step .to < 64

@@ -6,13 +6,14 @@ use native.Mathlib.Numerals.{add-one}
 use borrow.Author.Needs.{needs}
 use lib.ListN.{length, take}
 use lib.Seq.{take-suc, take-all}
+use Rattle.synthesis.specs.Monitor.{mark}
 use Rattle.running.specs.Running.{entriesInRange}
 use Rattle.running.proofs.Ranges.{in-range-last}
 use Rattle.running.proofs.checking.entries_in_range.Statement.{statement}
 use Rattle.running.proofs.checking.entries_in_range.Tie as tie
 
 abbrev Inv-loop : tie.InvT-loop
-Inv-loop entries count all₀ i₀ all i = (i ≤ length entries) × (all ≡ entriesInRange 255 count (take i entries))
+Inv-loop entries count all₀ i₀ all i = (i ≤ length entries) × (all ≡ entriesInRange mark count (take i entries))
 
 abbrev μ-loop : tie.MeasureT-loop
 μ-loop entries count all₀ i₀ all i = length entries - i

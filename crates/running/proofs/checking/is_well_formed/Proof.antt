@@ -7,6 +7,7 @@ use borrow.Author.Needs.{needs}
 use borrow.Author.Tests.{le-leb, lt-leb}
 use lib.ListN.{length}
 use lib.Seq.{length-take-le}
+use Rattle.synthesis.specs.Monitor.{most}
 use Rattle.running.specs.Running.{isWellFormed}
 use Rattle.running.proofs.checking.is_well_formed.Statement.{statement}
 use Rattle.running.proofs.checking.is_well_formed.Tie as tie
@@ -21,7 +22,7 @@ returns-2 : tie.Need-returns-2
 unfolding isWellFormed
 returns-2 c =
     let x = c .before .before .before .args in
-    simp (lt-leb (x .count) 128 (omega arith), and-false)
+    simp (lt-leb (x .count) most (omega arith), and-false)
 
 mul-end : tie.Need-mul-end
 mul-end c = search needs
@@ -47,7 +48,7 @@ returns-4 : tie.Need-returns-4
 unfolding isWellFormed
 returns-4 c =
     let x = c .before .before .before .before .before .before .args in
-    rw (le-leb 1 (x .count) (omega arith), le-leb (x .count) 128 (omega arith))
+    rw (le-leb 1 (x .count) (omega arith), le-leb (x .count) most (omega arith))
     (rw (le-leb (256 * x .count) (length (x .table .now)) (omega arith)) (c .entries-in-range .ensures))
 
 pub is-well-formed-spec : {M : Type 1} → statement M

@@ -5,6 +5,7 @@ use native.Mathlib.Omega.{arith}
 use borrow.Author.Needs.{needs}
 use lib.ListN.{length, List·getD-eq-default}
 use Rattle.reading.proofs.Basics.ListLaws.{getD-inside}
+use Rattle.synthesis.specs.Monitor.{mark}
 use Rattle.running.proofs.following.entry.Statement.{statement}
 use Rattle.running.proofs.following.entry.Tie as tie
 
@@ -23,7 +24,7 @@ returns c =
     let l = r .row .result .now in
     let code = r .before .before .args .code in
     let inside : code < length l = c .before .if1 .taken in (
-      rw (← r .row .ensures) (getD-inside l code 0 255 inside),
+      rw (← r .row .ensures) (getD-inside l code 0 mark inside),
       omega (arith, c .shared-slice-known2 .given code .fits),
     )
 
@@ -33,7 +34,7 @@ cast-result-2 c = search needs
 returns-2 : tie.Need-returns-2
 returns-2 c =
     let r = c .before in (
-      rw (← r .row .ensures) (sym (List·getD-eq-default (r .row .result .now) 255 (c .if1 .left))),
+      rw (← r .row .ensures) (sym (List·getD-eq-default (r .row .result .now) mark (c .if1 .left))),
       search needs,
     )
 

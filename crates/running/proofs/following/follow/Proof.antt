@@ -3,13 +3,14 @@ use Prim.Native.Nat.{_-_}
 use native.Mathlib.Omega.{arith}
 use borrow.Author.Needs.{needs}
 use lib.ListN.{length}
+use Rattle.synthesis.specs.Monitor.{mark}
 use Rattle.running.proofs.Stepping.{After, after-next, stateAt, after-none, after-all}
 use Rattle.running.proofs.following.follow.Statement.{statement}
 use Rattle.running.proofs.following.follow.Tie as tie
 
 abbrev Inv-loop : tie.InvT-loop
 Inv-loop table scans output₀ verdicts₀ from₀ kept₀ i₀ output verdicts from kept i =
-    After 255 table (stateAt from₀) output₀ verdicts₀ scans output verdicts from kept i
+    After mark table (stateAt from₀) output₀ verdicts₀ scans output verdicts from kept i
 
 abbrev μ-loop : tie.MeasureT-loop
 μ-loop table scans output₀ verdicts₀ from₀ kept₀ i₀ output verdicts from kept i = length scans - i
@@ -20,7 +21,7 @@ mul-from c = search needs
 loop-holds : tie.Need-loop-holds Inv-loop μ-loop
 loop-holds c =
     let start = c .before .before .before .before .before in
-    after-none 255 _ (start .args .state) _ _ _ (omega arith)
+    after-none mark _ (start .args .state) _ _ _ (omega arith)
 
 shared-slice-read-code : tie.Need-shared-slice-read-code Inv-loop μ-loop
 shared-slice-read-code c = search needs
@@ -67,7 +68,7 @@ loop-again c =
     let e = verdict .before .before in
     let l = e .before .before .before in
     let start = l .before .before .before .before .before .before in
-    after-next 255 _ _ _ _ _ _ _ _ _ _ (l .loop .inv) (e .before .before .loop-test .taken) (start .pre .1) (start .pre .2)
+    after-next mark _ _ _ _ _ _ _ _ _ _ (l .loop .inv) (e .before .before .loop-test .taken) (start .pre .1) (start .pre .2)
     _ (e .entry .ensures .1) (e .entry .ensures .0)
     (c .before .either-byte2 .ensures) (verdict .either-byte .ensures) (verdict .before .either .ensures)
     (c .either2 .ensures)
@@ -84,7 +85,7 @@ same-length-2 c = search needs
 returns : tie.Need-returns Inv-loop μ-loop
 returns c =
     let x = c .before .before .before .before .before .before .before .args in
-    after-all 255 (x .table .now) (x .state) (x .output .now) (x .verdicts .now) (x .scans .now) _ _ _ _ _ (c .before .loop .inv)
+    after-all mark (x .table .now) (x .state) (x .output .now) (x .verdicts .now) (x .scans .now) _ _ _ _ _ (c .before .loop .inv)
     (c .loop-test .left)
 
 pub follow-spec : {M : Type 1} → statement M

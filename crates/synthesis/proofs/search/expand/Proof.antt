@@ -1,18 +1,17 @@
 -- `search::expand` meets its contract.
 use native.Mathlib.Omega.{arith}
 use borrow.Author.Needs.{needs}
-use Rattle.synthesis.specs.Monitor.{most}
 use Rattle.synthesis.proofs.Numberings.Finding.{expanded-grows}
 use Rattle.synthesis.proofs.Functions.HoldsLaws.{held-over-limit, held-expanded-none, held-expanded-some}
 use Rattle.synthesis.proofs.search.expand.Statement.{statement}
 use Rattle.synthesis.proofs.search.expand.Tie as tie
 
 returns : tie.Need-returns
-returns c l h = held-over-limit most _ _ l _ h (c .if1 .taken) (expanded-grows 256 _ _ l)
+returns c l h = held-over-limit _ _ _ l _ h (c .if1 .taken) (expanded-grows 256 _ _ l)
 
 returns-2 : tie.Need-returns-2
 returns-2 c l h =
-    held-expanded-none most _ _ l (c .before .before .before .before .before .pre .2) h 256 _ _ (search needs) (search needs)
+    held-expanded-none _ _ _ l (c .before .before .before .before .before .pre .2) h 256 _ _ (search needs) (search needs)
 
 mul-e : tie.Need-mul-e
 mul-e c = search needs
@@ -30,7 +29,7 @@ returns-3 : tie.Need-returns-3
 returns-3 c l h =
     let explored = c .before .before in
     let start = explored .before .before .before .before .before .before .before .before in
-    rw (held-expanded-some most (start .args .list .now) (start .args .n) l (start .pre .2) h 256 _ (start .args .k) (omega arith) (omega arith))
+    rw (held-expanded-some _ (start .args .list .now) (start .args .n) l (start .pre .2) h 256 _ (start .args .k) (omega arith) (omega arith))
     (explored .explore .ensures l h)
 
 pub expand-spec : {M : Type 1} → statement M

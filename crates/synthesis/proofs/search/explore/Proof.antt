@@ -1,4 +1,4 @@
--- `search::note_row` meets its contract. The array holds what the answers to the codes so far give; the measure is how many codes are left.
+-- `search::explore` meets its contract. The array holds what the answers to the codes so far give; the measure is how many codes are left.
 use Prim.Native.Nat.{ℕ, _-_, _≤_}
 use mathlib.Core.Path.{_≡_}
 use mathlib.Core.List.{List}
@@ -6,19 +6,18 @@ use native.Mathlib.Numerals.{add-one}
 use native.Mathlib.Omega.{arith}
 use lib.ListN.{length}
 use borrow.Author.Needs.{needs}
-use Rattle.synthesis.specs.Monitor.{most}
 use Rattle.synthesis.specs.Search.{explored}
 use Rattle.synthesis.specs.Arrays.{answerBy, Holds}
 use Rattle.synthesis.proofs.search.explore.Statement.{statement}
 use Rattle.synthesis.proofs.search.explore.Tie as tie
 
 abbrev Inv-loop : tie.InvT-loop
-Inv-loop after enabled falsities list₀ n e m₀ c₀ list m c =
-    (c ≤ 256) × (length list ≡ most)
-    × ((l : List ℕ) → Holds most list₀ n l → Holds most list m (explored 256 (answerBy after enabled falsities) e c l))
+Inv-loop after enabled falsities list₀ limit n e m₀ c₀ list m c =
+    (c ≤ 256) × (length list ≡ length list₀)
+    × ((l : List ℕ) → Holds limit list₀ n l → Holds limit list m (explored 256 (answerBy after enabled falsities) e c l))
 
 abbrev μ-loop : tie.MeasureT-loop
-μ-loop after enabled falsities list₀ n e m₀ c₀ list m c = 256 - c
+μ-loop after enabled falsities list₀ limit n e m₀ c₀ list m c = 256 - c
 
 loop-holds : tie.Need-loop-holds Inv-loop μ-loop
 unfolding explored

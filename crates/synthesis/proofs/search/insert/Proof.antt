@@ -1,14 +1,13 @@
--- `search::note` meets its contract.
+-- `search::insert` meets its contract.
 use native.Mathlib.Omega.{arith}
 use borrow.Author.Needs.{needs}
-use Rattle.synthesis.specs.Monitor.{most}
 use Rattle.synthesis.proofs.Numberings.Finding.{insert-grows}
 use Rattle.synthesis.proofs.Functions.HoldsLaws.{held-over-limit, held-insert-old, held-insert-full, held-insert-new}
 use Rattle.synthesis.proofs.search.insert.Statement.{statement}
 use Rattle.synthesis.proofs.search.insert.Tie as tie
 
 returns : tie.Need-returns
-returns c l h = held-over-limit most _ _ l _ h (c .if1 .taken) (insert-grows l _)
+returns c l h = held-over-limit _ _ _ l _ h (c .if1 .taken) (insert-grows l _)
 
 find-requires : tie.Need-find-requires
 find-requires c κs = search needs
@@ -17,13 +16,16 @@ same-length : tie.Need-same-length
 same-length c = search needs
 
 returns-2 : tie.Need-returns-2
-returns-2 c l h = held-insert-old most _ _ l (c .before .before .before .before .before .pre) h _ (search needs) (omega arith)
+returns-2 c l h = held-insert-old _ _ _ l (c .before .before .before .before .before .pre) h _ (search needs) (omega arith)
+
+add-result : tie.Need-add-result
+add-result c = search needs
 
 same-length-2 : tie.Need-same-length-2
 same-length-2 c = search needs
 
 returns-3 : tie.Need-returns-3
-returns-3 c l h = held-insert-full most _ _ l (c .before .before .before .before .before .before .pre) h _ (search needs) (omega arith)
+returns-3 c l h = held-insert-full _ _ _ l (c .before .before .before .before .before .before .pre) h _ (search needs) (omega arith)
 
 mul-list : tie.Need-mul-list
 mul-list c = search needs
@@ -31,14 +33,14 @@ mul-list c = search needs
 slice-write-list : tie.Need-slice-write-list
 slice-write-list c = search needs
 
-add-result : tie.Need-add-result
-add-result c = search needs
+add-result-2 : tie.Need-add-result-2
+add-result-2 c = search needs
 
 same-length-3 : tie.Need-same-length-3
 same-length-3 c = search needs
 
 returns-4 : tie.Need-returns-4
-returns-4 c l h = held-insert-new most _ _ l (c .before .before .before .before .before .before .pre) h _ (omega arith) (omega arith)
+returns-4 c l h = held-insert-new _ _ _ l (c .before .before .before .before .before .before .pre) h _ (omega arith) (omega arith)
 
 pub insert-spec : {M : Type 1} → statement M
 insert-spec =
@@ -48,10 +50,11 @@ insert-spec =
     find-requires
     same-length
     returns-2
+    add-result
     same-length-2
     returns-3
     mul-list
     slice-write-list
-    add-result
+    add-result-2
     same-length-3
     returns-4)

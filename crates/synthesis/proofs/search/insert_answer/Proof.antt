@@ -1,4 +1,4 @@
--- `search::note_answer` meets its contract.
+-- `search::insert_answer` meets its contract.
 use borrow.Author.Needs.{needs}
 use borrow.Author.Tests.{eq-eqb, ne-eqb}
 use Rattle.synthesis.proofs.search.insert_answer.Statement.{statement}

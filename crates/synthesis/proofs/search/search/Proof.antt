@@ -1,36 +1,31 @@
 -- `search::search` meets its contract. The array holds the equations found after the expansions so far; the measure is how many are left.
 use Prim.Native.Nat.{_-_, _≤_}
-use mathlib.Core.Path.{_≡_}
+use mathlib.Core.Path.{_≡_, refl}
 use mathlib.Core.Logic.{inl}
+use mathlib.Core.List.{[]}
+use native.Mathlib.Nat.{le-antisymm}
 use native.Mathlib.Numerals.{add-one}
-use native.Mathlib.Omega.{arith}
 use lib.ListN.{length}
-use lib.Seq.{take-suc-set}
 use borrow.Author.Needs.{needs}
-use Rattle.synthesis.specs.Monitor.{most}
 use Rattle.synthesis.specs.Search.{found}
 use Rattle.synthesis.specs.Arrays.{answerBy, Holds}
 use Rattle.synthesis.proofs.search.search.Statement.{statement}
 use Rattle.synthesis.proofs.search.search.Tie as tie
 
 abbrev Inv-loop : tie.InvT-loop
-Inv-loop after enabled falsities first list₀ n₀ k₀ list n k =
-    (k ≤ most) × (length list ≡ most) × Holds most list n (found 256 (answerBy after enabled falsities) k first)
+Inv-loop after enabled falsities first list₀ limit n₀ k₀ list n k =
+    (k ≤ limit) × (length list ≡ length list₀) × Holds limit list n (found 256 (answerBy after enabled falsities) k first)
 
 abbrev μ-loop : tie.MeasureT-loop
-μ-loop after enabled falsities first list₀ n₀ k₀ list n k = most - k
+μ-loop after enabled falsities first list₀ limit n₀ k₀ list n k = limit - k
 
-slice-write-list : tie.Need-slice-write-list Inv-loop μ-loop
-slice-write-list c = search needs
+insert-requires : tie.Need-insert-requires Inv-loop μ-loop
+insert-requires c κs = search needs
 
 loop-holds : tie.Need-loop-holds Inv-loop μ-loop
 unfolding found
 loop-holds c =
-    let start = c .before .before .before in (
-      search needs,
-      search needs,
-      inl (search needs, take-suc-set (start .args .list .now) 0 (start .args .first) (omega arith)),
-    )
+    (search needs, search needs, c .before .before .insert .ensures [] (inl (search needs, refl)))
 
 expand-requires : tie.Need-expand-requires Inv-loop μ-loop
 expand-requires c κs = search needs
@@ -55,9 +50,7 @@ same-length : tie.Need-same-length Inv-loop μ-loop
 same-length c = search needs
 
 returns : tie.Need-returns Inv-loop μ-loop
-returns c =
-    let all : c .before .loop .k ≡ most = omega arith in
-    rw all at (c .before .loop .inv .2)
+returns c = rw (le-antisymm (c .before .loop .inv .0) (c .loop-test .left)) at (c .before .loop .inv .2)
 
 pub search-spec : {M : Type 1} → statement M
 search-spec =
@@ -65,7 +58,7 @@ search-spec =
     (tie.spec
     Inv-loop
     μ-loop
-    slice-write-list
+    insert-requires
     loop-holds
     expand-requires
     add-k

@@ -1,4 +1,4 @@
--- `filling::fill` meets its contract. The table has the rows of the equations so far; the measure is how many equations are left.
+-- `filling::fill_rows` meets its contract. The table has the rows of the equations so far; the measure is how many equations are left.
 use Prim.Native.Nat.{_*_, _-_, _≤_}
 use mathlib.Core.Path.{_≡_}
 use mathlib.Core.List.{_++_}
@@ -10,8 +10,8 @@ use Rattle.synthesis.specs.Monitor.{mark}
 use Rattle.synthesis.specs.Table.{rows}
 use Rattle.synthesis.specs.Arrays.{answerBy}
 use Rattle.synthesis.proofs.Functions.FillingRows.{rows-keep-length, rows-next, rows-all}
-use Rattle.synthesis.proofs.filling.fill.Statement.{statement}
-use Rattle.synthesis.proofs.filling.fill.Tie as tie
+use Rattle.synthesis.proofs.filling.fill_rows.Statement.{statement}
+use Rattle.synthesis.proofs.filling.fill_rows.Tie as tie
 
 abbrev Inv-loop : tie.InvT-loop
 Inv-loop after enabled falsities found n table₀ k₀ table k =
@@ -77,8 +77,8 @@ returns c =
     let args = c .before .before .before .before .before .before .args in
     rows-all mark _ _ 256 _ _ _ (c .before .loop .inv .1) (omega (arith, length-take-le (args .n) (args .found .now) (omega arith)))
 
-pub fill-spec : {M : Type 1} → statement M
-fill-spec =
+pub fill-rows-spec : {M : Type 1} → statement M
+fill-rows-spec =
     tie.close
     (tie.spec
     Inv-loop

@@ -1,4 +1,4 @@
--- `renumbering::fill_short` meets its contract. The table has the rows of the classes so far; the measure is how many classes are left.
+-- `renumbering::fill_short_rows` meets its contract. The table has the rows of the classes so far; the measure is how many classes are left.
 use Prim.Native.Nat.{ℕ, _*_, _-_, _≤_, _<_}
 use mathlib.Core.Path.{_≡_, sym}
 use mathlib.Core.List.{List, _++_}
@@ -13,8 +13,8 @@ use Rattle.synthesis.specs.Merging.{merged}
 use Rattle.synthesis.specs.Arrays.{AreNumbers}
 use Rattle.synthesis.proofs.Functions.FillingRows.{rows-next, rows-all}
 use Rattle.synthesis.proofs.Functions.NumberingClasses.{numbers-front}
-use Rattle.synthesis.proofs.renumbering.fill_short.Statement.{statement}
-use Rattle.synthesis.proofs.renumbering.fill_short.Tie as tie
+use Rattle.synthesis.proofs.renumbering.fill_short_rows.Statement.{statement}
+use Rattle.synthesis.proofs.renumbering.fill_short_rows.Tie as tie
 
 abbrev Inv-loop : tie.InvT-loop
 Inv-loop long n firsts m numbers table₀ i₀ table i =
@@ -108,8 +108,8 @@ returns c classes are =
     let x = start .args in
     rows-all mark _ _ 256 _ _ _ (l .loop .inv .2 classes are) (omega (arith, length-take-le (x .m) (x .firsts .now) (start .pre .1)))
 
-pub fill-short-spec : {M : Type 1} → statement M
-fill-short-spec =
+pub fill-short-rows-spec : {M : Type 1} → statement M
+fill-short-rows-spec =
     tie.close
     (tie.spec
     Inv-loop

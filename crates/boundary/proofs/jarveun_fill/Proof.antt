@@ -1,0 +1,25 @@
+-- `jarveun_fill` meets its contract: its two numbers are those of what `build` answers.
+use mathlib.Core.Path.{_∙_}
+use borrow.Author.Needs.{needs}
+use Rattle.boundary.specs.Results.{countedResult}
+use Rattle.boundary.proofs.SameResults.{alike}
+use Rattle.boundary.proofs.jarveun_fill.Statement.{statement}
+use Rattle.boundary.proofs.jarveun_fill.Tie as tie
+
+fill-requires : tie.Need-fill-requires
+fill-requires c κs = search needs
+
+hand-back-requires : tie.Need-hand-back-requires
+hand-back-requires c κs = search needs
+
+same-length : tie.Need-same-length
+same-length c = search needs
+
+returns : tie.Need-returns
+returns c =
+    let built = c .before .before .before .before .fill .ensures in
+    let same = alike countedResult (built .0) in
+    (c .hand-back .ensures .0 ∙ same .0, (c .hand-back .ensures .1 ∙ same .1, built .1))
+
+pub jarveun-fill-spec : {M : Type 1} → statement M
+jarveun-fill-spec = tie.close (tie.spec fill-requires hand-back-requires same-length returns)
