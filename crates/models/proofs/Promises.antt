@@ -2,8 +2,9 @@
 use Rattle.models.specs.Promises.{Promises}
 use Rattle.models.proofs.Judgments.TablesEnforce.{tables-enforce, short-tables-enforce, monitor-tables-enforce, short-bisimilar}
 use Rattle.models.proofs.Phones.DecidedSets.{decided-satisfies}
+use Rattle.models.proofs.Judgments.JudgingOrder.{judges-in-order}
 use Rattle.models.proofs.Judgments.JudgingLaws.{judges-exactly, refused-unchanged}
-use Rattle.models.proofs.Judgments.Accepting.{accepts-exactly, refuses-unsatisfiable}
+use Rattle.models.proofs.Judgments.Accepting.{accepts-exactly, short-accepts-exactly, fills-exactly, short-fills-exactly, refuses-unsatisfiable}
 use Rattle.models.proofs.Files.Encoding.{accepts-phones, one-phone, stores-model, answers-accepted}
 use Rattle.models.proofs.Files.FileFaults.{refuses-at-the-fault, has-one-fault}
 use Rattle.models.proofs.Files.Settled.{settled-by-first-bytes, not-by-fewer}
@@ -19,7 +20,11 @@ promises = record {
   decided-satisfies = decided-satisfies;
   judges-exactly = judges-exactly;
   refused-unchanged = refused-unchanged;
+  judges-in-order = judges-in-order;
   accepts-exactly = accepts-exactly;
+  short-accepts-exactly = short-accepts-exactly;
+  fills-exactly = fills-exactly;
+  short-fills-exactly = short-fills-exactly;
   refuses-unsatisfiable = refuses-unsatisfiable;
   accepts-phones = accepts-phones;
   one-phone = one-phone;

@@ -1,5 +1,5 @@
 -- What reading a model file hands up, what judging answers, and what it leaves in the table that it is lent. The limit on equations is any;
--- the paper's is 128.
+-- the paper's is `most`.
 use Prim.Native.Nat.{ℕ}
 use mathlib.Core.Path.{_≡_}
 use mathlib.Core.Logic.{_⊎_}
@@ -39,7 +39,7 @@ pub record RuleAndModel : Type 0 where
   pub rule : Rule
   pub phone : Phone
 
--- What is judged, with a table of so many bytes: 10 and 1 to 9 of building come first, then 11 to 14 of the model.
+-- What is judged, with a table of so many bytes: 1 to 9 of the rule come first, then 10 of the table, and then 11 to 14 of the model.
 unfoldable pub judgingOf : (limit : ℕ) → (rule : List ℕ) → (capacity : ℕ) → (model : List ℕ) → Outcome RuleAndModel
 judgingOf limit s capacity f =
     andThen (fillingOf limit s capacity) (λ y. andThen (phoneOf f) (λ p. accepted (record { rule = y .rule; phone = p })))
@@ -52,7 +52,7 @@ JudgedAs (accepted x) answer =
     ⊎ ((answer ≡ Judged′.the-variants.Breaks) × (SatisfiesDecided (modelOf (x .phone)) (x .rule) → ⊥))
 JudgedAs (refused number place) answer = answer ≡ Judged′.the-variants.Refused number place
 
--- what is left in the table: what building leaves, or no change where judging is refused
-abbrev pub tableJudged : Outcome RuleAndModel → (built before : List ℕ) → List ℕ
-tableJudged (accepted x) built before = built
-tableJudged (refused number place) built before = before
+-- what is left in the table: what filling leaves, or no change where judging is refused
+abbrev pub tableJudged : Outcome RuleAndModel → (left before : List ℕ) → List ℕ
+tableJudged (accepted x) left before = left
+tableJudged (refused number place) left before = before

@@ -1,16 +1,16 @@
 -- What this crate promises, as statements over the definitions; proofs/ has a theorem of each of these types. The limit on equations and
--- the mark for dropped are any; with 128 and 255 these are the terms of the contracts of building and of judging.
-use Prim.Native.Nat.{ℕ, _*_, _≤_}
+-- the mark for dropped are any; with `most` and `mark` these are the terms of the contracts of counting, of filling and of judging.
+use Prim.Native.Nat.{ℕ, _*_, _≤_, _<_}
 use mathlib.Core.Path.{_≡_}
 use mathlib.Core.Logic.{_↔_, _⊎_}
 use mathlib.Core.List.{List}
 use lib.ListN.{length, getD, take}
 use Rattle.reading.specs.Rule.{Rule, RuleWithinLimits, encode, Bytes}
-use Rattle.reading.specs.File.{accepted, refused, ruleOf}
+use Rattle.reading.specs.File.{Outcome, accepted, refused, ruleOf}
 use Rattle.reading.specs.Promises.{OneFault}
 use Rattle.reading.specs.declared.FileRead.the-variants.{Accepted, Refused as NotAccepted}
 use Rattle.synthesis.specs.Monitor.{Monitors, lookup}
-use Rattle.synthesis.specs.Building.{fillingOf, countedOf, tableLeft, Fills, FillsShort}
+use Rattle.synthesis.specs.Building.{Synthesis, synthesisOf, fillingOf, countedOf, tableLeft, shortOf, shortFillingOf, Fills, FillsShort}
 use Rattle.synthesis.specs.Promises.{Closed}
 use Rattle.synthesis.specs.declared.Counted.the-variants.{Equations, Refused}
 use Rattle.enforcement.specs.Model.{Model, Finite, ByteCodes, Satisfies, SatisfiesDecided, Bisimilar, suppressing, monitored}
@@ -29,12 +29,12 @@ EnforcesRule mark r table =
     (f : List ℕ) (y : Phone) → Bytes f → phoneOf f ≡ accepted y
     → Enforces r (suppressing (lookup 256 mark table)) 0 (modelOf y) × WalksBehind (lookup 256 mark table) 0 (modelOf y)
 
--- The table that building leaves does, whatever the table held before.
+-- The table that filling leaves does, whatever the table held before.
 abbrev pub TablesEnforce : Type 1
 TablesEnforce =
     (limit mark : ℕ) (s table : List ℕ) (r : Rule) (n : ℕ) (left : List ℕ) → Fills limit mark s table r n left → EnforcesRule mark r left
 
--- So too for the table that the short build leaves, and for any other that monitors a rule.
+-- So does the filled short table, and any other that monitors a rule.
 abbrev pub ShortTablesEnforce : Type 1
 ShortTablesEnforce =
     (limit mark : ℕ) (s table : List ℕ) (r : Rule) (n : ℕ) (left : List ℕ) → FillsShort limit mark s table r n left → EnforcesRule mark r left
@@ -42,7 +42,7 @@ ShortTablesEnforce =
 abbrev pub MonitorTablesEnforce : Type 1
 MonitorTablesEnforce = (mark : ℕ) (r : Rule) (table : List ℕ) → Monitors r (lookup 256 mark table) 0 → EnforcesRule mark r table
 
--- Behind the tables of the two builds, every model whose codes are bytes is strongly bisimilar to itself from its start, whatever the tables held before.
+-- Behind the two tables of a rule, every model whose codes are bytes is strongly bisimilar to itself from its start, whatever the tables held before.
 abbrev pub ShortBisimilar : Type 1
 ShortBisimilar =
     (limit mark : ℕ) (s table : List ℕ) (r : Rule) (n : ℕ) (long : List ℕ) → Fills limit mark s table r n long
@@ -67,22 +67,37 @@ JudgesExactly =
     → JudgedExactly r y answer
 
 -- What judging leaves in the table, in the terms of its contract: where the answer is a refusal, of the rule or of the model, all bytes as they were,
--- and else exactly what building leaves.
-pub record JudgingLeaves (answer : Judged) (before built after : List ℕ) : Type 0 where
+-- and else exactly what filling leaves.
+pub record JudgingLeaves (answer : Judged) (before left after : List ℕ) : Type 0 where
   pub refused : {number place : ℕ} → answer ≡ NotJudged number place → after ≡ before
-  pub judged : (answer ≡ Meets) ⊎ (answer ≡ Breaks) → after ≡ built
+  pub judged : (answer ≡ Meets) ⊎ (answer ≡ Breaks) → after ≡ left
 
 abbrev pub RefusedUnchanged : Type 0
 RefusedUnchanged =
     (limit mark : ℕ) (s f table : List ℕ) (answer : Judged) → JudgedAs (judgingOf limit s (length table) f) answer →
-    let built = tableLeft limit mark s table in
-    JudgingLeaves answer table built (tableJudged (judgingOf limit s (length table) f) built table)
+    let left = tableLeft limit mark s table in
+    JudgingLeaves answer table left (tableJudged (judgingOf limit s (length table) f) left table)
+
+-- The order of refusals: that of the rule, if it has one; else 10, if the table has under 256 bytes for each equation counted; else that of the model. Where
+-- there is none, the model is judged.
+pub record InOrder (limit : ℕ) (s : List ℕ) (capacity : ℕ) (f : List ℕ) (answer : Judged) : Type 0 where
+  pub rule : (number place : ℕ) → countedOf (synthesisOf limit s) ≡ Refused number place → answer ≡ NotJudged number place
+  pub table : (n : ℕ) → countedOf (synthesisOf limit s) ≡ Equations n → capacity < 256 * n → answer ≡ NotJudged 10 0
+  pub model : (n : ℕ) → countedOf (synthesisOf limit s) ≡ Equations n → 256 * n ≤ capacity
+      → (number place : ℕ) → modelReadingOf (phoneOf f) .answer ≡ NotAccepted number place → answer ≡ NotJudged number place
+  pub judged : (n : ℕ) → countedOf (synthesisOf limit s) ≡ Equations n → 256 * n ≤ capacity → modelReadingOf (phoneOf f) .answer ≡ Accepted
+      → (answer ≡ Meets) ⊎ (answer ≡ Breaks)
+
+abbrev pub JudgesInOrder : Type 0
+JudgesInOrder =
+    (limit : ℕ) (s : List ℕ) (capacity : ℕ) (f : List ℕ) (answer : Judged) → JudgedAs (judgingOf limit s capacity f) answer
+    → InOrder limit s capacity f answer
 
 -- ---- which rules are accepted
 
--- 3. Demand 2, acceptance. With a table that is long enough, building isn't refused exactly when the file is the encoding of a well-formed
--- rule within 32 patterns and 64 nodes, of which at most `limit` equations are reached, and which some finite model satisfies. All that are
--- reached stand in a list of at most so many sets that is closed under the codes.
+-- 3. Demand 2, acceptance. Counting answers a count exactly when the file is the encoding of a well-formed rule within 32 patterns and 64 nodes, of
+-- which at most `limit` equations are reached, and which some finite model satisfies. All that are reached stand in a list of at most so many sets
+-- that is closed under the codes.
 pub record Acceptable (limit : ℕ) (s : List ℕ) : Type 1 where
   pub rule : Rule
   pub within-limits : RuleWithinLimits rule
@@ -95,20 +110,31 @@ pub record Acceptable (limit : ℕ) (s : List ℕ) : Type 1 where
   pub satisfied : Satisfies model rule
 
 abbrev pub AcceptsExactly : Type 1
-AcceptsExactly =
-    (limit : ℕ) (s table : List ℕ) → Bytes s → 256 * limit ≤ length table
-    → ((n : ℕ) × (countedOf (fillingOf limit s (length table)) ≡ Equations n)) ↔ Acceptable limit s
+AcceptsExactly = (limit : ℕ) (s : List ℕ) → Bytes s → ((n : ℕ) × (countedOf (synthesisOf limit s) ≡ Equations n)) ↔ Acceptable limit s
+
+-- So it is with counting for the short table.
+abbrev pub ShortAcceptsExactly : Type 1
+ShortAcceptsExactly = (limit : ℕ) (s : List ℕ) → Bytes s → ((n : ℕ) × (countedOf (shortOf limit s) ≡ Equations n)) ↔ Acceptable limit s
+
+-- Filling isn't refused exactly when besides the table has 256 bytes for each equation counted.
+abbrev pub FillsWithRoom : (limit : ℕ) → (s : List ℕ) → (counting filling : Outcome Synthesis) → (capacity : ℕ) → Type 1
+FillsWithRoom limit s counting filling capacity =
+    ((n : ℕ) × (countedOf filling ≡ Equations n)) ↔ (Acceptable limit s × ((n : ℕ) → countedOf counting ≡ Equations n → 256 * n ≤ capacity))
+
+abbrev pub FillsExactly : Type 1
+FillsExactly = (limit : ℕ) (s : List ℕ) (capacity : ℕ) → Bytes s → FillsWithRoom limit s (synthesisOf limit s) (fillingOf limit s capacity) capacity
+
+abbrev pub ShortFillsExactly : Type 1
+ShortFillsExactly = (limit : ℕ) (s : List ℕ) (capacity : ℕ) → Bytes s → FillsWithRoom limit s (shortOf limit s) (shortFillingOf limit s capacity) capacity
 
 -- A rule that was read is refused with 8 exactly when no model satisfies it, exactly when no finite one does, and exactly when no phone model does.
-pub record RefusedAsUnsatisfiable (limit : ℕ) (s : List ℕ) (capacity : ℕ) (r : Rule) : Type 1 where
-  pub no-model : (countedOf (fillingOf limit s capacity) ≡ Refused 8 0) ↔ ((m : Model) → Satisfies m r → ⊥)
-  pub no-finite : (countedOf (fillingOf limit s capacity) ≡ Refused 8 0) ↔ ((m : Model) → Finite m → Satisfies m r → ⊥)
-  pub no-phone : (countedOf (fillingOf limit s capacity) ≡ Refused 8 0) ↔ ((y : Phone) → PhoneWithinLimits y → Satisfies (modelOf y) r → ⊥)
+pub record RefusedAsUnsatisfiable (limit : ℕ) (s : List ℕ) (r : Rule) : Type 1 where
+  pub no-model : (countedOf (synthesisOf limit s) ≡ Refused 8 0) ↔ ((m : Model) → Satisfies m r → ⊥)
+  pub no-finite : (countedOf (synthesisOf limit s) ≡ Refused 8 0) ↔ ((m : Model) → Finite m → Satisfies m r → ⊥)
+  pub no-phone : (countedOf (synthesisOf limit s) ≡ Refused 8 0) ↔ ((y : Phone) → PhoneWithinLimits y → Satisfies (modelOf y) r → ⊥)
 
 abbrev pub RefusesUnsatisfiable : Type 1
-RefusesUnsatisfiable =
-    (limit : ℕ) (s : List ℕ) (capacity : ℕ) (r : Rule) → Bytes s → 256 * limit ≤ capacity → ruleOf s ≡ accepted r
-    → RefusedAsUnsatisfiable limit s capacity r
+RefusesUnsatisfiable = (limit : ℕ) (s : List ℕ) (r : Rule) → Bytes s → ruleOf s ≡ accepted r → RefusedAsUnsatisfiable limit s r
 
 -- ---- model files
 
@@ -168,7 +194,11 @@ pub record Promises : Type 1 where
   pub decided-satisfies : DecidedSatisfies
   pub judges-exactly : JudgesExactly
   pub refused-unchanged : RefusedUnchanged
+  pub judges-in-order : JudgesInOrder
   pub accepts-exactly : AcceptsExactly
+  pub short-accepts-exactly : ShortAcceptsExactly
+  pub fills-exactly : FillsExactly
+  pub short-fills-exactly : ShortFillsExactly
   pub refuses-unsatisfiable : RefusesUnsatisfiable
   pub accepts-phones : AcceptsPhones
   pub one-phone : OnePhone

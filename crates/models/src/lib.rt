@@ -110,21 +110,21 @@ fn refuse_model(answer: FileRead) -> Judged
     }
 }
 
-// What is said where the model is refused: 10 and the refusals of the rule come first.
+// What is said where the model is refused: the refusals of the rule, and then 10, come first.
 fn refuse(rule: &[u8], capacity: usize, answer: FileRead) -> Judged
     ensures { λ r. ⌜ r ≡ refusalBefore (countedOf (fillingOf most (now (rule .entry)) capacity)) answer ⌝ }
 {
-    if capacity < 32768 {
-        return Judged::Refused(10, 0);
-    }
     let counted = synthesis::count(rule);
-    let Counted::Equations(_) = counted else {
+    let Counted::Equations(n) = counted else {
         return refuse_rule(counted);
     };
+    if capacity < 256 * n {
+        return Judged::Refused(10, 0);
+    }
     refuse_model(answer)
 }
 
-// Judges whether the model of a file meets the rule of another, and leaves the rule's rows in the table as building does. A refused call
+// Judges whether the model of a file meets the rule of another, and leaves the rule's rows in the table as filling does. A refused call
 // leaves the table as it was: the model is read before a row is written.
 pub fn judge(rule: &[u8], model: &[u8], table: &mut [u8]) -> Judged
     ensures { λ r. ⌜ JudgedAs (judgingOf most (now (rule .entry)) (length (now (table .entry))) (now (model .entry))) r ⌝ }
@@ -138,9 +138,9 @@ pub fn judge(rule: &[u8], model: &[u8], table: &mut [u8]) -> Judged
     let FileRead::Accepted = answer else {
         return refuse(rule, table.len(), answer);
     };
-    let built = synthesis::fill(rule, table);
-    let Counted::Equations(_) = built else {
-        return refuse_rule(built);
+    let filled = synthesis::fill(rule, table);
+    let Counted::Equations(_) = filled else {
+        return refuse_rule(filled);
     };
     if exploring::never_drops(reading.model, table) {
         return Judged::Meets;

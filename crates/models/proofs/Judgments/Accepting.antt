@@ -1,9 +1,11 @@
--- Which rules building accepts: those that some finite model satisfies, with no more equations than the limit. A rule that the empty list doesn't
+-- Which rules are accepted: those that some finite model satisfies, with no more equations than the limit. A rule that the empty list doesn't
 -- violate is satisfied by the phone that does nothing, and one that it violates by no model.
-use Prim.Native.Nat.{ℕ}
+use Prim.Native.Nat.{ℕ, _*_, _≤_}
 use mathlib.Core.Path.{_≡_, refl, sym, _∙_}
+use mathlib.Core.Logic.{_↔_}
 use mathlib.Core.Bool.{Bool, true, false, true≢false}
 use mathlib.Core.List.{List, []}
+use native.Mathlib.Decide.{decLe}
 use native.Mathlib.Omega.{arith}
 use lib.Dec.{ltb}
 use lib.ListN.{length}
@@ -12,15 +14,17 @@ use Rattle.reading.specs.File.{Outcome, accepted, refuse, ruleOf}
 use Rattle.reading.proofs.Accepting.Accepted.{accepts-encodings}
 use Rattle.synthesis.specs.Violation.{ViolatesRule}
 use Rattle.synthesis.specs.Answering.{unsatisfiable}
-use Rattle.synthesis.specs.Building.{equationsOf, Synthesis, withEquations, synthesisOf, countedOf}
+use Rattle.synthesis.specs.Building.{equationsOf, Synthesis, withEquations, synthesisOf, fillingOf, countedOf, shortOf, shortFillingOf}
+use Rattle.synthesis.specs.Promises.{FillsAsCounted}
 use Rattle.synthesis.specs.declared.Counted.the-variants.{Equations, Refused}
 use Rattle.synthesis.proofs.Monitors.RuleMonitor.{unsatisfiable-iff}
-use Rattle.synthesis.proofs.Tables.SynthesisOutcomes.{synthesis-of}
-use Rattle.synthesis.proofs.Tables.Equations.{file-well-formed, answers-count, checks-table, reaches-equations, refuses-too-many}
+use Rattle.synthesis.proofs.Tables.SynthesisOutcomes.{synthesis-of, fills-as-counted, short-fills-as-counted}
+use Rattle.synthesis.proofs.Tables.Equations.{file-well-formed, answers-count, reaches-equations, refuses-too-many}
 use Rattle.synthesis.proofs.Tables.Built.{refuses-violated-by-empty}
+use Rattle.synthesis.proofs.Quotients.ShortFillings.{short-refuses-alike, short-counted-long}
 use Rattle.enforcement.specs.Model.{Model, Finite, Satisfies}
 use Rattle.models.specs.Phone.{Phone, modelOf, PhoneWithinLimits}
-use Rattle.models.specs.Promises.{Acceptable, AcceptsExactly, RefusesUnsatisfiable}
+use Rattle.models.specs.Promises.{Acceptable, AcceptsExactly, ShortAcceptsExactly, FillsWithRoom, FillsExactly, ShortFillsExactly, RefusesUnsatisfiable}
 use Rattle.enforcement.proofs.QuietModels.{empty-safe, quiet-satisfies}
 use Rattle.models.proofs.Phones.PhoneStates.{phones-finite}
 
@@ -99,16 +103,47 @@ module _ (limit : ℕ) (s : List ℕ) (bytes : Bytes s) where
 -- ---- the promises
 
 pub accepts-exactly : AcceptsExactly
-accepts-exactly limit s table bytes room =
-    rw (checks-table limit s (length table) .enough room) (λ (n, e). counted-acceptable limit s bytes n e, acceptable-counted limit s bytes)
+accepts-exactly limit s bytes = (λ (n, e). counted-acceptable limit s bytes n e, acceptable-counted limit s bytes)
+
+pub short-accepts-exactly : ShortAcceptsExactly
+short-accepts-exactly limit s bytes =
+    let accepts = accepts-exactly limit s bytes in (
+      λ (m, e). accepts .0 (short-counted-long limit s m e),
+      λ a. let (n, e) = accepts .1 a in let (m, e′, some, few) = short-refuses-alike limit s .counted n e in (m, e′),
+    )
+
+-- filling, where counting answers a count exactly for these rules
+filled-with-room : (limit : ℕ) (s : List ℕ) (counting filling : Outcome Synthesis) (capacity : ℕ)
+    → ((n : ℕ) × (countedOf counting ≡ Equations n)) ↔ Acceptable limit s → FillsAsCounted counting filling capacity
+    → FillsWithRoom limit s counting filling capacity
+filled-with-room limit s counting filling capacity accepts fills = (
+  λ (n, e).
+      let counted : countedOf counting ≡ Equations n = rw (← fills .same n e) e in
+      (accepts .0 (n, counted), λ m e′. on m e′ (decLe (256 * m) capacity) n e),
+  λ (a, room). let (n, e) = accepts .1 a in (n, fills .enough n e (room n e)),
+)
+  where
+    on : (m : ℕ) → countedOf counting ≡ Equations m → Dec (256 * m ≤ capacity) → (n : ℕ) → countedOf filling ≡ Equations n → 256 * m ≤ capacity
+    on m e′ (yes h) n e = h
+    on m e′ (no h) n e =
+        let short : countedOf filling ≡ Refused 10 0 = fills .too-short m e′ (omega (arith, h)) in
+        absurd (let z : _≡_ {A = ℕ} 0 1 = cc in omega arith)
+
+pub fills-exactly : FillsExactly
+fills-exactly limit s capacity bytes =
+    filled-with-room limit s (synthesisOf limit s) (fillingOf limit s capacity) capacity (accepts-exactly limit s bytes) (fills-as-counted limit s capacity)
+
+pub short-fills-exactly : ShortFillsExactly
+short-fills-exactly limit s capacity bytes =
+    filled-with-room limit s (shortOf limit s) (shortFillingOf limit s capacity) capacity (short-accepts-exactly limit s bytes)
+    (short-fills-as-counted limit s capacity)
 
 pub refuses-unsatisfiable : RefusesUnsatisfiable
-refuses-unsatisfiable limit s capacity r bytes room read =
-    let same = checks-table limit s capacity .enough room in
+refuses-unsatisfiable limit s r bytes read =
     let refused = refused-unsatisfiable limit s bytes r read in
     let refuses = unsatisfiable-refused limit s bytes r read in
     record {
-      no-model = rw same (refused, λ none. refuses (none still));
-      no-finite = rw same (λ e m finite. refused e m, λ none. refuses (none still (phones-finite stillPhone)));
-      no-phone = rw same (λ e y within-limits. refused e (modelOf y), λ none. refuses (none stillPhone still-within-limits));
+      no-model = (refused, λ none. refuses (none still));
+      no-finite = (λ e m finite. refused e m, λ none. refuses (none still (phones-finite stillPhone)));
+      no-phone = (λ e y within-limits. refused e (modelOf y), λ none. refuses (none stillPhone still-within-limits));
     }

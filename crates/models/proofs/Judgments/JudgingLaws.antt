@@ -8,7 +8,6 @@ use native.Mathlib.Omega.{arith}
 use lib.ListN.{length}
 use Rattle.reading.specs.Rule.{Rule}
 use Rattle.reading.specs.File.{Outcome, accepted, refused}
-use Rattle.reading.proofs.Basics.Outcomes.{andThen-accepts}
 use Rattle.synthesis.specs.Building.{tableLeft, Fills}
 use Rattle.synthesis.proofs.Tables.Built.{fills-outcome}
 use Rattle.models.specs.Phone.{Phone, phoneOf}
@@ -17,12 +16,12 @@ use Rattle.models.specs.Promises.{JudgedExactly, JudgesExactly, JudgingL
 use Rattle.models.specs.declared.Judged.{Judged}
 use Rattle.models.specs.declared.Judged.the-variants.{Meets, Breaks}
 use Rattle.models.proofs.Phones.DecidedSets.{decided-satisfies}
+use Rattle.models.proofs.Judgments.JudgingOrder.{judging-accepts}
 
 -- what is judged is the file's rule and the file's model
 pub judging-case : {limit mark : ℕ} {s table : List ℕ} {r : Rule} {n : ℕ} {left : List ℕ} → Fills limit mark s table r n left
     → (f : List ℕ) (y : Phone) → phoneOf f ≡ accepted y → judgingOf limit s (length table) f ≡ accepted (record { rule = r; phone = y })
-unfolding judgingOf
-judging-case b f y read = andThen-accepts _ (fills-outcome b) (andThen-accepts _ read refl)
+judging-case b f y read = judging-accepts _ _ _ (fills-outcome b) f read
 
 judged-case : (r : Rule) (y : Phone) (answer : Judged) → JudgedAs (accepted (record { rule = r; phone = y })) answer → JudgedExactly r y answer
 judged-case r y answer (inl (q, sat)) =
@@ -42,13 +41,13 @@ judges-exactly limit mark s table r n left b f y answer read judged = judged-cas
 
 -- ---- the table
 
-table-left : (o : Outcome RuleAndModel) (answer : Judged) (before built : List ℕ) → JudgedAs o answer
-    → JudgingLeaves answer before built (tableJudged o built before)
-table-left (accepted x) answer before built (inl (q, sat)) =
+table-left : (o : Outcome RuleAndModel) (answer : Judged) (before left : List ℕ) → JudgedAs o answer
+    → JudgingLeaves answer before left (tableJudged o left before)
+table-left (accepted x) answer before left (inl (q, sat)) =
     record { refused = λ e. absurd (let z : _≡_ {A = ℕ} 0 1 = cc in omega arith); judged = λ e. refl }
-table-left (accepted x) answer before built (inr (q, none)) =
+table-left (accepted x) answer before left (inr (q, none)) =
     record { refused = λ e. absurd (let z : _≡_ {A = ℕ} 0 1 = cc in omega arith); judged = λ e. refl }
-table-left (refused number place) answer before built q = record { refused = λ e. refl; judged = λ e. absurd (refused-not-judged e) }
+table-left (refused number place) answer before left q = record { refused = λ e. refl; judged = λ e. absurd (refused-not-judged e) }
   where
     refused-not-judged : (answer ≡ Meets) ⊎ (answer ≡ Breaks) → ⊥
     refused-not-judged (inl e) = let z : _≡_ {A = ℕ} 0 1 = cc in omega arith

@@ -32,6 +32,7 @@ use Rattle.models.proofs.Files.Encoding.{phone-accepted, phone-within-l
 use Rattle.models.proofs.Files.FileFaults.{model-refused}
 use Rattle.models.proofs.Phones.PhoneCodes.{phone-codes}
 use Rattle.models.proofs.Phones.DecidedSets.{decided-satisfies}
+use Rattle.models.proofs.Judgments.JudgingOrder.{judging-refused, judging-model-refused}
 use Rattle.models.proofs.Judgments.JudgingLaws.{judging-case}
 
 -- ---- the answer and the table
@@ -49,16 +50,6 @@ module _ (s table f : List ℕ) where
       → Judges (Judged′.the-variants.Refused number place) table
   refused-judges e = rw e (refl, refl)
 
-  filling-refused-judges : {number place : ℕ} → fillingOf most s (length table) ≡ refused number place
-      → Judges (Judged′.the-variants.Refused number place) table
-  unfolding judgingOf
-  filling-refused-judges e = refused-judges (rw e)
-
-  phone-refused-judges : {y : Synthesis} {number place : ℕ} → fillingOf most s (length table) ≡ accepted y → phoneOf f ≡ refused number place
-      → Judges (Judged′.the-variants.Refused number place) table
-  unfolding judgingOf
-  phone-refused-judges e q = refused-judges (rw (e, q))
-
   pub judges-model-refused : {reading : ModelReading} {number place : ℕ} {r : Judged} → reading ≡ modelReadingOf (phoneOf f)
       → reading .answer ≡ FileRead′.the-variants.Refused number place
       → r ≡ refusalBefore (countedOf (fillingOf most s (length table))) (reading .answer) → Judges r table
@@ -66,41 +57,42 @@ module _ (s table f : List ℕ) where
     where
       on : (o : Outcome Synthesis) → fillingOf most s (length table) ≡ o
           → r ≡ refusalBefore (countedOf o) (FileRead′.the-variants.Refused number place) → Judges r table
-      on (accepted y) built e =
-          rw e (phone-refused-judges built (model-refused (phoneOf f) number place .1 (sym (ap (λ (x : ModelReading). x .answer) read) ∙ told)))
-      on (refused number′ place′) built e = rw e (filling-refused-judges built)
+      on (accepted y) filling e =
+          rw e (refused-judges (judging-model-refused most s (length table) filling f
+          (model-refused (phoneOf f) number place .1 (sym (ap (λ (x : ModelReading). x .answer) read) ∙ told))))
+      on (refused number′ place′) filling e = rw e (refused-judges (judging-refused most s (length table) filling f))
 
-  pub judges-rule-refused : {built : Counted} {number place : ℕ} {r : Judged} {after : List ℕ}
-      → built ≡ countedOf (fillingOf most s (length table)) → after ≡ tableLeft most mark s table
-      → built ≡ Refused number place → r ≡ ruleRefusal built → Judges r after
+  pub judges-rule-refused : {filled : Counted} {number place : ℕ} {r : Judged} {after : List ℕ}
+      → filled ≡ countedOf (fillingOf most s (length table)) → after ≡ tableLeft most mark s table
+      → filled ≡ Refused number place → r ≡ ruleRefusal filled → Judges r after
   judges-rule-refused {number = number} {place} is left told e =
-      let building = counted-refuses (fillingOf most s (length table)) number place (sym is ∙ told) in
-      rw (e, told, left ∙ ap (λ (o : Outcome Synthesis). tableAfter mark o table) building) (filling-refused-judges building)
+      let filling = counted-refuses (fillingOf most s (length table)) number place (sym is ∙ told) in
+      rw (e, told, left ∙ ap (λ (o : Outcome Synthesis). tableAfter mark o table) filling) (refused-judges (judging-refused most s (length table) filling f))
 
   -- ---- a rule and a model that were accepted, and what the calls ask for
 
-  -- the rule and the model of the files, the table that building leaves, and the struct that has the model
+  -- the rule and the model of the files, the table that filling leaves, and the struct that has the model
   pub record Accepts (after : List ℕ) (model : PhoneModel) : Type 0 where
     pub rule : Rule
     pub count : ℕ
     pub phone : Phone
-    pub builds : Fills most mark s table rule count after
+    pub fills : Fills most mark s table rule count after
     pub phone-is : phoneOf f ≡ accepted phone
     pub within-limits : PhoneWithinLimits phone
     pub is-stored : model ≡ stored phone
 
-  pub both-accepted : {reading : ModelReading} {built : Counted} {after : List ℕ} (n : ℕ) → Bytes s → Bytes f
+  pub both-accepted : {reading : ModelReading} {filled : Counted} {after : List ℕ} (n : ℕ) → Bytes s → Bytes f
       → reading ≡ modelReadingOf (phoneOf f) → reading .answer ≡ FileRead′.the-variants.Accepted
-      → built ≡ countedOf (fillingOf most s (length table)) → after ≡ tableLeft most mark s table
-      → built ≡ Equations n → Accepts after (reading .model)
+      → filled ≡ countedOf (fillingOf most s (length table)) → after ≡ tableLeft most mark s table
+      → filled ≡ Equations n → Accepts after (reading .model)
   both-accepted n rule-bytes bytes read told is left counted =
-      let (rule, builds) = fills-accepted most mark s table n (omega arith) rule-bytes (sym is ∙ counted) in
+      let (rule, fills) = fills-accepted most mark s table n (omega arith) rule-bytes (sym is ∙ counted) in
       let p = phone-accepted (phoneOf f) (sym (ap (λ (x : ModelReading). x .answer) read) ∙ told) in
       record {
         rule = rule;
         count = n;
         phone = p .0;
-        builds = subst (Fills most mark s table rule n) (sym left) builds;
+        fills = subst (Fills most mark s table rule n) (sym left) fills;
         phone-is = p .1;
         within-limits = phone-within-limits f (p .0) bytes (p .1);
         is-stored = ap (λ (x : ModelReading). x .model) read ∙ p .2;
@@ -111,7 +103,7 @@ module _ (s table f : List ℕ) where
     model-has-phone = record { phone = a .phone; within-limits = a .within-limits; is-stored = a .is-stored }
 
     pub table-well-formed : (count : ℕ) × WellFormedTable most mark count after
-    table-well-formed = (a .count, built-well-formed most mark s table (a .rule) (a .count) after (a .builds))
+    table-well-formed = (a .count, built-well-formed most mark s table (a .rule) (a .count) after (a .fills))
 
     -- ---- the answer of the search
 
@@ -120,7 +112,7 @@ module _ (s table f : List ℕ) where
         NeverDrops (lookup 256 mark after) 0 (modelOf (a .phone)) ↔ SatisfiesDecided (modelOf (a .phone)) (a .rule)
     never-drops-satisfies =
         let m = modelOf (a .phone) in
-        let monitors = table-monitors most mark s table (a .rule) (a .count) after (a .builds) in
+        let monitors = table-monitors most mark s table (a .rule) (a .count) after (a .fills) in
         let safe = never-drops-safe ℕ (a .rule) (lookup 256 mark after) 0 monitors m (phone-codes (a .phone) (a .within-limits .well-formed)) in
         let satisfies = satisfies-safe m (a .rule) in
         let decided = decided-satisfies (a .phone) (a .rule) in
@@ -129,17 +121,17 @@ module _ (s table f : List ℕ) where
     module _ {r : Bool}
         (never : (y : Phone) → model ≡ stored y → (r ≡ true) ↔ NeverDrops (lookup 256 mark after) 0 (modelOf y)) where
       judging-is : judgingOf most s (length table) f ≡ accepted (record { rule = a .rule; phone = a .phone })
-      judging-is = judging-case (a .builds) f (a .phone) (a .phone-is)
+      judging-is = judging-case (a .fills) f (a .phone) (a .phone-is)
 
       -- the search finds no dropped step exactly where there is none
       search-iff : (r ≡ true) ↔ NeverDrops (lookup 256 mark after) 0 (modelOf (a .phone))
       search-iff = never (a .phone) (a .is-stored)
 
       pub judges-meets : r ≡ true → Judges Judged′.the-variants.Meets after
-      judges-meets e = rw judging-is (inl (refl, never-drops-satisfies .0 (search-iff .0 e)), a .builds .left-is)
+      judges-meets e = rw judging-is (inl (refl, never-drops-satisfies .0 (search-iff .0 e)), a .fills .left-is)
 
       pub judges-breaks : r ≡ false → Judges Judged′.the-variants.Breaks after
-      judges-breaks e = rw judging-is (inr (refl, λ sat. never-true (search-iff .1 (never-drops-satisfies .1 sat))), a .builds .left-is)
+      judges-breaks e = rw judging-is (inr (refl, λ sat. never-true (search-iff .1 (never-drops-satisfies .1 sat))), a .fills .left-is)
         where
           never-true : r ≡ true → ⊥
           never-true e′ = let z : _≡_ {A = ℕ} 0 1 = cc in omega arith

@@ -1,28 +1,32 @@
--- What is said where a model is refused: 10, a refusal of the rule, or else that of the model, a law for each way out.
-use Prim.Native.Nat.{ℕ, _≤_, _<_}
-use mathlib.Core.Path.{_≡_}
+-- What is said where a model is refused: a refusal of the rule, 10, or else that of the model, a law for each way out.
+use Prim.Native.Nat.{ℕ, _*_, _≤_, _<_}
+use mathlib.Core.Path.{_≡_, sym, _∙_}
 use mathlib.Core.List.{List}
 use Rattle.reading.specs.declared.FileRead.{FileRead}
 use Rattle.synthesis.specs.Monitor.{most}
 use Rattle.synthesis.specs.Building.{synthesisOf, fillingOf, countedOf}
 use Rattle.synthesis.specs.declared.Counted.{Counted}
 use Rattle.synthesis.specs.declared.Counted.the-variants.{Equations, Refused}
-use Rattle.synthesis.proofs.Tables.SynthesisOutcomes.{filling-too-short, filling-enough}
+use Rattle.synthesis.proofs.Tables.SynthesisOutcomes.{fills-as-counted}
+use Rattle.synthesis.proofs.Tables.Equations.{answers-count}
 use Rattle.models.specs.Readings.{ruleRefusal, modelRefusal, refusalBefore}
 use Rattle.models.specs.declared.Judged.{Judged}
 use Rattle.models.specs.declared.Judged as Judged′
 
-module _ (s : List ℕ) (capacity : ℕ) (answer : FileRead) where
+pub count-few : (s : List ℕ) {counted : Counted} → counted ≡ countedOf (synthesisOf most s) → {n : ℕ} → counted ≡ Equations n → n ≤ most
+count-few s counts {n} e = answers-count most s n (sym counts ∙ e) .few
+
+module _ (s : List ℕ) (capacity : ℕ) (answer : FileRead) {counted : Counted} (counts : counted ≡ countedOf (synthesisOf most s)) where
   -- the answer to a model that is refused
   abbrev Refuses : Judged → Type 0
   Refuses r = r ≡ refusalBefore (countedOf (fillingOf most s capacity)) answer
 
-  pub short-refuses : capacity < 32768 → Refuses (Judged′.the-variants.Refused 10 0)
-  short-refuses h = rw (filling-too-short most s capacity h)
+  pub rule-refuses : {number place : ℕ} {r : Judged} → counted ≡ Refused number place → r ≡ ruleRefusal counted → Refuses r
+  rule-refuses {number} {place} e q = rw (fills-as-counted most s capacity .refused number place (sym counts ∙ e)) (rw e at q)
 
-  module _ {counted : Counted} {r : Judged} (enough : 32768 ≤ capacity) (counts : counted ≡ countedOf (synthesisOf most s)) where
-    pub rule-refuses : {number place : ℕ} → counted ≡ Refused number place → r ≡ ruleRefusal counted → Refuses r
-    rule-refuses e q = rw (filling-enough most s capacity enough, ← counts, e) (rw e at q)
+  module _ {n : ℕ} (e : counted ≡ Equations n) where
+    pub short-refuses : capacity < 256 * n → Refuses (Judged′.the-variants.Refused 10 0)
+    short-refuses h = rw (fills-as-counted most s capacity .too-short n (sym counts ∙ e) h)
 
-    pub model-refuses : {n : ℕ} → counted ≡ Equations n → r ≡ modelRefusal answer → Refuses r
-    model-refuses e q = rw (filling-enough most s capacity enough, ← counts, e) q
+    pub model-refuses : {r : Judged} → 256 * n ≤ capacity → r ≡ modelRefusal answer → Refuses r
+    model-refuses room q = rw (fills-as-counted most s capacity .enough n (sym counts ∙ e) room) q

@@ -1,5 +1,5 @@
 -- Demand 3: a table that monitors a rule enforces it on the model of every file that isn't refused, and loses no walk, by what is proved of every monitor
--- and every model; and both builds leave such a table. The two drop alike, and so a model is bisimilar to itself behind them.
+-- and every model; and both fillings leave such a table. The two drop alike, and so a model is bisimilar to itself behind them.
 use Prim.Native.Nat.{ℕ}
 use Rattle.synthesis.specs.Monitor.{lookup}
 use Rattle.synthesis.proofs.Tables.Built.{table-monitors}
