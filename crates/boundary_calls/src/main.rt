@@ -17,6 +17,7 @@ use inputs::UNGUARDED;
 use inputs::VIOLATING;
 use libc::STDOUT_FILENO;
 use testing::print_field;
+ghost use Prim.Native.Nat.{_≤_};
 
 // What each byte of a table has before the first call: it is no entry.
 const UNTOUCHED: u8 = 200;
@@ -35,14 +36,19 @@ fn print_bytes(bytes: &[u8]) {
     }
 }
 
+// 1 for a byte that no call has changed, else 0.
+fn one_if_untouched(byte: u8) -> usize
+    ensures { λ r. ⌜ r ≤ 1 ⌝ }
+{
+    if byte == UNTOUCHED { 1 } else { 0 }
+}
+
 // How many bytes of a table no call has changed.
 fn untouched(table: &[u8]) -> usize {
     let mut n = 0;
     let mut i = 0;
     while i < table.len() {
-        if table[i] == UNTOUCHED {
-            n += 1;
-        }
+        n += one_if_untouched(table[i]);
         i += 1;
     }
     n
