@@ -75,7 +75,7 @@ LINES = [
     "explain 0 4",
     "explain 0 64",
     "explain 17 0",
-    # 768: first the number-pool rule, and then the short rows of the other
+    # 768
     "judge 0 1 0",
     "fill 0 3 0",
     "run 0 1 5 1 37 128 5 37 5 7 7 7 0 1 0 0 0 0 7 7",
@@ -143,13 +143,12 @@ def table_lines():
 
 
 def run_lines():
-    """Runs over tables that just fit."""
+    """Runs over tables that just fit: that of the number-pool rule, and the short one of the other."""
     table, verdicts = untouched(768), bytearray([7] * 8)
     lines = [judged_line(POOL, MEETING, table), filled_line(fill, POOL, table)]
     lines += [ran_line(table, 0, verdicts), ran_line(table, 3, verdicts), ran_line(table, 2, bytearray([7] * 5))]
-    lines.append(filled_line(fill_short, ALIKE, table))
-    verdicts = bytearray([7] * 8)
-    return lines + [ran_line(table, state, verdicts) for state in (0, 2)]
+    table, verdicts = untouched(768), bytearray([7] * 8)
+    return lines + [filled_line(fill_short, ALIKE, table)] + [ran_line(table, state, verdicts) for state in (0, 2)]
 
 
 def all_lines():

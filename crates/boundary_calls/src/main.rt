@@ -139,11 +139,14 @@ fn run(table: &[u8], count: usize, from: usize, verdicts: &mut [u8]) {
     io::write_all(STDOUT_FILENO, b"\n");
 }
 
-fn count_all() {
+fn count_long() {
     count(&POOL);
     count(&ALIKE);
     count(&UNGUARDED);
     count(&MANY);
+}
+
+fn count_merged() {
     count_short(&POOL);
     count_short(&ALIKE);
     count_short(&UNGUARDED);
@@ -161,27 +164,35 @@ fn refuse_rules() {
     judge(&MANY, &CUT, &mut table);
 }
 
-// A byte less than three rows take, and a byte more.
-fn fill_three() {
-    let mut less = [UNTOUCHED; 767];
-    fill(&POOL, &mut less);
-    fill_short(&POOL, &mut less);
-    fill_short(&ALIKE, &mut less);
-    judge(&POOL, &MEETS, &mut less);
-    judge(&POOL, &CUT, &mut less);
-    let mut more = [UNTOUCHED; 769];
-    judge(&POOL, &CUT, &mut more);
-    judge(&POOL, &BREAKS, &mut more);
-    judge(&POOL, &MEETS, &mut more);
-    fill(&POOL, &mut more);
+// A byte less than three rows take.
+fn fill_less_than_three() {
+    let mut table = [UNTOUCHED; 767];
+    fill(&POOL, &mut table);
+    fill_short(&POOL, &mut table);
+    fill_short(&ALIKE, &mut table);
+    judge(&POOL, &MEETS, &mut table);
+    judge(&POOL, &CUT, &mut table);
 }
 
-// A byte less than the four long rows take, where the three short ones fit; and as much as these take.
+// A byte more.
+fn fill_more_than_three() {
+    let mut table = [UNTOUCHED; 769];
+    judge(&POOL, &CUT, &mut table);
+    judge(&POOL, &BREAKS, &mut table);
+    judge(&POOL, &MEETS, &mut table);
+    fill(&POOL, &mut table);
+}
+
+// A byte less than the four long rows take, where the three short ones fit.
+fn fill_less_than_four() {
+    let mut table = [UNTOUCHED; 1023];
+    fill(&ALIKE, &mut table);
+    judge(&ALIKE, &MEETS, &mut table);
+    fill_short(&ALIKE, &mut table);
+}
+
+// As much as they take.
 fn fill_four() {
-    let mut less = [UNTOUCHED; 1023];
-    fill(&ALIKE, &mut less);
-    judge(&ALIKE, &MEETS, &mut less);
-    fill_short(&ALIKE, &mut less);
     let mut table = [UNTOUCHED; 1024];
     fill_short(&ALIKE, &mut table);
     fill(&ALIKE, &mut table);
@@ -201,7 +212,7 @@ fn explain_all() {
 }
 
 // Runs over a table that three rows just fit.
-fn run_all() {
+fn run_long() {
     let mut table = [UNTOUCHED; 768];
     judge(&POOL, &MEETS, &mut table);
     let count = fill(&POOL, &mut table);
@@ -210,17 +221,26 @@ fn run_all() {
     run(&table, count, 3, &mut verdicts);
     let mut few = [7u8; 5];
     run(&table, count, 2, &mut few);
-    let merged = fill_short(&ALIKE, &mut table);
-    let mut others = [7u8; 8];
-    run(&table, merged, 0, &mut others);
-    run(&table, merged, 2, &mut others);
+}
+
+// The same with short rows.
+fn run_short() {
+    let mut table = [UNTOUCHED; 768];
+    let count = fill_short(&ALIKE, &mut table);
+    let mut verdicts = [7u8; 8];
+    run(&table, count, 0, &mut verdicts);
+    run(&table, count, 2, &mut verdicts);
 }
 
 fn main() {
-    count_all();
+    count_long();
+    count_merged();
     refuse_rules();
-    fill_three();
+    fill_less_than_three();
+    fill_more_than_three();
+    fill_less_than_four();
     fill_four();
     explain_all();
-    run_all();
+    run_long();
+    run_short();
 }
