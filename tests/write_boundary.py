@@ -35,32 +35,32 @@ UNTOUCHED = 200
 LINES = [
     # the number-pool rule has 3 equations; the one whose branches drop alike has 4, and 3 when they are merged
     "count 0 3",
+    "count_short 0 3",
     "count 0 4",
+    "count_short 0 3",
+    # a refused rule, with a table of less than a row and a refused model
     "count 7 1",
-    "count 9 0",
-    "count_short 0 3",
-    "count_short 0 3",
     "count_short 7 1",
-    "count_short 9 0",
-    # 255 bytes: less than a row
     "fill 7 1 255",
-    "fill 9 0 255",
     "fill_short 7 1 255",
-    "fill_short 9 0 255",
     "judge 7 1 255",
+    "count 9 0",
+    "count_short 9 0",
+    "fill 9 0 255",
+    "fill_short 9 0 255",
     "judge 9 0 255",
-    # 767: a byte less than 3 rows
+    # 767 bytes: one less than 3 rows take
     "fill 10 0 767",
     "fill_short 10 0 767",
     "fill_short 10 0 767",
     "judge 10 0 767",
     "judge 10 0 767",
-    # 769: a byte more
+    # 769: one more
     "judge 11 4 769",
     "judge 0 0 1",
     "judge 0 1 1",
     "fill 0 3 1",
-    # 1,023: enough for 3 rows, and a byte less than 4; and 1,024
+    # 1,023: enough for 3 rows, and one less than 4 take; and 1,024
     "fill 10 0 1023",
     "judge 10 0 1023",
     "fill_short 0 3 255",
@@ -96,8 +96,9 @@ def result_of(answer):
     return (answer.number, answer.place) if isinstance(answer, Refusal) else (0, len(answer))
 
 
-def counted_line(name, rows_of_file, rule):
-    return line_of(name, *result_of(rows_of_file(bytes_of(rule))))
+def counted_lines(rule):
+    counts = {"count": rows, "count_short": short_rows}
+    return [line_of(name, *result_of(rows_of_file(bytes_of(rule)))) for name, rows_of_file in counts.items()]
 
 
 def filled_line(by, rule, table):
@@ -130,12 +131,16 @@ def untouched(size):
     return bytearray([UNTOUCHED] * size)
 
 
+def refused_lines(rule):
+    """The lines of a rule that is refused."""
+    table = untouched(255)
+    return counted_lines(rule) + [filled_line(by, rule, table) for by in (fill, fill_short)] + [judged_line(rule, CUT, table)]
+
+
 def table_lines():
     """Fillings and judgments with tables of several sizes."""
-    least, less, more, almost, whole = [untouched(size) for size in (255, 767, 769, 1023, 1024)]
-    lines = [filled_line(by, rule, least) for by in (fill, fill_short) for rule in (UNGUARDED, MANY)]
-    lines += [judged_line(rule, CUT, least) for rule in (UNGUARDED, MANY)]
-    lines += [filled_line(by, rule, less) for by, rule in ((fill, POOL), (fill_short, POOL), (fill_short, ALIKE))]
+    less, more, almost, whole = [untouched(size) for size in (767, 769, 1023, 1024)]
+    lines = [filled_line(by, rule, less) for by, rule in ((fill, POOL), (fill_short, POOL), (fill_short, ALIKE))]
     lines += [judged_line(POOL, model, less) for model in (MEETING, CUT)]
     lines += [judged_line(POOL, model, more) for model in (CUT, PAPER, MEETING)] + [filled_line(fill, POOL, more)]
     lines += [filled_line(fill, ALIKE, almost), judged_line(ALIKE, MEETING, almost), filled_line(fill_short, ALIKE, almost)]
@@ -153,8 +158,7 @@ def run_lines():
 
 def all_lines():
     """The lines by the Python."""
-    rules = (POOL, ALIKE, UNGUARDED, MANY)
-    counts = [counted_line(name, by, rule) for name, by in (("count", rows), ("count_short", short_rows)) for rule in rules]
+    counts = counted_lines(POOL) + counted_lines(ALIKE) + refused_lines(UNGUARDED) + refused_lines(MANY)
     reasons = [explained_line(POOL, "37", 5), explained_line(POOL, "37 128", 5)]
     reasons += [explained_line(POOL, "37 5", 5), explained_line(POOL, "37 5", 128), explained_line(UNGUARDED, "37 5", 5)]
     reasons += [explained_line(EITHER, "", scan) for scan in (5, 37, 6)] + [explained_line(EITHER, "37", 5)]

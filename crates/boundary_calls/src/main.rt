@@ -139,29 +139,18 @@ fn run(table: &[u8], count: usize, from: usize, verdicts: &mut [u8]) {
     io::write_all(STDOUT_FILENO, b"\n");
 }
 
-fn count_long() {
-    count(&POOL);
-    count(&ALIKE);
-    count(&UNGUARDED);
-    count(&MANY);
+fn count_both(rule: &[u8]) {
+    count(rule);
+    count_short(rule);
 }
 
-fn count_merged() {
-    count_short(&POOL);
-    count_short(&ALIKE);
-    count_short(&UNGUARDED);
-    count_short(&MANY);
-}
-
-// Rules that are refused, with a table of less than a row.
-fn refuse_rules() {
+// A rule that is refused, with a table of less than a row, and with a model that would be refused too.
+fn refuse(rule: &[u8]) {
+    count_both(rule);
     let mut table = [UNTOUCHED; 255];
-    fill(&UNGUARDED, &mut table);
-    fill(&MANY, &mut table);
-    fill_short(&UNGUARDED, &mut table);
-    fill_short(&MANY, &mut table);
-    judge(&UNGUARDED, &CUT, &mut table);
-    judge(&MANY, &CUT, &mut table);
+    fill(rule, &mut table);
+    fill_short(rule, &mut table);
+    judge(rule, &CUT, &mut table);
 }
 
 // A byte less than three rows take.
@@ -233,9 +222,10 @@ fn run_short() {
 }
 
 fn main() {
-    count_long();
-    count_merged();
-    refuse_rules();
+    count_both(&POOL);
+    count_both(&ALIKE);
+    refuse(&UNGUARDED);
+    refuse(&MANY);
     fill_less_than_three();
     fill_more_than_three();
     fill_less_than_four();
