@@ -1,5 +1,5 @@
 -- The calls that `sift` makes: one more on the same well-formed table isn't refused, since calls on it are one run that stays inside it; and under an
--- accepted rule they sift by it, as all calls on the built table do.
+-- accepted rule they sift by it, as all calls on a filled table do.
 use Prim.Native.Nat.{ℕ, _≤_}
 use mathlib.Core.Path.{_≡_, refl, ap, _∙_}
 use mathlib.Core.Logic.{inl, inr}
@@ -10,7 +10,7 @@ use Rattle.reading.specs.Rule.{Bytes}
 use Rattle.reading.specs.File.{Outcome}
 use Rattle.synthesis.specs.Monitor.{mark, most}
 use Rattle.synthesis.specs.Table.{WellFormedTable}
-use Rattle.synthesis.specs.Building.{Synthesis, countedOf, tableAfter}
+use Rattle.synthesis.specs.Building.{Synthesis, synthesisOf, countedOf, tableAfter}
 use Rattle.synthesis.specs.declared.Counted.the-variants.{Equations}
 use Rattle.running.specs.Running.{runOf, resultOf}
 use Rattle.running.specs.Calls.{Call, History, withCall, Calls, none, call, OnTableOrRefused}
@@ -20,6 +20,7 @@ use Rattle.running.proofs.Histories.{calls-weaken, one-run}
 use Rattle.running.proofs.DemandTwo.{drops-exactly}
 use Rattle.commands.specs.Sifting.{EndsCalls, FitOn, EndsCallsOn, GoesOn, UnderRule}
 use Rattle.commands.specs.Promises.{SiftsByRule, NoCallsRefused}
+use Rattle.commands.proofs.ProgramTables.{any-table}
 
 -- ---- calls on one table
 
@@ -50,20 +51,21 @@ ends-calls-next table count wf (h, calls, same) (inr (x, bytes, ro, rv, e)) =
 
 -- ---- calls under a rule
 
--- calls on the table that building leaves, with its count, are those that `sift` makes under the rule
+-- calls on the table that filling leaves, with its count, are those that `sift` makes under the rule
 pub ends-calls-under-rule : (outcome : Outcome Synthesis) (table : List ℕ) (n : ℕ) {t : List ℕ} {s : State} → t ≡ tableAfter mark outcome table
     → countedOf outcome ≡ Equations n → EndsCallsOn t n s → EndsCalls (UnderRule outcome table) s
 ends-calls-under-rule outcome table n same e (h, calls, ends) =
     (h, calls-weaken most mark (λ h c may. record { count = n; answered = e; fit-on = rw (← same) may }) h calls, ends)
 
 pub sifts-by-rule : SiftsByRule
-sifts-by-rule s table r n left b h calls =
-    let counted = b .counted in
-    drops-exactly most mark s table r n left b h
+sifts-by-rule s table r n bytes read counted h calls =
+    let left = tableAfter mark (synthesisOf 128 s) table in
+    let (table′, fills) = any-table most mark s r n (omega arith) bytes read counted table in
+    drops-exactly most mark s table′ r n left fills h
     (calls-weaken most mark
     (λ h c under.
     let k : under .count ≡ n = cc (under .answered) in
-    inl (record { same-rows = rw (b .left-is, ← k) (under .fit-on .on .same-rows); same-count = under .fit-on .on .same-count ∙ k })) h calls)
+    inl (record { same-rows = rw (← k) (under .fit-on .on .same-rows); same-count = under .fit-on .on .same-count ∙ k })) h calls)
 
 pub no-calls-refused : NoCallsRefused
 no-calls-refused s table number place e h none = refl

@@ -8,8 +8,8 @@ use Rattle.reading.specs.Pattern.{extentOf}
 use Rattle.reading.specs.File.{Outcome, accepted, refused, ruleOf}
 use Rattle.reading.specs.Numbered.{readingOf}
 use Rattle.reading.specs.declared.NumberedRule.{NumberedRule}
-use Rattle.synthesis.specs.Monitor.{mark, most}
-use Rattle.synthesis.specs.Building.{Synthesis, fillingOf, countedOf, tableLeft}
+use Rattle.synthesis.specs.Monitor.{mark}
+use Rattle.synthesis.specs.Building.{Synthesis, synthesisOf, countedOf, tableAfter}
 use Rattle.synthesis.specs.declared.Counted.{Counted}
 use Rattle.synthesis.specs.declared.Counted.the-variants.{Equations, Refused}
 use Rattle.models.specs.declared.Judged.{Judged}
@@ -53,7 +53,7 @@ abbrev pub printed : Counted → NumberedRule → (table : List ℕ) → (lines 
 printed (Equations count) rule table lines = linesFrom rule table count lines 0
 printed (Refused number place) rule table lines = refusalLine number place
 
--- what `equations` hands back for a rule file and the table in which its rows are built
+-- what `equations` hands back for a rule file, with a table for its rows
 pub record Shows (s table : List ℕ) (r : EquationsResult) : Type 0 where
-  pub answer : r .answer ≡ countedOf (fillingOf most s (length table))
-  pub stops : Stops (r .answer) (readingOf (ruleOf s) .rule) (tableLeft most mark s table) (r .lines) (r .written)
+  pub answer : r .answer ≡ countedOf (synthesisOf 128 s)
+  pub stops : Stops (r .answer) (readingOf (ruleOf s) .rule) (tableAfter mark (synthesisOf 128 s) table) (r .lines) (r .written)

@@ -8,7 +8,7 @@ use lib.ListN.{length}
 use Rattle.reading.specs.Rule.{Bytes}
 use Rattle.reading.specs.File.{Outcome}
 use Rattle.synthesis.specs.Monitor.{mark, most}
-use Rattle.synthesis.specs.Building.{Synthesis, fillingOf, countedOf, tableAfter}
+use Rattle.synthesis.specs.Building.{Synthesis, synthesisOf, countedOf, tableAfter}
 use Rattle.synthesis.specs.declared.Counted.the-variants.{Equations}
 use Rattle.running.specs.Running.{runOf, checkedOf, resultOf}
 use Rattle.running.specs.Calls.{Call, History, outcomeOf, Calls, OnTable}
@@ -35,13 +35,13 @@ GoesOn table count s s′ =
     ⊎ ((c : Call) × Bytes (c .scans) × (length (c .scans) ≤ length (c .output)) × (length (c .scans) ≤ length (c .verdicts))
     × (s′ ≡ resultOf s (runOf most mark table count s (c .scans) (length (c .output)) (length (c .verdicts))) .state))
 
--- such calls on the table that building leaves, with the count that it answers; where building refuses, there are none
+-- such calls on the table that filling leaves, with the count that it answers; where the rule is refused, there are none
 pub record UnderRule (outcome : Outcome Synthesis) (table : List ℕ) (h : History) (c : Call) : Type 0 where
   pub count : ℕ
   pub answered : countedOf outcome ≡ Equations count
   pub fit-on : FitOn (tableAfter mark outcome table) count h c
 
--- what `sift` hands back for a rule file and the table in which its rows are built
+-- what `sift` hands back for a rule file, with a table for its rows
 pub record Sifts (s table : List ℕ) (r : SiftResult) : Type 0 where
-  pub answer : r .answer ≡ countedOf (fillingOf most s (length table))
-  pub state : EndsCalls (UnderRule (fillingOf most s (length table)) table) (r .state)
+  pub answer : r .answer ≡ countedOf (synthesisOf 128 s)
+  pub state : EndsCalls (UnderRule (synthesisOf 128 s) table) (r .state)

@@ -1,16 +1,18 @@
 // The program `meets`.
+use crate::TABLE;
 use crate::files::read_file;
 use crate::print_line;
 use listing::Line;
 use models::Judged;
 ghost use mathlib.Core.Path.{_≡_};
 ghost use mathlib.Core.List.{List};
-ghost use Prim.Native.Nat.{ℕ};
+ghost use Prim.Native.Nat.{ℕ, _*_};
 ghost use lib.ListN.{length};
 ghost use Rattle.reading.specs.Rule.{Bytes};
-ghost use Rattle.synthesis.specs.Monitor.{most};
+ghost use Rattle.reading.specs.File.{andThen};
+ghost use Rattle.synthesis.specs.Building.{synthesisOf};
 ghost use Rattle.listing.specs.Positions.{lineOf, Within};
-ghost use Rattle.models.specs.Judging.{judgingOf, JudgedAs};
+ghost use Rattle.models.specs.Judging.{withModel, JudgedAs};
 ghost use Rattle.commands.specs.Printing.{judgedText};
 
 // The line of an answer.
@@ -27,8 +29,9 @@ fn answer_line(answer: Judged) -> Line
 
 // Judges a model file under a rule file, and prints the answer. (A slice of u8 consists of bytes.)
 fn print_judged(rule: &[u8], model: &[u8], table: &mut [u8]) -> Judged
+    requires { ⌜ length (now table) ≡ 256 * 128 ⌝ }
     ensures { λ _. ⌜ Bytes (now (rule .entry)) × Bytes (now (model .entry)) ⌝ }
-    ensures { λ r. ⌜ JudgedAs (judgingOf most (now (rule .entry)) (length (now (table .entry))) (now (model .entry))) r ⌝ }
+    ensures { λ r. ⌜ JudgedAs (andThen (synthesisOf 128 (now (rule .entry))) (withModel (now (model .entry)))) r ⌝ }
 {
     let answer = models::judge(rule, model, table);
     print_line(b"meets: standard output", answer_line(answer));
@@ -38,12 +41,12 @@ fn print_judged(rule: &[u8], model: &[u8], table: &mut [u8]) -> Judged
 // Reads a rule from the file rule.bin and a model from the file model.bin, prints whether the model meets the rule or why one is refused, and
 // hands back the answer. No more than 4,096 bytes are read of each.
 pub fn meets() -> Judged
-    ensures { λ r. ⌜ ((s : List ℕ) × (f : List ℕ) × Bytes s × Bytes f × JudgedAs (judgingOf most s 32768 f) r) ⌝ }
+    ensures { λ r. ⌜ ((s : List ℕ) × (f : List ℕ) × Bytes s × Bytes f × JudgedAs (andThen (synthesisOf 128 s) (withModel f)) r) ⌝ }
 {
     let mut rule = io::buffer();
     let n = read_file(b"meets: rule.bin", b"rule.bin", &mut rule);
     let mut model = io::buffer();
     let k = read_file(b"meets: model.bin", b"model.bin", &mut model);
-    let mut table = [0u8; 32768];
+    let mut table = [0u8; TABLE];
     print_judged(&rule[..n], &model[..k], &mut table)
 }

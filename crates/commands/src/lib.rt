@@ -14,7 +14,7 @@ pub use sifting::sift;
 use synthesis::Counted;
 ghost use mathlib.Core.Path.{_≡_};
 ghost use mathlib.Core.List.{List};
-ghost use Prim.Native.Nat.{ℕ};
+ghost use Prim.Native.Nat.{ℕ, _*_};
 ghost use lib.ListN.{length};
 ghost use Rattle.reading.specs.Rule.{Bytes};
 ghost use Rattle.reading.specs.File.{ruleOf};
@@ -22,7 +22,10 @@ ghost use Rattle.reading.specs.Numbered.{readingOf};
 ghost use Rattle.listing.specs.Positions.{Within};
 ghost use Rattle.commands.specs.Printing.{ListingStops, Stops, Shows};
 
-// What `equations` hands back: what building answers to the rule file, how many lines were printed, and whether all of them could be
+// The bytes of a program's table: a row for each of the 128 equations that a rule may have here.
+const TABLE: usize = 256 * 128;
+
+// What `equations` hands back: what counting answers to the rule file, how many lines were printed, and whether all of them could be
 // written.
 pub struct EquationsResult {
     pub answer: Counted,
@@ -30,7 +33,7 @@ pub struct EquationsResult {
     pub written: bool,
 }
 
-// What `sift` hands back: what building answers to the rule file, and the state in which the scans leave the run.
+// What `sift` hands back: what counting answers to the rule file, and the state in which the scans leave the run.
 pub struct SiftResult {
     pub answer: Counted,
     pub state: State,
@@ -99,6 +102,7 @@ fn print_answer(answer: Counted, file: &[u8], table: &[u8]) -> Printed
 
 // Fills the table of a rule file, and prints the answer. (A slice of u8 consists of bytes.)
 fn print_equations(file: &[u8], table: &mut [u8]) -> EquationsResult
+    requires { ⌜ length (now table) ≡ 256 * 128 ⌝ }
     ensures { λ _. ⌜ Bytes (now (file .entry)) ⌝ }
     ensures { λ r. ⌜ Shows (now (file .entry)) (now (table .entry)) r ⌝ }
 {
@@ -114,10 +118,10 @@ fn print_equations(file: &[u8], table: &mut [u8]) -> EquationsResult
 // Reads a rule file from standard input, prints the listing of its equations or why it is refused, and hands back the answer and how far
 // printing came. The first 257 bytes of a file settle the answer; no more than 4,096 are read.
 pub fn equations() -> EquationsResult
-    ensures { λ r. ⌜ ((s : List ℕ) × (table : List ℕ) × Bytes s × (length table ≡ 32768) × Shows s table r) ⌝ }
+    ensures { λ r. ⌜ ((s : List ℕ) × (table : List ℕ) × Bytes s × Shows s table r) ⌝ }
 {
     let mut file = io::buffer();
     let n = read_whole(b"equations: standard input", STDIN_FILENO, &mut file);
-    let mut table = [0u8; 32768];
+    let mut table = [0u8; TABLE];
     print_equations(&file[..n], &mut table)
 }

@@ -1,5 +1,6 @@
 // The program `sift`.
 use crate::SiftResult;
+use crate::TABLE;
 use crate::files::read_file;
 use crate::files::read_some;
 use crate::files::write_whole;
@@ -9,7 +10,7 @@ use running::State;
 use synthesis::Counted;
 ghost use mathlib.Core.Path.{_≡_};
 ghost use mathlib.Core.List.{List};
-ghost use Prim.Native.Nat.{ℕ, _≤_};
+ghost use Prim.Native.Nat.{ℕ, _*_, _≤_};
 ghost use lib.ListN.{length};
 ghost use Rattle.reading.specs.Rule.{Bytes};
 ghost use Rattle.synthesis.specs.Monitor.{mark, most};
@@ -89,6 +90,7 @@ fn sift_all(table: &[u8], count: usize) -> State
 
 // Fills the table of a rule file, and sifts standard input under it.
 fn sift_under(file: &[u8], table: &mut [u8]) -> SiftResult
+    requires { ⌜ length (now table) ≡ 256 * 128 ⌝ }
     ensures { λ _. ⌜ Bytes (now (file .entry)) ⌝ }
     ensures { λ r. ⌜ Sifts (now (file .entry)) (now (table .entry)) r ⌝ }
 {
@@ -111,10 +113,10 @@ fn sift_under(file: &[u8], table: &mut [u8]) -> SiftResult
 
 // Reads a rule from the file rule.bin, and writes the scans of standard input that it keeps, or else why it is refused.
 pub fn sift() -> SiftResult
-    ensures { λ r. ⌜ ((s : List ℕ) × (table : List ℕ) × Bytes s × (length table ≡ 32768) × Sifts s table r) ⌝ }
+    ensures { λ r. ⌜ ((s : List ℕ) × (table : List ℕ) × Bytes s × Sifts s table r) ⌝ }
 {
     let mut file = io::buffer();
     let n = read_file(b"sift: rule.bin", b"rule.bin", &mut file);
-    let mut table = [0u8; 32768];
+    let mut table = [0u8; TABLE];
     sift_under(&file[..n], &mut table)
 }

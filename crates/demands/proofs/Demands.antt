@@ -1,4 +1,4 @@
--- The three demands hold, by the promises of the layers at 128 equations and the mark 255.
+-- The three demands hold, by the promises of the layers at the limit `most` and the mark `mark`.
 use Prim.Native.Nat.{ℕ, _≤_}
 use mathlib.Core.Path.{_≡_}
 use mathlib.Core.Logic.{inl, inr}
@@ -9,9 +9,11 @@ use Rattle.reading.proofs.Accepting.Accepted.{answers-accepted as rules-accepte
 use Rattle.reading.proofs.Refusing.FaultsRefused as rules
 use Rattle.synthesis.specs.Monitor.{mark, most}
 use Rattle.synthesis.specs.Building.{fillingOf, shortFillingOf}
-use Rattle.synthesis.proofs.Tables.Equations.{file-well-formed}
-use Rattle.synthesis.proofs.Tables.Built as building
-use Rattle.synthesis.proofs.Quotients.ShortFillings.{short-refuses-alike, short-refused-unchanged, short-counted-rest, short-counted-long}
+use Rattle.synthesis.proofs.Tables.Equations.{file-well-formed, counted-equations, reaches-equations}
+use Rattle.synthesis.proofs.Tables.Built as tables
+use Rattle.synthesis.proofs.Tables.SynthesisOutcomes.{fills-as-counted, short-fills-as-counted}
+use Rattle.synthesis.proofs.Quotients.ShortFillings.{short-refuses-alike, short-refused-unchanged, short-counted-rest}
+use Rattle.synthesis.proofs.Quotients.Minimal.{shortest-monitor}
 use Rattle.synthesis.proofs.Reasons.Alone.{violates-somewhere}
 use Rattle.synthesis.proofs.Reasons.Explained.{reasons-exactly}
 use Rattle.running.specs.Running.{resultOf}
@@ -27,13 +29,13 @@ use Rattle.models.specs.Phone.{modelOf}
 use Rattle.models.proofs.Phones.PhoneCodes.{phone-codes}
 use Rattle.models.proofs.Files.Encoding.{accepts-phones, encode-bytes, answers-accepted, phone-within-limits}
 use Rattle.models.proofs.Files.FileFaults as models
-use Rattle.models.proofs.Judgments.Accepting.{accepts-exactly}
+use Rattle.models.proofs.Judgments.Accepting.{accepts-exactly, short-accepts-exactly, fills-exactly, short-fills-exactly}
 use Rattle.models.proofs.Judgments.JudgingLaws as judging
 use Rattle.models.proofs.Judgments.TablesEnforce.{tables-enforce, short-tables-enforce, short-bisimilar}
-use Rattle.demands.specs.Outcomes.{running}
+use Rattle.demands.specs.Outcomes.{counting, filling, shortCounting, shortFilling, running}
 use Rattle.demands.specs.Refusals.{RunRefused, short-buffer, unfit}
 use Rattle.demands.specs.Demands.{DemandOne, DemandTwo, DemandTwoShort, DemandThree}
-use Rattle.demands.proofs.Refused.{count-refused, fill-refused}
+use Rattle.demands.proofs.Refused.{count-refused, count-short-refused, fill-refused}
 use Rattle.demands.proofs.RefusedReasons.{explain-refused}
 use Rattle.demands.proofs.UnfitTables.{unfit-not-fit}
 use Rattle.demands.proofs.RefusedCalls.{run-refused, run-fit, judge-refused}
@@ -46,23 +48,23 @@ demand-one = record {
     read-rule = rules.refuses-at-the-fault;
     count = count-refused;
     explain = λ s kept scan bytes. explain-refused s bytes kept scan;
-    build = λ s table bytes. fill-refused s bytes (length table);
-    fill-short = λ s table bytes number place.
-        let alike = short-refuses-alike most s (length table) .refused number place in
-        let refused = fill-refused s bytes (length table) number place in
-        (λ e. refused .0 (alike .0 e), λ h. alike .1 (refused .1 h));
+    fill = λ s table bytes.
+        fill-refused s (counting s) (filling s table) (length table) (count-refused s bytes) (fills-as-counted most s (length table));
+    count-short = count-short-refused;
+    fill-short = λ s table bytes.
+        fill-refused s (shortCounting s) (shortFilling s table) (length table) (count-short-refused s bytes) (short-fills-as-counted most s (length table));
     run = run-refused;
     read-model = models.refuses-at-the-fault;
     judge = judge-refused;
   };
   unchanged = record {
-    build = building.refused-unchanged most mark;
+    fill = tables.refused-unchanged most mark;
     fill-short = short-refused-unchanged most mark;
     run = leaving.refused-unchanged most mark;
     judge = λ s table f answer judged number place. judging.refused-unchanged most mark s f table answer judged .refused;
   };
   rest = record {
-    build = building.counted-rest most mark;
+    fill = tables.counted-rest most mark;
     fill-short = short-counted-rest most mark;
     run = leaving.rest-unchanged most mark;
     judge = λ s table f answer judged. judging.refused-unchanged most mark s f table answer judged .judged;
@@ -98,8 +100,11 @@ demand-two = record {
     λ (bytes, read). accepts-phones f bytes y .0 read,
     λ (w, is). (rw is (encode-bytes y (w .well-formed)), accepts-phones f (rw is (encode-bytes y (w .well-formed))) y .1 (w, is)),
   );
-  builds = λ s table r n left. building.fills-by-iff fillingOf most mark s table r n left (omega arith);
+  fills = λ s table r n left. tables.fills-by-iff fillingOf most mark s table r n left (omega arith);
   accepts = accepts-exactly most;
+  counts = λ s bytes r n read e. (counted-equations most s r n read e, reaches-equations most s bytes r n read e);
+  as-counted = λ s table. fills-as-counted most s (length table);
+  with-room = λ s table. fills-exactly most s (length table);
   judges = judging.judges-exactly most mark;
 }
 
@@ -108,12 +113,12 @@ demand-two-short = record {
   drops = short-drops-exactly most mark;
   takes = λ s table r n left b. call-taken n left (short-never-unfit most mark s table r n left b);
   explains-runs = short-reasons-of-runs most mark;
-  builds = λ s table r n left. building.fills-by-iff shortFillingOf most mark s table r n left (omega arith);
-  accepts = λ s table bytes room.
-      let accepts = accepts-exactly most s table bytes room in (
-        λ (m, e). accepts .0 (short-counted-long most s (length table) m e),
-        λ a. let (n, e) = accepts .1 a in let (m, e′, some, few) = short-refuses-alike most s (length table) .counted n e in (m, e′),
-      );
+  fills = λ s table r n left. tables.fills-by-iff shortFillingOf most mark s table r n left (omega arith);
+  accepts = short-accepts-exactly most;
+  counts = short-refuses-alike most;
+  shortest = shortest-monitor most mark;
+  as-counted = λ s table. short-fills-as-counted most s (length table);
+  with-room = λ s table. short-fills-exactly most s (length table);
 }
 
 -- ---- demand 3

@@ -1,4 +1,4 @@
--- What each function refuses: counting and building first, then explaining; then, with the tables that are unfit, running and judging. Last, the three demands.
+-- What each function refuses: counting and filling first, then explaining; then, with the tables that are unfit, running and judging. Last, the three demands.
 pub mod Refused
 pub mod RefusedReasons
 pub mod UnfitTables

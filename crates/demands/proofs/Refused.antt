@@ -1,28 +1,30 @@
 -- What each function refuses, from the promises of the layers: a refusal of an outcome is that of one of its checks, in their order, and each check is
 -- the condition of a clause.
-use Prim.Native.Nat.{ℕ, _≤_, _<_}
-use mathlib.Core.Path.{_≡_, refl}
+use Prim.Native.Nat.{ℕ, _*_, _≤_, _<_}
+use mathlib.Core.Path.{_≡_, refl, sym, _∙_, ap}
 use mathlib.Core.Logic.{_↔_}
-use mathlib.Core.Bool.{Bool, true, false}
 use mathlib.Core.List.{List}
+use native.Mathlib.Decide.{decLe}
 use native.Mathlib.Omega.{arith}
 use lib.Dec.{ltb}
 use lib.ListN.{length}
-use borrow.Author.Tests.{ltb-true, ltb-false}
 use Rattle.reading.specs.Rule.{Rule, Bytes}
-use Rattle.reading.specs.File.{accepted, refused, ruleOf}
+use Rattle.reading.specs.File.{Outcome, accepted, refused, ruleOf}
+use Rattle.reading.specs.File as File
 use Rattle.reading.proofs.Basics.Outcomes.{refuse-refused, never-refused, andThen-refused}
 use Rattle.reading.proofs.Accepting.Accepted.{accepts-encodings}
 use Rattle.reading.proofs.Refusing.FaultsRefused.{answer-refused, refuses-at-the-fault}
 use Rattle.synthesis.specs.Monitor.{most}
 use Rattle.synthesis.specs.Answering.{unsatisfiable}
-use Rattle.synthesis.specs.Building.{equationsOf, synthesisOfRule, synthesisOf, fillingOf, countedOf}
+use Rattle.synthesis.specs.Building.{equationsOf, Synthesis, synthesisOfRule, synthesisOf, countedOf}
+use Rattle.synthesis.specs.Promises.{FillsAsCounted}
 use Rattle.synthesis.specs.declared.Counted.the-variants as Counted
-use Rattle.synthesis.proofs.Tables.SynthesisOutcomes.{filling-enough, filling-too-short, synthesis-of, counted-refuses}
+use Rattle.synthesis.proofs.Tables.SynthesisOutcomes.{synthesis-of, counted-refuses}
 use Rattle.synthesis.proofs.Tables.Equations.{refuses-too-many}
+use Rattle.synthesis.proofs.Quotients.ShortFillings.{short-refuses-alike}
 use Rattle.enforcement.specs.Model.{Model, Finite, Satisfies}
 use Rattle.models.proofs.Judgments.Accepting.{unrefused-satisfiable, refuses-unsatisfiable}
-use Rattle.demands.specs.Outcomes.{counting, RefusedIff}
+use Rattle.demands.specs.Outcomes.{counting, shortCounting, RefusedIff}
 use Rattle.demands.specs.Refusals.{CountRefused, in-file, no-finite-model, too-many, FillRefused, short-table, in-rule}
 
 -- ---- counting: the clauses of its refusals
@@ -32,7 +34,7 @@ module _ (s : List ℕ) (bytes : Bytes s) where
   CountRefuses number place = countedOf (synthesisOf most s) ≡ Counted.Refused number place
 
   refused-eight-iff : (r : Rule) → ruleOf s ≡ accepted r → CountRefuses 8 0 ↔ ((m : Model) → Finite m → Satisfies m r → ⊥)
-  refused-eight-iff r read = rw (filling-enough most s 32768 (omega arith)) at (refuses-unsatisfiable most s 32768 r bytes (omega arith) read .no-finite)
+  refused-eight-iff r read = refuses-unsatisfiable most s r bytes read .no-finite
 
   -- a rule that was read
   rule-refusal-clause : (r : Rule) → ruleOf s ≡ accepted r → (number place : ℕ) → synthesisOfRule most r ≡ refused number place → CountRefused s number place
@@ -71,26 +73,40 @@ module _ (s : List ℕ) (bytes : Bytes s) where
   pub count-refused : RefusedIff (countedOf (counting s)) Counted.Refused (CountRefused s)
   count-refused number place = (count-refusal-clause number place, count-clause-refuses)
 
-  -- ---- building
+  pub count-short-refused : RefusedIff (countedOf (shortCounting s)) Counted.Refused (CountRefused s)
+  count-short-refused number place =
+      let alike = short-refuses-alike most s .refused number place in
+      (λ e. count-refusal-clause number place (alike .0 e), λ h. alike .1 (count-clause-refuses h))
 
-  module _ (capacity : ℕ) where
-    fill-refusal-clause : (number place : ℕ) → countedOf (fillingOf most s capacity) ≡ Counted.Refused number place → FillRefused s capacity number place
-    fill-refusal-clause number place e = on (ltb capacity 32768) refl
-      where
-        on : (b : Bool) → ltb capacity 32768 ≡ b → FillRefused s capacity number place
-        on true t =
-            let short : capacity < 32768 = ltb-true capacity 32768 t in
-            let same : Counted.Refused 10 0 ≡ Counted.Refused number place = rw (filling-too-short most s capacity short) at e in
-            let number-is : 10 ≡ number = cc in
-            let place-is : 0 ≡ place = cc in
-            rw (← number-is, ← place-is) (short-table short)
-        on false f =
-            let long : 32768 ≤ capacity = ltb-false capacity 32768 f in
-            in-rule long (count-refusal-clause number place (rw (filling-enough most s capacity long) at e))
+-- ---- filling, where counting refuses by these clauses
 
-    fill-clause-refuses : {number place : ℕ} → FillRefused s capacity number place → countedOf (fillingOf most s capacity) ≡ Counted.Refused number place
-    fill-clause-refuses (short-table short) = rw (filling-too-short most s capacity short)
-    fill-clause-refuses (in-rule long fault) = rw (filling-enough most s capacity long) (count-clause-refuses fault)
+module _ (s : List ℕ) (counts filling : Outcome Synthesis) (capacity : ℕ) (refused : RefusedIff (countedOf counts) Counted.Refused (CountRefused s))
+    (as-counted : FillsAsCounted counts filling capacity) where
+  fill-refusal-clause : (number place : ℕ) → countedOf filling ≡ Counted.Refused number place → FillRefused s (countedOf counts) capacity number place
+  fill-refusal-clause number place e = on counts refl
+    where
+      fits : (y : Synthesis) → counts ≡ accepted y → Dec (256 * length (y .equations) ≤ capacity) → FillRefused s (countedOf counts) capacity number place
+      fits y q (yes room) =
+          let z : Counted.Equations (length (y .equations)) ≡ Counted.Refused number place =
+          sym (as-counted .enough (length (y .equations)) (ap countedOf q) room) ∙ e in
+          absurd (let w : _≡_ {A = ℕ} 0 1 = cc in omega arith)
+      fits y q (no short) =
+          let less : capacity < 256 * length (y .equations) = omega (arith, short) in
+          let same : Counted.Refused 10 0 ≡ Counted.Refused number place = sym (as-counted .too-short (length (y .equations)) (ap countedOf q) less) ∙ e in
+          let number-is : 10 ≡ number = cc in
+          let place-is : 0 ≡ place = cc in
+          rw (← number-is, ← place-is) (short-table (length (y .equations)) (ap countedOf q) less)
 
-    pub fill-refused : RefusedIff (countedOf (fillingOf most s capacity)) Counted.Refused (FillRefused s capacity)
-    fill-refused number place = (fill-refusal-clause number place, fill-clause-refuses)
+      on : (o : Outcome Synthesis) → counts ≡ o → FillRefused s (countedOf counts) capacity number place
+      on (accepted y) q = fits y q (decLe (256 * length (y .equations)) capacity)
+      on (File.refused number′ place′) q =
+          let same : Counted.Refused number′ place′ ≡ Counted.Refused number place =
+          sym (as-counted .refused number′ place′ (ap countedOf q)) ∙ e in
+          in-rule (refused number place .0 (ap countedOf q ∙ same))
+
+  fill-clause-refuses : {number place : ℕ} → FillRefused s (countedOf counts) capacity number place → countedOf filling ≡ Counted.Refused number place
+  fill-clause-refuses {number} {place} (in-rule fault) = as-counted .refused number place (refused number place .1 fault)
+  fill-clause-refuses (short-table n e short) = as-counted .too-short n e short
+
+  pub fill-refused : RefusedIff (countedOf filling) Counted.Refused (FillRefused s (countedOf counts) capacity)
+  fill-refused number place = (fill-refusal-clause number place, fill-clause-refuses)

@@ -1,4 +1,4 @@
--- What running and judging refuse: as for building, a refusal is that of one of the checks, in their order.
+-- What running and judging refuse: as for filling, a refusal is that of one of the checks, in their order.
 use Prim.Native.Nat.{ℕ}
 use mathlib.Core.Path.{_≡_, refl, ap}
 use mathlib.Core.Logic.{inl, inr}
@@ -11,7 +11,8 @@ use Rattle.reading.specs.File.{Outcome, accepted, refused}
 use Rattle.reading.proofs.Basics.Outcomes.{refuse-refused, never-refused, andThen-refused}
 use Rattle.synthesis.specs.Monitor.{mark, most}
 use Rattle.synthesis.specs.Building.{countedOf}
-use Rattle.synthesis.proofs.Tables.SynthesisOutcomes.{filling-accepts, counted-accepts, counted-refuses}
+use Rattle.synthesis.proofs.Tables.SynthesisOutcomes.{filling-by-count, filling-accepted, fills-as-counted, counted-accepts, counted-refuses}
+use Rattle.synthesis.specs.declared.Counted.the-variants as Counted
 use Rattle.running.specs.Running.{hasRoom, fits, Run, runOf, checkedOf, resultOf}
 use Rattle.running.specs.Calls.{Call}
 use Rattle.running.specs.Promises.{RunsOn}
@@ -22,11 +23,10 @@ use Rattle.models.specs.Phone.{phoneOf}
 use Rattle.models.specs.Judging.{RuleAndModel, judgingOf, JudgedAs}
 use Rattle.models.specs.declared.Judged.{Judged}
 use Rattle.models.specs.declared.Judged.the-variants as Judged′
-use Rattle.models.proofs.Judgments.Accepting.{accepts-exactly}
 use Rattle.models.proofs.Files.FileFaults.{model-refused, refuses-at-the-fault}
-use Rattle.demands.specs.Outcomes.{building, running, judging, RefusedIff}
-use Rattle.demands.specs.Refusals.{RunRefused, short-buffer, unfit, JudgeRefused, in-filling, in-model}
-use Rattle.demands.proofs.Refused.{fill-refused}
+use Rattle.demands.specs.Outcomes.{counting, filling, running, judging, RefusedIff}
+use Rattle.demands.specs.Refusals.{FillRefused, RunRefused, short-buffer, unfit, JudgeRefused, in-filling, in-model}
+use Rattle.demands.proofs.Refused.{count-refused, fill-refused}
 use Rattle.demands.proofs.UnfitTables.{unfit-not-fit, not-fit-unfit}
 
 -- ---- running
@@ -82,33 +82,34 @@ refusal-only-answer : (o : Outcome RuleAndModel) (answer : Judged) (number place
 refusal-only-answer o answer number place judged refuses = rw (judged-refuses o number place refuses) at judged
 
 module _ (s table f : List ℕ) (bytes : Bytes s) (bytes′ : Bytes f) where
+  filling-refused : RefusedIff (countedOf (filling s table)) Counted.Refused (FillRefused s (countedOf (counting s)) (length table))
+  filling-refused = fill-refused s (counting s) (filling s table) (length table) (count-refused s bytes) (fills-as-counted most s (length table))
+
   judge-refusal-clause : (number place : ℕ) → JudgedAs (judging s table f) (Judged′.Refused number place)
-      → JudgeRefused s (length table) f number place
+      → JudgeRefused s (countedOf (counting s)) (length table) f number place
   unfolding judgingOf
   judge-refusal-clause number place judged =
-      andThen-refused (building s table) _ (judged-refuses (judging s table f) number place judged)
-      (λ e. in-filling (fill-refused s bytes (length table) number place .0 (ap countedOf e)))
-      (λ y built e.
-      let (room, enough) = filling-accepts most s (length table) y built in
+      andThen-refused (filling s table) _ (judged-refuses (judging s table f) number place judged)
+      (λ e. in-filling (filling-refused number place .0 (ap countedOf e)))
+      (λ y fills e.
+      let (counts, room) = filling-accepted {counting = counting s} (length table) (filling-by-count most s (length table)) y fills in
       andThen-refused (phoneOf f) _ e
       (λ e′.
-      in-model room (accepts-exactly most s table bytes room .0 (length (y .equations), ap countedOf built))
+      in-model (length (y .equations)) (ap countedOf counts) room
       (refuses-at-the-fault f bytes′ number place .0 (model-refused (phoneOf f) number place .0 e′)))
       (λ p read e′. absurd (never-refused e′)))
 
-  judge-clause-refuses : {number place : ℕ} → JudgeRefused s (length table) f number place
+  judge-clause-refuses : {number place : ℕ} → JudgeRefused s (countedOf (counting s)) (length table) f number place
       → JudgedAs (judging s table f) (Judged′.Refused number place)
   unfolding judgingOf
-  judge-clause-refuses {number} {place} (in-filling b) =
-      rw (counted-refuses (building s table) number place (fill-refused s bytes (length table) number place .1 b))
-  judge-clause-refuses {number} {place} (in-model room a fault) =
-      let (n, e) = accepts-exactly most s table bytes room .1 a in
-      let (y, built, long) = counted-accepts (building s table) n e in
+  judge-clause-refuses {number} {place} (in-filling b) = rw (counted-refuses (filling s table) number place (filling-refused number place .1 b))
+  judge-clause-refuses {number} {place} (in-model n e room fault) =
+      let (y, fills, long) = counted-accepts (filling s table) n (fills-as-counted most s (length table) .enough n e room) in
       let read = model-refused (phoneOf f) number place .1 (refuses-at-the-fault f bytes′ number place .1 fault) in
-      rw (built, read)
+      rw (fills, read)
 
   pub judge-refused : (answer : Judged) → JudgedAs (judging s table f) answer
-      → RefusedIff answer Judged′.Refused (JudgeRefused s (length table) f)
+      → RefusedIff answer Judged′.Refused (JudgeRefused s (countedOf (counting s)) (length table) f)
   judge-refused answer judged number place = (
     λ e. judge-refusal-clause number place (rw e at judged),
     λ h. refusal-only-answer (judging s table f) answer number place judged (judge-clause-refuses h),

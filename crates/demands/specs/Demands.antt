@@ -11,11 +11,13 @@ use Rattle.reading.specs.File.{accepted, ruleOf}
 use Rattle.reading.specs.Faults.{Fault as RuleFault}
 use Rattle.reading.specs.Numbered.{numbered, readingOf}
 use Rattle.reading.specs.declared.FileRead.the-variants as Reading
-use Rattle.synthesis.specs.Monitor.{mark, most, lookup}
-use Rattle.synthesis.specs.Building.{countedOf, Fills, FillsShort}
+use Rattle.synthesis.specs.Monitor.{mark, most, Monitors, lookup}
+use Rattle.synthesis.specs.Table.{WellFormedTable}
+use Rattle.synthesis.specs.Building.{equationsOf, countedOf, Fills, FillsShort}
 use Rattle.synthesis.specs.Reason.{reasonOf}
 use Rattle.synthesis.specs.ReasonPromises.{Placed, Reasons}
-use Rattle.synthesis.specs.Promises.{SameAfterRows, TableUnchanged}
+use Rattle.synthesis.specs.Promises.{FillsAsCounted, TableUnchanged, ReachableEquations, SameAfterRows}
+use Rattle.synthesis.specs.ShortPromises.{RefusesAlike}
 use Rattle.synthesis.specs.declared.Counted.the-variants as Counted
 use Rattle.synthesis.specs.declared.Reason.the-variants as Reason
 use Rattle.running.specs.Running.{resultOf}
@@ -27,10 +29,10 @@ use Rattle.enforcement.specs.Model.{Bisimilar, suppressing, monitored}
 use Rattle.models.specs.Phone.{Phone, modelOf, PhoneWithinLimits, encodePhone, phoneOf}
 use Rattle.models.specs.Faults.{Fault as ModelFault}
 use Rattle.models.specs.Judging.{stored, modelReadingOf, JudgedAs}
-use Rattle.models.specs.Promises.{EnforcesRule, Acceptable, JudgedExactly}
+use Rattle.models.specs.Promises.{EnforcesRule, Acceptable, FillsWithRoom, JudgedExactly}
 use Rattle.models.specs.declared.Judged.{Judged}
 use Rattle.models.specs.declared.Judged.the-variants as Judged′
-use Rattle.demands.specs.Outcomes.{counting, explaining, building, tableFilled, shortFilling, shortTableFilled, running, judging, tableAfterJudging}
+use Rattle.demands.specs.Outcomes.{counting, explaining, filling, tableFilled, shortCounting, shortFilling, shortTableFilled, running, judging, tableAfterJudging}
 use Rattle.demands.specs.Outcomes.{RefusedIff, IfRefused}
 use Rattle.demands.specs.Refusals.{CountRefused, ExplainRefused, FillRefused, RunRefused, JudgeRefused}
 
@@ -42,25 +44,28 @@ pub record RefusesExactly : Type 1 where
   pub read-rule : (s : List ℕ) → Bytes s → RefusedIff (readingOf (ruleOf s) .answer) Reading.Refused (RuleFault s)
   pub count : (s : List ℕ) → Bytes s → RefusedIff (countedOf (counting s)) Counted.Refused (CountRefused s)
   pub explain : (s kept : List ℕ) (scan : ℕ) → Bytes s → RefusedIff (reasonOf (explaining s kept scan)) Reason.Refused (ExplainRefused s kept)
-  pub build : (s table : List ℕ) → Bytes s → RefusedIff (countedOf (building s table)) Counted.Refused (FillRefused s (length table))
-  pub fill-short : (s table : List ℕ) → Bytes s → RefusedIff (countedOf (shortFilling s table)) Counted.Refused (FillRefused s (length table))
+  pub fill : (s table : List ℕ) → Bytes s
+      → RefusedIff (countedOf (filling s table)) Counted.Refused (FillRefused s (countedOf (counting s)) (length table))
+  pub count-short : (s : List ℕ) → Bytes s → RefusedIff (countedOf (shortCounting s)) Counted.Refused (CountRefused s)
+  pub fill-short : (s table : List ℕ) → Bytes s
+      → RefusedIff (countedOf (shortFilling s table)) Counted.Refused (FillRefused s (countedOf (shortCounting s)) (length table))
   pub run : (s : State) (c : Call) → RefusedIff (resultOf s (running s c) .checked) Checked.Refused (RunRefused s c)
   pub read-model : (f : List ℕ) → Bytes f → RefusedIff (modelReadingOf (phoneOf f) .answer) Reading.Refused (ModelFault f)
   pub judge : (s table f : List ℕ) → Bytes s → Bytes f → (answer : Judged) → JudgedAs (judging s table f) answer
-      → RefusedIff answer Judged′.Refused (JudgeRefused s (length table) f)
+      → RefusedIff answer Judged′.Refused (JudgeRefused s (countedOf (counting s)) (length table) f)
 
 -- A refused call changes no lent buffer, and a refused run hands back the state that it was given and counts of 0.
 pub record LeavesUnchanged : Type 0 where
-  pub build : (s table : List ℕ) → IfRefused (countedOf (building s table)) Counted.Refused (TableUnchanged mark table (building s table))
+  pub fill : (s table : List ℕ) → IfRefused (countedOf (filling s table)) Counted.Refused (TableUnchanged mark table (filling s table))
   pub fill-short : (s table : List ℕ) → IfRefused (countedOf (shortFilling s table)) Counted.Refused (TableUnchanged mark table (shortFilling s table))
   pub run : (s : State) (c : Call) → IfRefused (resultOf s (running s c) .checked) Checked.Refused (RunUnchanged s c (running s c))
   pub judge : (s table f : List ℕ) (answer : Judged) → JudgedAs (judging s table f) answer
       → IfRefused answer Judged′.Refused (tableAfterJudging s table f ≡ table)
 
--- Any other changes no byte that isn't its own: a build none behind its rows, a run none behind the kept scans and the verdicts. Judging leaves what
--- building leaves.
+-- Any other changes no byte that isn't its own: filling none behind the rows, a run none behind the kept scans and the verdicts. Judging leaves what
+-- filling leaves. Counting is lent nothing.
 pub record LeavesTheRest : Type 0 where
-  pub build : (s table : List ℕ) (n : ℕ) → countedOf (building s table) ≡ Counted.Equations n → SameAfterRows n table (tableFilled s table)
+  pub fill : (s table : List ℕ) (n : ℕ) → countedOf (filling s table) ≡ Counted.Equations n → SameAfterRows n table (tableFilled s table)
   pub fill-short : (s table : List ℕ) (n : ℕ) → countedOf (shortFilling s table) ≡ Counted.Equations n
       → SameAfterRows n table (shortTableFilled s table)
   pub run : (s : State) (c : Call) → resultOf s (running s c) .checked ≡ Checked.Fit → OnlyFronts s c (running s c)
@@ -81,11 +86,12 @@ Takes n table =
     → length (c .scans) ≤ length (c .output) → length (c .scans) ≤ length (c .verdicts)
     → resultOf (h .state) (running (h .state) c) .checked ≡ Checked.Fit
 
--- 2. A scan is dropped exactly when the scans kept so far, followed by it, violate the rule; and with room for its scans no call on the built table is
+-- 2. A scan is dropped exactly when the scans kept so far, followed by it, violate the rule; and with room for its scans no call on the filled table is
 -- refused. The reason of a dropped scan is the lowest ff node at which they violate it, and a kept scan has none; a list violates a rule at an ff node
 -- exactly when it violates the rule that has no other ff. A file is read exactly where it is the encoding of a rule, or of a model, within the limits,
--- and then as that one. It builds exactly where it is read and its equations are counted. With a table that is long enough, exactly the rules of the
--- grammar within the limits are accepted, except those that no finite model satisfies. A model is said to meet a rule exactly when it satisfies it.
+-- and then as that one. Counting accepts exactly the rules of the grammar within the limits, except those that no finite model satisfies, and counts the
+-- equations that are reached. Filling answers the same, where the table has 256 bytes for each, and accepts no other. A model is said to meet a rule
+-- exactly when it satisfies it.
 pub record DemandTwo : Type 1 where
   pub drops : (s table : List ℕ) (r : Rule) (n : ℕ) (left : List ℕ) → Fills most mark s table r n left → SiftsOn most mark r n left
   pub takes : (s table : List ℕ) (r : Rule) (n : ℕ) (left : List ℕ) → Fills most mark s table r n left → Takes n left
@@ -97,22 +103,30 @@ pub record DemandTwo : Type 1 where
   pub reads-model : (f : List ℕ) → Bytes f → (modelReadingOf (phoneOf f) .answer ≡ Reading.Accepted)
       ↔ ((y : Phone) × PhoneWithinLimits y × (f ≡ encodePhone y) × (modelReadingOf (phoneOf f) .model ≡ stored y))
   pub models : (f : List ℕ) (y : Phone) → (Bytes f × (phoneOf f ≡ accepted y)) ↔ (PhoneWithinLimits y × (f ≡ encodePhone y))
-  pub builds : (s table : List ℕ) (r : Rule) (n : ℕ) (left : List ℕ) → Fills most mark s table r n left
-      ↔ (RuleWithinLimits r × (s ≡ encode r) × (countedOf (building s table) ≡ Counted.Equations n) × (left ≡ tableFilled s table))
-  pub accepts : (s table : List ℕ) → Bytes s → 32768 ≤ length table
-      → ((n : ℕ) × (countedOf (building s table) ≡ Counted.Equations n)) ↔ Acceptable most s
+  pub fills : (s table : List ℕ) (r : Rule) (n : ℕ) (left : List ℕ) → Fills most mark s table r n left
+      ↔ (RuleWithinLimits r × (s ≡ encode r) × (countedOf (filling s table) ≡ Counted.Equations n) × (left ≡ tableFilled s table))
+  pub accepts : (s : List ℕ) → Bytes s → ((n : ℕ) × (countedOf (counting s) ≡ Counted.Equations n)) ↔ Acceptable most s
+  pub counts : (s : List ℕ) → Bytes s → (r : Rule) (n : ℕ) → ruleOf s ≡ accepted r → countedOf (counting s) ≡ Counted.Equations n
+      → (n ≡ length (equationsOf most r)) × ReachableEquations r (equationsOf most r)
+  pub as-counted : (s table : List ℕ) → FillsAsCounted (counting s) (filling s table) (length table)
+  pub with-room : (s table : List ℕ) → Bytes s → FillsWithRoom most s (counting s) (filling s table) (length table)
   pub judges : (s table : List ℕ) (r : Rule) (n : ℕ) (left : List ℕ) → Fills most mark s table r n left
       → (f : List ℕ) (y : Phone) (answer : Judged) → phoneOf f ≡ accepted y → JudgedAs (judging s table f) answer → JudgedExactly r y answer
 
--- The same of the table that the short build leaves, and of the files that it accepts.
+-- The same of the short table, and of the files that it can be filled from. Its count is at least 1 and at most that of the long table, and no table that
+-- monitors the rule has fewer rows.
 pub record DemandTwoShort : Type 1 where
   pub drops : (s table : List ℕ) (r : Rule) (n : ℕ) (left : List ℕ) → FillsShort most mark s table r n left → SiftsOn most mark r n left
   pub takes : (s table : List ℕ) (r : Rule) (n : ℕ) (left : List ℕ) → FillsShort most mark s table r n left → Takes n left
   pub explains-runs : (s table : List ℕ) (r : Rule) (n : ℕ) (left : List ℕ) → FillsShort most mark s table r n left → ReasonsOn most mark s n left
-  pub builds : (s table : List ℕ) (r : Rule) (n : ℕ) (left : List ℕ) → FillsShort most mark s table r n left
+  pub fills : (s table : List ℕ) (r : Rule) (n : ℕ) (left : List ℕ) → FillsShort most mark s table r n left
       ↔ (RuleWithinLimits r × (s ≡ encode r) × (countedOf (shortFilling s table) ≡ Counted.Equations n) × (left ≡ shortTableFilled s table))
-  pub accepts : (s table : List ℕ) → Bytes s → 32768 ≤ length table
-      → ((n : ℕ) × (countedOf (shortFilling s table) ≡ Counted.Equations n)) ↔ Acceptable most s
+  pub accepts : (s : List ℕ) → Bytes s → ((n : ℕ) × (countedOf (shortCounting s) ≡ Counted.Equations n)) ↔ Acceptable most s
+  pub counts : (s : List ℕ) → RefusesAlike most s
+  pub shortest : (s table : List ℕ) (r : Rule) (n : ℕ) (left : List ℕ) → FillsShort most mark s table r n left
+      → (rows : ℕ) (rival : List ℕ) → WellFormedTable rows mark rows rival → Monitors r (lookup 256 mark rival) 0 → n ≤ rows
+  pub as-counted : (s table : List ℕ) → FillsAsCounted (shortCounting s) (shortFilling s table) (length table)
+  pub with-room : (s table : List ℕ) → Bytes s → FillsWithRoom most s (shortCounting s) (shortFilling s table) (length table)
 
 -- ---- demand 3
 

@@ -1,5 +1,5 @@
--- The calls of the layers, in the very terms of their contracts: the outcome of each, and what it leaves in a table. The limit on equations is 128 and
--- the mark for dropped 255.
+-- The calls of the layers, in the very terms of their contracts: the outcome of each, and what it leaves in a table. The limit on equations is `most`
+-- and the mark for dropped is `mark`.
 use Prim.Native.Nat.{ℕ}
 use mathlib.Core.Path.{_≡_}
 use mathlib.Core.Logic.{_↔_}
@@ -7,7 +7,7 @@ use mathlib.Core.List.{List}
 use lib.ListN.{length}
 use Rattle.reading.specs.File.{Outcome}
 use Rattle.synthesis.specs.Monitor.{mark, most}
-use Rattle.synthesis.specs.Building.{Synthesis, synthesisOf, fillingOf, tableAfter, tableLeft, shortFillingOf}
+use Rattle.synthesis.specs.Building.{Synthesis, synthesisOf, fillingOf, tableAfter, tableLeft, shortOf, shortFillingOf}
 use Rattle.synthesis.specs.Reason.{explanationOf}
 use Rattle.running.specs.Running.{Run}
 use Rattle.running.specs.Calls.{Call, outcomeOf}
@@ -24,14 +24,17 @@ counting s = synthesisOf most s
 abbrev pub explaining : (s kept : List ℕ) → (scan : ℕ) → Outcome ℕ
 explaining s kept c = explanationOf most s kept c
 
--- building in a table
-abbrev pub building : (s table : List ℕ) → Outcome Synthesis
-building s table = fillingOf most s (length table)
+-- filling a table
+abbrev pub filling : (s table : List ℕ) → Outcome Synthesis
+filling s table = fillingOf most s (length table)
 
 abbrev pub tableFilled : (s table : List ℕ) → List ℕ
 tableFilled s table = tableLeft most mark s table
 
--- the short build in a table
+-- counting for the short table, and filling it
+abbrev pub shortCounting : List ℕ → Outcome Synthesis
+shortCounting s = shortOf most s
+
 abbrev pub shortFilling : (s table : List ℕ) → Outcome Synthesis
 shortFilling s table = shortFillingOf most s (length table)
 

@@ -1,5 +1,5 @@
 -- When a call is refused, for each function that can refuse: a clause for each way, with the paper's number and place. `RuleFault` and `ModelFault` have
--- those of files. A table has 256 bytes for each of 128 equations, and 255 is the mark for dropped.
+-- those of files. A table has 256 bytes for each equation; there are at most `most`, and `mark` stands for dropped.
 use Prim.Native.Nat.{ℕ, _+_, _*_, _≤_, _<_}
 use mathlib.Core.Path.{_≡_}
 use mathlib.Core.Logic.{_⊎_}
@@ -10,6 +10,8 @@ use Rattle.reading.specs.Faults.{Fault as RuleFault}
 use Rattle.synthesis.specs.Monitor.{mark, most}
 use Rattle.synthesis.specs.Reason.{FirstViolated}
 use Rattle.synthesis.specs.Promises.{Closed}
+use Rattle.synthesis.specs.declared.Counted.{Counted}
+use Rattle.synthesis.specs.declared.Counted.the-variants.{Equations}
 use Rattle.running.specs.Calls.{Call}
 use Rattle.running.specs.declared.State.{State}
 use Rattle.enforcement.specs.Model.{Model, Finite, Satisfies}
@@ -22,7 +24,7 @@ pub data CountRefused (s : List ℕ) : (number place : ℕ) → Type 1 where
   in-file : {number place : ℕ} → RuleFault s number place → CountRefused s number place
   -- 8: no finite model satisfies the rule
   no-finite-model : (r : Rule) → RuleWithinLimits r → s ≡ encode r → ((m : Model) → Finite m → Satisfies m r → ⊥) → CountRefused s 8 0
-  -- 9: one does, and over 128 equations are reached: no list of so few is closed under the codes
+  -- 9: one does, and too many equations are reached: no list of so few is closed under the codes
   too-many : (r : Rule) → RuleWithinLimits r → s ≡ encode r → (m : Model) → Finite m → Satisfies m r
       → ((es : List ℕ) → length es ≤ most → Closed r es → ⊥) → CountRefused s 9 0
 
@@ -33,11 +35,12 @@ pub data ExplainRefused (s kept : List ℕ) : (number place : ℕ) → Type 1 wh
   -- 17: it isn't, and the shortest front of the kept scans that violates the rule ends with the one at this place
   violating-scan : (a : Acceptable most s) (i : ℕ) → FirstViolated (a .rule) kept i → ExplainRefused s kept 17 i
 
--- building, by either build, with a table of so many bytes
-pub data FillRefused (s : List ℕ) (capacity : ℕ) : (number place : ℕ) → Type 1 where
-  -- 10, which comes first: the table is too short
-  short-table : capacity < 32768 → FillRefused s capacity 10 0
-  in-rule : {number place : ℕ} → 32768 ≤ capacity → CountRefused s number place → FillRefused s capacity number place
+-- filling a table of so many bytes, the long one or the short one, where counting for it gives this answer
+pub data FillRefused (s : List ℕ) (counted : Counted) (capacity : ℕ) : (number place : ℕ) → Type 1 where
+  -- 1 to 9: counting is refused
+  in-rule : {number place : ℕ} → CountRefused s number place → FillRefused s counted capacity number place
+  -- 10: it isn't, and the table has fewer bytes than the rows of all that are counted
+  short-table : (n : ℕ) → counted ≡ Equations n → capacity < 256 * n → FillRefused s counted capacity 10 0
 
 -- what makes a table, a count and a state unfit for a run: byte 256 × k + c is the entry of equation k for the code c
 pub data Unfit (table : List ℕ) (count : ℕ) (s : State) : Type 0 where
@@ -55,9 +58,10 @@ pub data RunRefused (s : State) (c : Call) : (number place : ℕ) → Type 0 whe
   -- 16: the buffers are long enough, and the table, the count or the state is unfit
   unfit : length (c .scans) ≤ length (c .output) → length (c .scans) ≤ length (c .verdicts) → Unfit (c .table) (c .count) s → RunRefused s c 16 0
 
--- judging a model file under a rule file, with a table of so many bytes
-pub data JudgeRefused (s : List ℕ) (capacity : ℕ) (f : List ℕ) : (number place : ℕ) → Type 1 where
-  -- 10 and 1 to 9: building is refused
-  in-filling : {number place : ℕ} → FillRefused s capacity number place → JudgeRefused s capacity f number place
+-- judging a model file under a rule file, with a table of so many bytes, where counting gives this answer
+pub data JudgeRefused (s : List ℕ) (counted : Counted) (capacity : ℕ) (f : List ℕ) : (number place : ℕ) → Type 1 where
+  -- 1 to 10: filling is refused
+  in-filling : {number place : ℕ} → FillRefused s counted capacity number place → JudgeRefused s counted capacity f number place
   -- 11 to 14: it isn't, and the file is no model
-  in-model : {number place : ℕ} → 32768 ≤ capacity → Acceptable most s → ModelFault f number place → JudgeRefused s capacity f number place
+  in-model : {number place : ℕ} (n : ℕ) → counted ≡ Equations n → 256 * n ≤ capacity → ModelFault f number place
+      → JudgeRefused s counted capacity f number place

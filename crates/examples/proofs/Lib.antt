@@ -21,4 +21,5 @@ pub mod RoundExample
 pub mod SlotExamples
 pub mod FullModel
 pub mod RefusalExamples
+pub mod TableExamples
 pub mod Promises

@@ -1,4 +1,4 @@
--- The number-pool rule: its equations, the table that building leaves of it, the listing, and the run of the paper's scans. The rule and its equations are
+-- The number-pool rule: its equations, the table that filling leaves of it, the listing, and the run of the paper's scans. The rule and its equations are
 -- computed from the file; the rows of the table are those of the equations, and from them the listing and the run are computed.
 use Prim.Native.Nat.{ℕ, _≤_, _<_}
 use mathlib.Core.Path.{_≡_, refl}
@@ -49,10 +49,10 @@ number-pool = record {
 
 -- ---- its table
 
-pub pool-fills : (table : List ℕ) → 32768 ≤ length table → Fills most mark poolFile table poolRule 3 (tableLeft most mark poolFile table)
+pub pool-fills : (table : List ℕ) → 768 ≤ length table → Fills most mark poolFile table poolRule 3 (tableLeft most mark poolFile table)
 pool-fills = reads-fills poolFile poolRule 3 (number-pool .file) (search arith)
 
-pool-rows : (table : List ℕ) → 32768 ≤ length table → PoolRows (tableLeft most mark poolFile table)
+pool-rows : (table : List ℕ) → 768 ≤ length table → PoolRows (tableLeft most mark poolFile table)
 unfolding entriesOf answerOf bit covers
 pool-rows table room = record { row-0 = row 0 (omega arith); row-1 = row 1 (omega arith); row-2 = row 2 (omega arith) }
   where
@@ -64,7 +64,7 @@ pool-listed : (table : List ℕ) → PoolRows table → listing (map extentOf (p
 unfolding decimal decimalIn listing rowLines bit covers least countBelow
 pool-listed table rows = rw (rows .row-0, rows .row-1, rows .row-2)
 
-pub pool-table : (table : List ℕ) → 32768 ≤ length table → PoolTable (tableLeft most mark poolFile table)
+pub pool-table : (table : List ℕ) → 768 ≤ length table → PoolTable (tableLeft most mark poolFile table)
 pool-table table room = let rows = pool-rows table room in record { rows = rows; listed = pool-listed (tableLeft most mark poolFile table) rows }
 
 -- ---- the paper's scans
@@ -77,7 +77,7 @@ runs-pool : (outcome : Outcome Run) → outcome ≡ accepted poolRun → RunsPoo
 unfolding occurrences
 runs-pool outcome e = record { accepts = e; handed-back = rw e; ends-in = rw e; output = λ bytes. rw e; verdicts = λ bytes. rw e }
 
-pub pool-scans : (table : List ℕ) → 32768 ≤ length table → PoolScans (tableLeft most mark poolFile table)
+pub pool-scans : (table : List ℕ) → 768 ≤ length table → PoolScans (tableLeft most mark poolFile table)
 pool-scans table room = record {
   enough = λ output verdicts h k. runs-pool (runOf most mark (tableLeft most mark poolFile table) 3 start poolScans output verdicts)
       (run-left (pool-fills table room) poolScans poolRun pool-run-is output verdicts h k);

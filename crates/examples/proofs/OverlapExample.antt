@@ -37,7 +37,7 @@ unfolding entriesOf answerOf bit covers least countBelow decimal decimalIn
 overlap-numbers = numbers overlapFile overlapRule overlapSets overlapListing overlap-read overlap-satisfiable overlap-equations (omega arith) refl
 
 -- a row for each equation that the run comes to, in order
-overlap-run : (table : List ℕ) → 32768 ≤ length table → runFrom mark (tableLeft most mark overlapFile table) start overlapScans ≡ overlapRun
+overlap-run : (table : List ℕ) → 768 ≤ length table → runFrom mark (tableLeft most mark overlapFile table) start overlapScans ≡ overlapRun
 unfolding entriesOf answerOf bit covers
 overlap-run table room =
     let row = row-left overlapFile overlapRule overlap-read overlap-satisfiable overlapSets overlap-equations (omega arith) table room in

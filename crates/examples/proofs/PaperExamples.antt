@@ -1,8 +1,5 @@
 -- All of the paper's examples, computed or from the files of each.
 use mathlib.Core.Path.{refl}
-use lib.ListN.{length}
-use Rattle.synthesis.specs.Monitor.{most}
-use Rattle.synthesis.proofs.Tables.SynthesisOutcomes.{filling-too-short}
 use Rattle.listing.specs.Text.{decimalIn, decimal}
 use Rattle.examples.specs.Examples.{PaperExamples}
 use Rattle.examples.proofs.SmallFiles.{small-files}
@@ -27,7 +24,6 @@ paper-examples = record {
     nodes-with-body = (refl, refl);
     steps = (refl, refl, refl);
   };
-  short-table = λ s table h. rw (filling-too-short most s (length table) h);
   number-pool = number-pool;
   pool-table = pool-table;
   texts = record { refusal = refl; meets = refl; breaks = refl; one-digit = refl; two-digits = refl; four-digits = refl };

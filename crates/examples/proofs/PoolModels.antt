@@ -22,7 +22,7 @@ use Rattle.models.proofs.Judgments.TablesEnforce.{tables-enforce}
 use Rattle.examples.specs.Examples.{poolFile, poolRule}
 use Rattle.examples.specs.ModelExamples.{behind, breakingFile, breakingPhone, Breaking}
 use Rattle.examples.specs.ModelExamples.{meetingFile, meetingPhone, Meeting, ModelExamples}
-use Rattle.examples.proofs.NumberPool.{pool-fills, pool-table}
+use Rattle.examples.proofs.NumberPool.{number-pool, pool-fills, pool-table}
 use Rattle.examples.proofs.ModelAnswers.{judges-met, judges-broken}
 use Rattle.examples.proofs.PhoneSteps.{step-at, every-step}
 use Rattle.examples.proofs.DrawnModel.{drawn-bisimilar}
@@ -32,7 +32,7 @@ use Rattle.examples.proofs.Distinctions.{distinctions}
 -- ---- any model file under the number-pool rule
 
 module _ (f : List ℕ) (y : Phone) (read : phoneOf f ≡ accepted y) where
-  pool-enforces : Bytes f → (table : List ℕ) → 32768 ≤ length table
+  pool-enforces : Bytes f → (table : List ℕ) → 768 ≤ length table
       → Enforces poolRule (suppressing (lookup 256 mark (tableLeft most mark poolFile table))) 0 (modelOf y)
   pool-enforces bytes table room =
       tables-enforce most mark poolFile table poolRule 3 (tableLeft most mark poolFile table) (pool-fills table room) f y bytes read .0
@@ -60,7 +60,7 @@ breaking : Breaking
 breaking = record {
   file = breaking-read;
   unsatisfied = breaking-unsatisfied;
-  judged = judges-broken pool-fills breakingFile breakingPhone breaking-read breaking-unsatisfied;
+  judged = judges-broken poolFile poolRule 3 (number-pool .file) breakingFile breakingPhone breaking-read breaking-unsatisfied;
   changed = λ table room alike. breaking-unsatisfied (
       bisimilar-alike (modelOf breakingPhone) (behind poolFile table (modelOf breakingPhone)) alike poolRule .1
       (pool-enforces breakingFile breakingPhone breaking-read (search arith) table room .satisfies));
@@ -120,7 +120,7 @@ meeting : Meeting
 meeting = record {
   file = meeting-read;
   satisfied = meeting-satisfied;
-  judged = judges-met pool-fills meetingFile meetingPhone meeting-read meeting-satisfied;
+  judged = judges-met poolFile poolRule 3 (number-pool .file) meetingFile meetingPhone meeting-read meeting-satisfied;
   unchanged = λ table room. pool-enforces meetingFile meetingPhone meeting-read (search arith) table room .bisimilar meeting-satisfied;
 }
 

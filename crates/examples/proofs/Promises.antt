@@ -11,6 +11,7 @@ use Rattle.examples.proofs.PatternMeaning.{pattern-meaning}
 use Rattle.examples.proofs.RoundExample.{round-example}
 use Rattle.examples.proofs.SlotExamples.{slot-examples}
 use Rattle.examples.proofs.RefusalExamples.{refusal-examples}
+use Rattle.examples.proofs.TableExamples.{table-examples}
 
 pub promises : Promises
 promises = record {
@@ -25,4 +26,5 @@ promises = record {
   round-example = round-example;
   slot-examples = slot-examples;
   refusal-examples = refusal-examples;
+  table-examples = table-examples;
 }

@@ -1,4 +1,4 @@
--- What reading says of the refused files is computed, and with it what counting, building and judging answer.
+-- What reading says of the refused files is computed, and with it what counting, filling and judging answer.
 use Prim.Native.Nat.{ℕ}
 use mathlib.Core.Path.{_≡_, refl}
 use mathlib.Core.List.{List, [], _∷_}
@@ -6,17 +6,18 @@ use native.Mathlib.Omega.{arith}
 use Rattle.reading.specs.Pattern.{bit, covers}
 use Rattle.reading.specs.Rule.{necessity, max, variable, Rule}
 use Rattle.reading.specs.File.{refused, recordsAt, formulaAt, formulaOf, ruleOf}
+use Rattle.synthesis.specs.Monitor.{most}
 use Rattle.synthesis.specs.Answering.{firstOf, answerOf, unsatisfiable}
 use Rattle.synthesis.specs.Search.{explored, found}
 use Rattle.synthesis.specs.Building.{equationsOf}
 use Rattle.synthesis.specs.declared.Counted.the-variants.{Equations}
-use Rattle.synthesis.proofs.Tables.Built.{fills-outcome}
 use Rattle.models.specs.Phone.{statesOf, phoneOf}
-use Rattle.models.specs.Judging.{judgingOf}
-use Rattle.examples.specs.Examples.{pattern, rule, ReadAs}
+use Rattle.models.proofs.Judgments.JudgingOrder.{judging-model-refused}
+use Rattle.examples.specs.Examples.{pattern, rule, ReadAs, poolFile, poolRule}
 use Rattle.examples.specs.RefusalExamples.{times, RuleRefusals, RefusesModel, ModelRefusals, RefusalExamples}
-use Rattle.examples.proofs.FileAnswers.{refuses, reads}
-use Rattle.examples.proofs.NumberPool.{pool-fills}
+use Rattle.examples.proofs.FileAnswers.{refuses, reads, reads-filling}
+use Rattle.examples.proofs.ModelAnswers.{judges-refused}
+use Rattle.examples.proofs.NumberPool.{number-pool}
 use Rattle.examples.proofs.FullModel.{step-513, silent-513, kind-19-late}
 
 -- ---- variables that are guarded
@@ -78,10 +79,10 @@ rule-refusals = record {
 -- ---- model files
 
 refuses-model : (f : List ℕ) (number place : ℕ) → phoneOf f ≡ refused number place → RefusesModel f number place
-unfolding judgingOf
 refuses-model f number place read = record {
   reading = read;
-  judged = λ table room r. rw (fills-outcome (pool-fills table room), read) (λ e. e, λ e. e);
+  judged = λ capacity room. judges-refused poolFile capacity f number place
+      (judging-model-refused most poolFile capacity (reads-filling poolFile poolRule 3 (number-pool .file) capacity room) f read);
 }
 
 model-refusals : ModelRefusals

@@ -79,10 +79,10 @@ round-numbers : Numbers roundFile roundRule roundSets roundListing
 unfolding entriesOf answerOf bit covers least countBelow decimal decimalIn
 round-numbers = numbers roundFile roundRule roundSets roundListing round-read round-satisfiable round-equations (omega arith) refl
 
-round-fills : (table : List ℕ) → 32768 ≤ length table → Fills most mark roundFile table roundRule 2 (tableLeft most mark roundFile table)
+round-fills : (table : List ℕ) → 512 ≤ length table → Fills most mark roundFile table roundRule 2 (tableLeft most mark roundFile table)
 round-fills = reads-fills roundFile roundRule 2 (round-numbers .file) (search arith)
 
-round-run : (table : List ℕ) → 32768 ≤ length table → runFrom mark (tableLeft most mark roundFile table) start roundScans ≡ roundRun
+round-run : (table : List ℕ) → 512 ≤ length table → runFrom mark (tableLeft most mark roundFile table) start roundScans ≡ roundRun
 unfolding entriesOf answerOf bit covers
 round-run table room =
     let row = row-left roundFile roundRule round-read round-satisfiable roundSets round-equations (omega arith) table room in
@@ -128,8 +128,8 @@ round-example =
       kept-29 = by-rule roundRule file [] 29;
       unsatisfied-31 = at-31;
       unsatisfied-2 = at-2;
-      breaks-31 = record { file = refl; judged = judges-broken round-fills (repeatingFile 31) (repeatingPhone 31) refl at-31 };
-      breaks-2 = record { file = refl; judged = judges-broken round-fills (repeatingFile 2) (repeatingPhone 2) refl at-2 };
+      breaks-31 = record { file = refl; judged = judges-broken roundFile roundRule 2 file (repeatingFile 31) (repeatingPhone 31) refl at-31 };
+      breaks-2 = record { file = refl; judged = judges-broken roundFile roundRule 2 file (repeatingFile 2) (repeatingPhone 2) refl at-2 };
       satisfied = at-29;
-      meets = record { file = refl; judged = judges-met round-fills (repeatingFile 29) (repeatingPhone 29) refl at-29 };
+      meets = record { file = refl; judged = judges-met roundFile roundRule 2 file (repeatingFile 29) (repeatingPhone 29) refl at-29 };
     }

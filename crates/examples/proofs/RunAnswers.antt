@@ -1,4 +1,4 @@
--- A run from the start over a table that building leaves: the table is well formed, so with room for the scans the run goes by its rows.
+-- A run from the start over a table that filling leaves: the table is well formed, so with room for the scans the run goes by its rows.
 use Prim.Native.Nat.{ℕ, _≤_}
 use mathlib.Core.Path.{_≡_, _∙_, ap}
 use mathlib.Core.List.{List}

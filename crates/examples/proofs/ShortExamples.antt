@@ -1,5 +1,5 @@
 -- The classes and the short tables of the rules are computed: the classes from what the equations answer by their numbers, and the rows from the classes.
-use Prim.Native.Nat.{ℕ, _≤_, _<_}
+use Prim.Native.Nat.{ℕ, _*_, _≤_, _<_}
 use mathlib.Core.Path.{_≡_, refl, _∙_, ap}
 use mathlib.Core.Bool.{true, false}
 use mathlib.Core.List.{List, [], _∷_}
@@ -15,12 +15,13 @@ use Rattle.synthesis.specs.Answering.{firstOf, answerOf, unsatisfiable}
 use Rattle.synthesis.specs.Search.{explored, found}
 use Rattle.synthesis.specs.Table.{entriesOf, filled}
 use Rattle.synthesis.specs.Merging.{tabulate, DropAlike, merged, together, refined, rounds, firsts}
-use Rattle.synthesis.specs.Building.{equationsOf, Synthesis, withEquations, countedOf, numberedAnswer, classesOf, shortened, shortFillingOf}
+use Rattle.synthesis.specs.Building.{equationsOf, Synthesis, withEquations, countedOf, numberedAnswer, classesOf, shortened, shortOf}
 use Rattle.synthesis.specs.Reason.{openedFalsities}
 use Rattle.reading.proofs.Measures.BoundedTests.{every-is}
 use Rattle.synthesis.specs.declared.Counted.the-variants.{Equations}
 use Rattle.synthesis.proofs.Tables.FilledTables.{filled-row}
-use Rattle.synthesis.proofs.Tables.SynthesisOutcomes.{accepts-with-equations, filling-enough, short-accepts}
+use Rattle.synthesis.proofs.Tables.SynthesisOutcomes.{accepts-with-equations, short-accepts, short-filling-by-count, filling-accepts}
+use Rattle.synthesis.proofs.Tables.SynthesisOutcomes.{short-fills-as-counted}
 use Rattle.listing.specs.Text.{decimalIn, decimal}
 use Rattle.examples.specs.Examples.{poolFile, poolRule, poolListing}
 use Rattle.examples.specs.ShortExamples.{shortTable, Merges, branchesFile, branchesRule, branchesSets, branchesListing, MergedReasons}
@@ -54,33 +55,36 @@ module _ {s : List ℕ} {r : Rule} {sets classes : List ℕ} (known : Classified
   abbrev fs : List ℕ
   fs = firsts classes (length sets)
 
-  outcome : (table : List ℕ) → 32768 ≤ length table → shortFillingOf most s (length table) ≡ accepted (shortened (given r sets))
-  outcome table room =
+  outcome : shortOf most s ≡ accepted (shortened (given r sets))
+  outcome =
       let few : length (equationsOf most r) ≤ most = rw (known .equations) (known .few) in
-      short-accepts most s (length table)
-      (filling-enough most s (length table) room ∙ accepts-with-equations most s r (known .read) (known .satisfiable) few ∙ ap accepted with-sets)
+      short-accepts most s (accepts-with-equations most s r (known .read) (known .satisfiable) few ∙ ap accepted with-sets)
 
-  short-left : (table : List ℕ) → 32768 ≤ length table → shortTable s table ≡ filled mark (shortAnswer r sets classes) fs 256 table
+  short-count : countedOf (shortOf most s) ≡ Equations (length fs)
   unfolding shortened
-  short-left table room = rw (outcome table room, known .classes-are)
+  short-count = rw (outcome, known .classes-are)
 
-  short-count : (table : List ℕ) → 32768 ≤ length table → countedOf (shortFillingOf most s (length table)) ≡ Equations (length fs)
+  short-left : (table : List ℕ) → 256 * length fs ≤ length table → shortTable s table ≡ filled mark (shortAnswer r sets classes) fs 256 table
   unfolding shortened
-  short-count table room = rw (outcome table room, known .classes-are)
+  short-left table room =
+      rw (filling-accepts (length table) (short-filling-by-count most s (length table)) outcome (rw (known .classes-are) room), known .classes-are)
 
-  short-row : length fs ≤ most → (table : List ℕ) → 32768 ≤ length table → (k : ℕ) → k < length fs
+  short-row : (table : List ℕ) → 256 * length fs ≤ length table → (k : ℕ) → k < length fs
       → rowOf 256 (shortTable s table) k ≡ entriesOf mark (shortAnswer r sets classes) fs (getD fs k 0) 256
-  short-row small table room k h = rw (short-left table room) (filled-row mark (shortAnswer r sets classes) fs 256 table (omega arith) k h)
+  short-row table room k h = rw (short-left table room) (filled-row mark (shortAnswer r sets classes) fs 256 table room k h)
 
-  merges : (n : ℕ) (lines : List ℕ) → length fs ≡ n → n ≤ most → listingOf r (shortAnswer r sets classes) fs ≡ lines → Merges s r sets classes n lines
-  merges n lines count small is = record {
-    file = reads s r (known .read) (known .satisfiable) sets (known .equations) (known .few);
-    equations = known .equations;
-    classes-are = ap classesOf with-sets ∙ known .classes-are;
-    counted = λ table room. short-count table room ∙ ap Equations count;
-    listed = λ table room.
-        rw (← count) (listed-of (shortAnswer r sets classes) fs (shortTable s table) (short-row (omega arith) table room) r ∙ is);
-  }
+  merges : (n : ℕ) (lines : List ℕ) → length fs ≡ n → listingOf r (shortAnswer r sets classes) fs ≡ lines → Merges s r sets classes n lines
+  merges n lines count is =
+      let counting : countedOf (shortOf most s) ≡ Equations n = short-count ∙ ap Equations count in
+      record {
+        file = reads s r (known .read) (known .satisfiable) sets (known .equations) (known .few);
+        equations = known .equations;
+        classes-are = ap classesOf with-sets ∙ known .classes-are;
+        counting = counting;
+        filling = λ capacity. short-fills-as-counted most s capacity .enough n counting;
+        listed = λ table room.
+            rw (← count) (listed-of (shortAnswer r sets classes) fs (shortTable s table) (short-row table (rw count room)) r ∙ is);
+      }
 
 -- ---- the rules
 
@@ -101,27 +105,27 @@ rules = record {
 
 branches : Merges branchesFile branchesRule branchesSets (0 ∷ 1 ∷ 2 ∷ 2 ∷ []) 3 branchesListing
 unfolding firsts entriesOf answerOf bit covers least countBelow decimal decimalIn
-branches = merges (rules .branches) 3 branchesListing refl (omega arith) refl
+branches = merges (rules .branches) 3 branchesListing refl refl
 
 pool : Merges poolFile poolRule (2 ∷ 0 ∷ 40 ∷ []) (0 ∷ 1 ∷ 2 ∷ []) 3 poolListing
 unfolding firsts entriesOf answerOf bit covers least countBelow decimal decimalIn
-pool = merges (rules .pool) 3 poolListing refl (omega arith) refl
+pool = merges (rules .pool) 3 poolListing refl refl
 
 idle : Merges idleFile idleRule (1 ∷ 0 ∷ []) (0 ∷ 0 ∷ []) 1 idleListing
 unfolding firsts entriesOf answerOf bit covers least countBelow decimal decimalIn
-idle = merges (rules .idle) 1 idleListing refl (omega arith) refl
+idle = merges (rules .idle) 1 idleListing refl refl
 
 closed : Merges closedFile closedRule (1 ∷ []) (0 ∷ []) 1 closedListing
 unfolding firsts entriesOf answerOf bit covers least countBelow decimal decimalIn
-closed = merges (rules .closed) 1 closedListing refl (omega arith) refl
+closed = merges (rules .closed) 1 closedListing refl refl
 
 -- ---- one equation and two reasons
 
 -- the first row of the short table
-branches-row : (table : List ℕ) → 32768 ≤ length table
+branches-row : (table : List ℕ) → 768 ≤ length table
     → rowOf 256 (shortTable branchesFile table) 0 ≡ entriesOf mark (shortAnswer branchesRule branchesSets (0 ∷ 1 ∷ 2 ∷ 2 ∷ [])) (0 ∷ 1 ∷ 2 ∷ []) 0 256
 unfolding firsts
-branches-row table room = short-row (rules .branches) (omega arith) table room 0 (omega arith)
+branches-row table room = short-row (rules .branches) table room 0 (omega arith)
 
 -- one scan is no violation: the formula after it is a necessity
 one-scan : (c : ℕ) → ViolatesRule branchesRule (c ∷ []) → ⊥
@@ -155,11 +159,11 @@ closed-marks : every 256 (λ c. eqb (getD closedRow c mark) mark) ≡ true
 unfolding entriesOf answerOf bit covers least
 closed-marks = refl
 
-closed-row : (table : List ℕ) → 32768 ≤ length table → rowOf 256 (shortTable closedFile table) 0 ≡ closedRow
+closed-row : (table : List ℕ) → 256 ≤ length table → rowOf 256 (shortTable closedFile table) 0 ≡ closedRow
 unfolding firsts
-closed-row table room = short-row (rules .closed) (omega arith) table room 0 (omega arith)
+closed-row table room = short-row (rules .closed) table room 0 (omega arith)
 
-closed-drops : (table : List ℕ) → 32768 ≤ length table → (c : ℕ) → c < 256 → lookup 256 mark (shortTable closedFile table) 0 c ≡ dropped
+closed-drops : (table : List ℕ) → 256 ≤ length table → (c : ℕ) → c < 256 → lookup 256 mark (shortTable closedFile table) 0 c ≡ dropped
 closed-drops table room c b = rw (closed-row table room, every-is 256 (λ c. eqb (getD closedRow c mark) mark) .0 closed-marks c b)
 
 pub short-examples : ShortExamples

@@ -35,7 +35,7 @@ never-equations : equationsOf most neverRule ≡ 1 ∷ 0 ∷ []
 unfolding equationsOf found explored firstOf answerOf bit covers
 never-equations = refl
 
-never-row : (table : List ℕ) → 32768 ≤ length table → rowOf 256 (tableLeft most mark neverFile table) 0 ≡ replicate 5 1 ++ 255 ∷ replicate 250 1
+never-row : (table : List ℕ) → 512 ≤ length table → rowOf 256 (tableLeft most mark neverFile table) 0 ≡ replicate 5 1 ++ mark ∷ replicate 250 1
 unfolding entriesOf answerOf bit covers
 never-row table room =
     row-left neverFile neverRule never-read never-satisfiable (1 ∷ 0 ∷ []) never-equations (omega arith) table room 0 (omega arith)
@@ -78,7 +78,7 @@ not-bare t (code-first h k) = six-not-first (shortening-step h)
 
 -- ---- behind the monitor
 
-module _ (table : List ℕ) (room : 32768 ≤ length table) where
+module _ (table : List ℕ) (room : 512 ≤ length table) where
   abbrev respond : ℕ → ℕ → Response ℕ
   respond = suppressing (lookup 256 mark (tableLeft most mark neverFile table))
 

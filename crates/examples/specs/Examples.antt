@@ -1,6 +1,6 @@
 -- The paper's examples as one statement over the definitions of all layers, in the paper's order and words. The stars in the comments are
 -- the paper's; a row without one has none there.
-use Prim.Native.Nat.{ℕ, _≤_, _<_}
+use Prim.Native.Nat.{ℕ, _*_, _≤_, _<_}
 use mathlib.Core.Path.{_≡_}
 use mathlib.Core.Logic.{_⊎_}
 use mathlib.Core.Bool.{true, false}
@@ -61,24 +61,25 @@ pub record KindBytes : Type 0 where
 
 -- ---- what is said of a file
 
--- Counting answers so, and building too with every table of at least 32,768 bytes.
+-- the bytes of a table that an answer needs: 256 for each equation, and none for a refusal
+abbrev pub bytesFor : Counted → ℕ
+bytesFor (Equations n) = 256 * n
+bytesFor (Refused number place) = 0
+
+-- Counting answers so, and filling too with every table that has the bytes for it. So a refused file is refused by its own number with any table.
 pub record CountedAs (s : List ℕ) (answer : Counted) : Type 0 where
   pub counting : countedOf (synthesisOf most s) ≡ answer
-  pub building : (table : List ℕ) → 32768 ≤ length table → countedOf (fillingOf most s (length table)) ≡ answer
+  pub filling : (capacity : ℕ) → bytesFor answer ≤ capacity → countedOf (fillingOf most s capacity) ≡ answer
 
--- reading refuses the file, and so do counting and building
+-- reading refuses the file, and so do counting and filling
 pub record Refuses (s : List ℕ) (number place : ℕ) : Type 0 where
   pub reading : ruleOf s ≡ refused number place
   pub answers : CountedAs s (Refused number place)
 
--- reading accepts the file as this rule, and counting and building answer so
+-- reading accepts the file as this rule, and counting and filling answer so
 pub record ReadAs (s : List ℕ) (r : Rule) (answer : Counted) : Type 0 where
   pub reading : ruleOf s ≡ accepted r
   pub answers : CountedAs s answer
-
--- a table under 32,768 bytes, whatever the file: 10 at 0
-abbrev pub ShortTable : Type 0
-ShortTable = (s table : List ℕ) → length table < 32768 → countedOf (fillingOf most s (length table)) ≡ Refused 10 0
 
 -- ---- the number-pool rule
 
@@ -120,9 +121,9 @@ pub record PoolRows (table : List ℕ) : Type 0 where
   -- the empty set, which passes everything
   pub row-1 : rowOf 256 table 1 ≡ replicate 256 1
   -- an issue of 5 is dropped, a sync starts the rule again, and any other scan ends it
-  pub row-2 : rowOf 256 table 2 ≡ replicate 5 1 ++ 255 ∷ replicate 122 1 ++ replicate 32 0 ++ replicate 96 1
+  pub row-2 : rowOf 256 table 2 ≡ replicate 5 1 ++ mark ∷ replicate 122 1 ++ replicate 32 0 ++ replicate 96 1
 
--- a table that building leaves of it
+-- a table that filling leaves of it
 pub record PoolTable (table : List ℕ) : Type 0 where
   pub rows : PoolRows table
   pub listed : listing (map extentOf (poolRule .patterns)) 3 table ≡ poolListing
@@ -145,7 +146,7 @@ pub record SmallFiles : Type 0 where
   pub empty : Refuses [] 1 0
   -- * 2: one equation, every entry 0
   pub truth-alone : ReadAs (2 ∷ []) (rule [] truth) (Equations 1)
-  pub truth-entries : (table : List ℕ) → 32768 ≤ length table → rowOf 256 (tableLeft most mark (2 ∷ []) table) 0 ≡ replicate 256 0
+  pub truth-entries : (table : List ℕ) → 256 ≤ length table → rowOf 256 (tableLeft most mark (2 ∷ []) table) 0 ≡ replicate 256 0
   -- * 3: 8 at 0
   pub falsity-alone : ReadAs (3 ∷ []) (rule [] falsity) (Refused 8 0)
   -- * 2 2: 3 at 1
@@ -199,9 +200,8 @@ pub record PoolScans (table : List ℕ) : Type 0 where
 pub record PaperExamples : Type 0 where
   pub codes : Codes
   pub kind-bytes : KindBytes
-  pub short-table : ShortTable
   pub number-pool : NumberPool
-  pub pool-table : (table : List ℕ) → 32768 ≤ length table → PoolTable (tableLeft most mark poolFile table)
+  pub pool-table : (table : List ℕ) → 768 ≤ length table → PoolTable (tableLeft most mark poolFile table)
   pub texts : Texts
   pub small-files : SmallFiles
-  pub pool-scans : (table : List ℕ) → 32768 ≤ length table → PoolScans (tableLeft most mark poolFile table)
+  pub pool-scans : (table : List ℕ) → 768 ≤ length table → PoolScans (tableLeft most mark poolFile table)

@@ -10,4 +10,5 @@ pub mod PatternMeaning
 pub mod RoundExample
 pub mod SlotExamples
 pub mod RefusalExamples
+pub mod TableExamples
 pub mod Promises

@@ -23,17 +23,20 @@ use Rattle.examples.specs.Examples.{pattern, rule, ReadAs, poolFile, poo
 abbrev pub step : (from label to : ℕ) → Step
 step from label to = record { from = from; label = label; to = to }
 
--- a model behind the table that building leaves of a rule file
+-- a model behind the table that filling leaves of a rule file
 abbrev pub behind : (s table : List ℕ) → Model → Model
 behind s table = monitored (suppressing (lookup 256 mark (tableLeft most mark s table))) 0
 
--- With every table of at least 32,768 bytes this is an answer of judging a model under a rule, and it is the only one.
-abbrev pub Judges : (s model : List ℕ) → Judged → Type 0
-Judges s f answer =
-    (table : List ℕ) → 32768 ≤ length table → (r : Judged) → JudgedAs (judgingOf most s (length table) f) r ↔ (r ≡ answer)
+-- With a table of so many bytes this is an answer of judging a model under a rule, and it is the only one.
+abbrev pub JudgesIn : (s : List ℕ) → (capacity : ℕ) → (model : List ℕ) → Judged → Type 0
+JudgesIn s capacity f answer = (r : Judged) → JudgedAs (judgingOf most s capacity f) r ↔ (r ≡ answer)
+
+-- the same with every table of at least so many bytes
+abbrev pub Judges : (s : List ℕ) → (bytes : ℕ) → (model : List ℕ) → Judged → Type 0
+Judges s bytes f answer = (capacity : ℕ) → bytes ≤ capacity → JudgesIn s capacity f answer
 
 abbrev pub JudgesPool : (model : List ℕ) → Judged → Type 0
-JudgesPool = Judges poolFile
+JudgesPool = Judges poolFile 768
 
 -- ---- a model that breaks the rule
 
@@ -56,8 +59,8 @@ pub record Breaking : Type 1 where
   pub file : phoneOf breakingFile ≡ accepted breakingPhone
   pub unsatisfied : Satisfies (modelOf breakingPhone) poolRule → ⊥
   pub judged : JudgesPool breakingFile Breaks
-  pub changed : (table : List ℕ) → 32768 ≤ length table → Bisimilar (modelOf breakingPhone) (behind poolFile table (modelOf breakingPhone)) → ⊥
-  pub drawn : (table : List ℕ) → 32768 ≤ length table → Bisimilar (behind poolFile table (modelOf breakingPhone)) (modelOf drawnPhone)
+  pub changed : (table : List ℕ) → 768 ≤ length table → Bisimilar (modelOf breakingPhone) (behind poolFile table (modelOf breakingPhone)) → ⊥
+  pub drawn : (table : List ℕ) → 768 ≤ length table → Bisimilar (behind poolFile table (modelOf breakingPhone)) (modelOf drawnPhone)
 
 -- ---- a model that meets it
 
@@ -72,7 +75,7 @@ pub record Meeting : Type 1 where
   pub file : phoneOf meetingFile ≡ accepted meetingPhone
   pub satisfied : Satisfies (modelOf meetingPhone) poolRule
   pub judged : JudgesPool meetingFile Meets
-  pub unchanged : (table : List ℕ) → 32768 ≤ length table → Bisimilar (modelOf meetingPhone) (behind poolFile table (modelOf meetingPhone))
+  pub unchanged : (table : List ℕ) → 768 ≤ length table → Bisimilar (modelOf meetingPhone) (behind poolFile table (modelOf meetingPhone))
 
 -- ---- a trace behind a monitor only
 
@@ -97,7 +100,7 @@ pub record Shortening : Type 0 where
   pub model-file : phoneOf shorteningFile ≡ accepted shorteningPhone
   pub bare : Walk (modelOf shorteningPhone) 0 (5 ∷ 6 ∷ []) 2
   pub violating : ViolatesRule neverRule (5 ∷ 6 ∷ [])
-  pub shown : (table : List ℕ) → 32768 ≤ length table → Walk (behind neverFile table (modelOf shorteningPhone)) (0, 0) (6 ∷ []) (2, 1)
+  pub shown : (table : List ℕ) → 512 ≤ length table → Walk (behind neverFile table (modelOf shorteningPhone)) (0, 0) (6 ∷ []) (2, 1)
   pub not-bare : (t : ℕ) → Walk (modelOf shorteningPhone) 0 (6 ∷ []) t → ⊥
   pub not-violating : ViolatesRule neverRule (6 ∷ []) → ⊥
 

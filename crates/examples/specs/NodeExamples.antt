@@ -64,6 +64,6 @@ pub record NodeExamples : Type 0 where
   pub outer-max : Numbers (nestedFile 1) (nestedRule 1) nestedSets poolListing
   -- depth 0: in equation 2, a sync leads back to equation 2
   pub inner-max : ReadAs (nestedFile 0) (nestedRule 0) (Equations 3)
-  pub inner-row : (table : List ℕ) → 32768 ≤ length table
-      → rowOf 256 (tableLeft most mark (nestedFile 0) table) 2 ≡ replicate 5 1 ++ 255 ∷ replicate 122 1 ++ replicate 32 2 ++ replicate 96 1
+  pub inner-row : (table : List ℕ) → 768 ≤ length table
+      → rowOf 256 (tableLeft most mark (nestedFile 0) table) 2 ≡ replicate 5 1 ++ mark ∷ replicate 122 1 ++ replicate 32 2 ++ replicate 96 1
   pub twice : Numbers twiceFile twiceRule twiceSets twiceListing

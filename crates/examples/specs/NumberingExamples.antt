@@ -1,5 +1,5 @@
 -- The order in which equations are numbered, by two rules that aren't in the paper: codes ascending, and earlier equations first.
-use Prim.Native.Nat.{ℕ, _≤_}
+use Prim.Native.Nat.{ℕ, _*_, _≤_}
 use mathlib.Core.Path.{_≡_}
 use mathlib.Core.List.{List, [], _∷_, _++_, map}
 use lib.ListN.{length}
@@ -12,11 +12,12 @@ use Rattle.listing.specs.Text.{text}
 use Rattle.listing.specs.Lines.{listing}
 use Rattle.examples.specs.Examples.{pattern, rule, ReadAs}
 
--- a file's rule, its equations as sets of nodes in their order, and what is listed of every table that building leaves
+-- a file's rule, its equations as sets of nodes in their order, and what is listed of every table that filling leaves
 pub record Numbers (s : List ℕ) (r : Rule) (sets lines : List ℕ) : Type 0 where
   pub file : ReadAs s r (Equations (length sets))
   pub equations : equationsOf most r ≡ sets
-  pub listed : (table : List ℕ) → 32768 ≤ length table → listing (map extentOf (r .patterns)) (length sets) (tableLeft most mark s table) ≡ lines
+  pub listed : (table : List ℕ) → 256 * length sets ≤ length table
+      → listing (map extentOf (r .patterns)) (length sets) (tableLeft most mark s table) ≡ lines
 
 -- ---- codes ascending, whatever the order of the nodes
 

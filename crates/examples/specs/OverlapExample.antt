@@ -57,6 +57,6 @@ overlapRun = record {
 
 pub record OverlapExample : Type 0 where
   pub numbers : Numbers overlapFile overlapRule overlapSets overlapListing
-  pub run : (table : List ℕ) → 32768 ≤ length table → (output verdicts : ℕ) → 9 ≤ output → 9 ≤ verdicts
+  pub run : (table : List ℕ) → 768 ≤ length table → (output verdicts : ℕ) → 9 ≤ output → 9 ≤ verdicts
       → runOf most mark (tableLeft most mark overlapFile table) 3 start overlapScans output verdicts ≡ accepted overlapRun
   pub ends-in : overlapRun .state .equation ≡ 1

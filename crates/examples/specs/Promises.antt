@@ -13,6 +13,7 @@ use Rattle.examples.specs.PatternMeaning.{PatternMeaning}
 use Rattle.examples.specs.RoundExample.{RoundExample}
 use Rattle.examples.specs.SlotExamples.{SlotExamples}
 use Rattle.examples.specs.RefusalExamples.{RefusalExamples}
+use Rattle.examples.specs.TableExamples.{TableExamples}
 
 pub record Promises : Type 1 where
   pub paper-examples : PaperExamples
@@ -26,3 +27,4 @@ pub record Promises : Type 1 where
   pub round-example : RoundExample
   pub slot-examples : SlotExamples
   pub refusal-examples : RefusalExamples
+  pub table-examples : TableExamples

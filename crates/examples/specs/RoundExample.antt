@@ -75,7 +75,7 @@ repeatingFile c = 16 ∷ 1 ∷ 17 ∷ 0 ∷ c ∷ 0 ∷ []
 -- judging has one answer to it under the rule
 pub record JudgedRound (code : ℕ) (answer : Judged) : Type 0 where
   pub file : phoneOf (repeatingFile code) ≡ accepted (repeatingPhone code)
-  pub judged : Judges roundFile (repeatingFile code) answer
+  pub judged : Judges roundFile 512 (repeatingFile code) answer
 
 pub record RoundExample : Type 1 where
   pub patterns : RoundPatterns
@@ -83,7 +83,7 @@ pub record RoundExample : Type 1 where
   pub violating-31 : ViolatesRule roundRule (31 ∷ [])
   pub violating-2 : ViolatesRule roundRule (2 ∷ [])
   pub not-violating : ViolatesRule roundRule (29 ∷ []) → ⊥
-  pub run : (table : List ℕ) → 32768 ≤ length table → (output verdicts : ℕ) → 4 ≤ output → 4 ≤ verdicts
+  pub run : (table : List ℕ) → 512 ≤ length table → (output verdicts : ℕ) → 4 ≤ output → 4 ≤ verdicts
       → runOf most mark (tableLeft most mark roundFile table) 2 start roundScans output verdicts ≡ accepted roundRun
   -- node 1 is the ff
   pub dropped-31 : reason roundFile [] 31 ≡ Node 1

@@ -1,5 +1,5 @@
--- The short build, by rules that aren't in the paper and by the number-pool rule, which has no two equations that drop alike.
-use Prim.Native.Nat.{ℕ, _≤_}
+-- The short table, by rules that aren't in the paper and by the number-pool rule, which has no two equations that drop alike.
+use Prim.Native.Nat.{ℕ, _*_, _≤_}
 use mathlib.Core.Path.{_≡_}
 use mathlib.Core.List.{List, [], _∷_, _++_, map}
 use lib.ListN.{length}
@@ -8,7 +8,7 @@ use Rattle.reading.specs.Rule.{truth, falsity, both, necessity, Rule}
 use Rattle.synthesis.specs.Violation.{ViolatesRule}
 use Rattle.synthesis.specs.Monitor.{mark, most, ended, lookup}
 use Rattle.synthesis.specs.Merging.{DropAlike}
-use Rattle.synthesis.specs.Building.{equationsOf, withEquations, countedOf, tableAfter, classesOf, shortFillingOf}
+use Rattle.synthesis.specs.Building.{equationsOf, withEquations, countedOf, tableAfter, classesOf, shortOf, shortFillingOf}
 use Rattle.synthesis.specs.declared.Counted.the-variants.{Equations}
 use Rattle.synthesis.specs.declared.Reason.the-variants.{Node}
 use Rattle.listing.specs.Text.{text}
@@ -16,17 +16,18 @@ use Rattle.listing.specs.Lines.{listing}
 use Rattle.examples.specs.Examples.{pattern, rule, ReadAs, poolFile, poolRule, poolListing}
 use Rattle.examples.specs.ReasonExamples.{reason}
 
--- the table that the short build leaves
+-- what the filling of the short table leaves
 abbrev pub shortTable : (s table : List ℕ) → List ℕ
 shortTable s table = tableAfter mark (shortFillingOf most s (length table)) table
 
--- a file's rule, its equations as sets of nodes, their classes, and the count and the listing of every table that the short build leaves
+-- a file's rule, its equations as sets of nodes, their classes, and for the short table what counting and filling answer and what is listed of it
 pub record Merges (s : List ℕ) (r : Rule) (sets classes : List ℕ) (n : ℕ) (lines : List ℕ) : Type 0 where
   pub file : ReadAs s r (Equations (length sets))
   pub equations : equationsOf most r ≡ sets
   pub classes-are : classesOf (withEquations most r) ≡ classes
-  pub counted : (table : List ℕ) → 32768 ≤ length table → countedOf (shortFillingOf most s (length table)) ≡ Equations n
-  pub listed : (table : List ℕ) → 32768 ≤ length table → listing (map extentOf (r .patterns)) n (shortTable s table) ≡ lines
+  pub counting : countedOf (shortOf most s) ≡ Equations n
+  pub filling : (capacity : ℕ) → 256 * n ≤ capacity → countedOf (shortFillingOf most s capacity) ≡ Equations n
+  pub listed : (table : List ℕ) → 256 * n ≤ length table → listing (map extentOf (r .patterns)) n (shortTable s table) ≡ lines
 
 -- ---- two branches that drop alike
 
@@ -63,7 +64,7 @@ branchesListing =
 -- Over the short table 5 and 7 lead to one equation, and after both 6 is dropped; but not for one reason. So a reason can't be had from an equation of the
 -- short table.
 pub record MergedReasons : Type 0 where
-  pub one-equation : (table : List ℕ) → 32768 ≤ length table
+  pub one-equation : (table : List ℕ) → 768 ≤ length table
       → ended (lookup 256 mark (shortTable branchesFile table)) 0 (5 ∷ []) ≡ ended (lookup 256 mark (shortTable branchesFile table)) 0 (7 ∷ [])
   pub safe-5 : ViolatesRule branchesRule (5 ∷ []) → ⊥
   pub safe-7 : ViolatesRule branchesRule (7 ∷ []) → ⊥
@@ -99,4 +100,4 @@ pub record ShortExamples : Type 0 where
   pub idle : Merges idleFile idleRule (1 ∷ 0 ∷ []) (0 ∷ 0 ∷ []) 1 idleListing
   pub closed : Merges closedFile closedRule (1 ∷ []) (0 ∷ []) 1 closedListing
   -- A table without rows drops alike, since a code that has no entry is dropped. So a rival must have a row.
-  pub needs-a-row : (table : List ℕ) → 32768 ≤ length table → DropAlike 256 (lookup 256 mark (shortTable closedFile table)) 0 (lookup 256 mark []) 0
+  pub needs-a-row : (table : List ℕ) → 256 ≤ length table → DropAlike 256 (lookup 256 mark (shortTable closedFile table)) 0 (lookup 256 mark []) 0

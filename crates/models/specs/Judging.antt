@@ -9,7 +9,7 @@ use Rattle.reading.specs.Rule.{Rule}
 use Rattle.reading.specs.File.{Outcome, accepted, refused, andThen}
 use Rattle.reading.specs.Numbered.{padded}
 use Rattle.reading.specs.declared.FileRead.the-variants.{Accepted, Refused}
-use Rattle.synthesis.specs.Building.{fillingOf}
+use Rattle.synthesis.specs.Building.{Synthesis, fillingOf}
 use Rattle.enforcement.specs.Model.{SatisfiesDecided}
 use Rattle.models.specs.Phone.{Phone, noStep, modelOf, phoneOf}
 use Rattle.models.specs.declared.PhoneModel.{PhoneModel}
@@ -39,10 +39,13 @@ pub record RuleAndModel : Type 0 where
   pub rule : Rule
   pub phone : Phone
 
+-- a rule that was accepted with a model file: 11 to 14 of the model
+abbrev pub withModel : (model : List ℕ) → Synthesis → Outcome RuleAndModel
+withModel f y = andThen (phoneOf f) (λ p. accepted (record { rule = y .rule; phone = p }))
+
 -- What is judged, with a table of so many bytes: 1 to 9 of the rule come first, then 10 of the table, and then 11 to 14 of the model.
 unfoldable pub judgingOf : (limit : ℕ) → (rule : List ℕ) → (capacity : ℕ) → (model : List ℕ) → Outcome RuleAndModel
-judgingOf limit s capacity f =
-    andThen (fillingOf limit s capacity) (λ y. andThen (phoneOf f) (λ p. accepted (record { rule = y .rule; phone = p })))
+judgingOf limit s capacity f = andThen (fillingOf limit s capacity) (withModel f)
 
 -- The answer of each outcome: meets where the model satisfies the rule, breaks where it doesn't, or the refusal with the paper's number
 -- and place.

@@ -1,6 +1,9 @@
--- `print_equations` meets its contract: the answer is that of `build`, and the table the one that it leaves.
+-- `print_equations` meets its contract: the answer is that of `fill`, which is that of counting, and the table the one that it leaves.
+use native.Mathlib.Omega.{arith}
+use lib.ListN.{length}
 use borrow.Author.Needs.{needs}
 use Rattle.reading.proofs.Basics.ByteLaws.{slice-bytes}
+use Rattle.synthesis.proofs.Tables.SynthesisOutcomes.{filling-within}
 use Rattle.commands.proofs.print_equations.Statement.{statement}
 use Rattle.commands.proofs.print_equations.Tie as tie
 
@@ -16,9 +19,11 @@ same-length c = search needs
 returns : tie.Need-returns
 returns c =
     let known = c .before .before .before .before .before .before .before in
-    let build = c .before .before .before .before .fill in (
-      slice-bytes (known .before .args .file .now) (known .shared-slice-known .given),
-      record { answer = build .ensures .0; stops = rw (← build .ensures .1) (c .print-answer .ensures) },
+    let x = known .before .args in
+    let filled = c .before .before .before .before .fill in
+    let same = filling-within 128 (x .file .now) (length (x .table .now)) (omega (arith, known .before .pre)) in (
+      slice-bytes (x .file .now) (known .shared-slice-known .given),
+      record { answer = rw same at (filled .ensures .0); stops = rw (← rw same at (filled .ensures .1)) (c .print-answer .ensures) },
     )
 
 pub print-equations-spec : {M : Type 1} → statement M

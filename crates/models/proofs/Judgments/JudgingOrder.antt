@@ -5,14 +5,14 @@ use mathlib.Core.Path.{_≡_, refl}
 use mathlib.Core.Logic.{_⊎_, inl, inr}
 use mathlib.Core.List.{List}
 use lib.ListN.{length}
-use Rattle.reading.specs.File.{accepted, refused}
+use Rattle.reading.specs.File.{accepted, refused, andThen}
 use Rattle.reading.proofs.Basics.Outcomes.{andThen-accepts}
 use Rattle.synthesis.specs.Building.{Synthesis, synthesisOf, fillingOf, countedOf}
 use Rattle.synthesis.specs.Promises.{FillsAsCounted}
 use Rattle.synthesis.specs.declared.Counted.the-variants.{Equations}
-use Rattle.synthesis.proofs.Tables.SynthesisOutcomes.{counted-accepts, counted-refuses, fills-as-counted}
+use Rattle.synthesis.proofs.Tables.SynthesisOutcomes.{counted-accepts, counted-refuses, filling-within, fills-as-counted}
 use Rattle.models.specs.Phone.{Phone, phoneOf}
-use Rattle.models.specs.Judging.{RuleAndModel, judgingOf, JudgedAs}
+use Rattle.models.specs.Judging.{RuleAndModel, withModel, judgingOf, JudgedAs}
 use Rattle.models.specs.Promises.{JudgesInOrder}
 use Rattle.models.specs.declared.Judged.{Judged}
 use Rattle.models.specs.declared.Judged.the-variants.{Meets, Breaks}
@@ -33,6 +33,12 @@ module _ (limit : ℕ) (s : List ℕ) (capacity : ℕ) where
     pub judging-accepts : {p : Phone} → phoneOf f ≡ accepted p → judgingOf limit s capacity f ≡ accepted (record { rule = y .rule; phone = p })
     unfolding judgingOf
     judging-accepts e = andThen-accepts _ fills (andThen-accepts _ e refl)
+
+-- with a table for as many rows as the limit allows, 10 doesn't come
+pub judging-within : (limit : ℕ) (s : List ℕ) (capacity : ℕ) → 256 * limit ≤ capacity → (f : List ℕ)
+    → judgingOf limit s capacity f ≡ andThen (synthesisOf limit s) (withModel f)
+unfolding judgingOf
+judging-within limit s capacity room f = rw (filling-within limit s capacity room)
 
 -- what isn't refused is judged
 meets-or-breaks : (x : RuleAndModel) (answer : Judged) → JudgedAs (accepted x) answer → (answer ≡ Meets) ⊎ (answer ≡ Breaks)

@@ -10,6 +10,7 @@ use native.Mathlib.Omega.{arith}
 use lib.ListN.{length, getD}
 use Rattle.reading.specs.Rule.{Formula, necessity, Rule, Bytes}
 use Rattle.reading.specs.File.{accepted, ruleOf}
+use Rattle.reading.proofs.Basics.Outcomes.{accepted-is}
 use Rattle.reading.specs.Nodes.{EnclosingMax, Node}
 use Rattle.reading.proofs.Accepting.Accepted.{accepts-encodings}
 use Rattle.reading.proofs.Basics.AllLaws.{all-at}
@@ -21,7 +22,7 @@ use Rattle.synthesis.specs.Answering.{firstOf, answerOf, unsatisfiable}
 use Rattle.synthesis.specs.Search.{indexOf, found}
 use Rattle.synthesis.specs.Building.{equationsOf, Synthesis, withEquations, synthesisOf, countedOf}
 use Rattle.synthesis.specs.Promises.{WellFormedFormula, Counts, AnswersCount, Closed, RefusesTooMany, ReachableEquations, ReachesEquations}
-use Rattle.synthesis.specs.declared.Counted.the-variants.{Refused}
+use Rattle.synthesis.specs.declared.Counted.the-variants.{Equations, Refused}
 use Rattle.synthesis.proofs.Numberings.Indices.{Member, index-is, index-first, member-at, Distinct, distinct-indices, distinct-fits}
 use Rattle.synthesis.proofs.Numberings.Finding.{ClosedUnder, found-closed, found-inside, ReachedBy, found-reached, found-all}
 use Rattle.synthesis.proofs.Numberings.Finding.{found-first, found-distinct}
@@ -147,6 +148,13 @@ answers-count limit s n e =
       some = omega (arith, q, first-member limit r);
       few = omega (arith, q, few);
     }) (y .0) (y .1) (y .2)
+
+-- the same of the rule that the file says
+pub counted-equations : (limit : ℕ) (s : List ℕ) (r : Rule) (n : ℕ) → ruleOf s ≡ accepted r → countedOf (synthesisOf limit s) ≡ Equations n
+    → n ≡ length (equationsOf limit r)
+counted-equations limit s r n read e =
+    let counts = answers-count limit s n e in
+    counts .count ∙ ap (λ (r : Rule). length (equationsOf limit r)) (accepted-is (sym (counts .is) ∙ read))
 
 pub reaches-equations : ReachesEquations
 reaches-equations limit s bytes r n read e =

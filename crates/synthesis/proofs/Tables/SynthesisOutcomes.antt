@@ -139,6 +139,16 @@ module _ {counting filling : Outcome Synthesis} (capacity : ℕ) (by-count : fil
     same = λ n e. let (y, is, n-is) = counted-accepts filling n e in is ∙ sym (filling-accepted y is .0);
   }
 
+-- a table with room for as many rows as the limit allows is never too short
+pub filling-within : (limit : ℕ) (s : List ℕ) (capacity : ℕ) → 256 * limit ≤ capacity → fillingOf limit s capacity ≡ synthesisOf limit s
+filling-within limit s capacity room = on (synthesisOf limit s) refl
+  where
+    on : (o : Outcome Synthesis) → synthesisOf limit s ≡ o → fillingOf limit s capacity ≡ synthesisOf limit s
+    on (accepted y) e =
+        let few = synthesis-accepts limit s (λ y. length (y .equations) ≤ limit) (λ r read h few. few) y e in
+        filling-accepts capacity (filling-by-count limit s capacity) e (omega (arith, few, room)) ∙ sym e
+    on (refused number place) e = filling-refuses capacity (filling-by-count limit s capacity) e ∙ sym e
+
 pub fills-as-counted : (limit : ℕ) (s : List ℕ) (capacity : ℕ) → FillsAsCounted (synthesisOf limit s) (fillingOf limit s capacity) capacity
 fills-as-counted limit s capacity = filled-as-counted capacity (filling-by-count limit s capacity)
 

@@ -1,6 +1,9 @@
--- `print_judged` meets its contract: the answer is that of `judge`.
+-- `print_judged` meets its contract: the answer is that of `judge`, with a table in which all rows fit.
+use native.Mathlib.Omega.{arith}
+use lib.ListN.{length}
 use borrow.Author.Needs.{needs}
 use Rattle.reading.proofs.Basics.ByteLaws.{slice-bytes}
+use Rattle.models.proofs.Judgments.JudgingOrder.{judging-within}
 use Rattle.commands.proofs.judging.print_judged.Statement.{statement}
 use Rattle.commands.proofs.judging.print_judged.Tie as tie
 
@@ -22,12 +25,13 @@ same-length c = search needs
 returns : tie.Need-returns
 returns c =
     let known = c .before .before .before .before .before .before .before .before in
-    let x = known .before .before .args in (
+    let x = known .before .before .args in
+    let same = judging-within 128 (x .rule .now) (length (x .table .now)) (omega (arith, known .before .before .pre)) (x .model .now) in (
       (
         slice-bytes (x .rule .now) (known .before .shared-slice-known .given),
         slice-bytes (x .model .now) (known .shared-slice-known2 .given),
       ),
-      c .before .before .before .before .before .judge .ensures .0,
+      rw same at (c .before .before .before .before .before .judge .ensures .0),
     )
 
 pub print-judged-spec : {M : Type 1} → statement M

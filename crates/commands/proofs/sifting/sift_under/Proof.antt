@@ -1,13 +1,15 @@
--- `sift_under` meets its contract: its calls are on the table that building leaves, and after a refusal there are none.
-use mathlib.Core.Path.{sym, _∙_, subst}
+-- `sift_under` meets its contract: its calls are on the table that filling leaves, and after a refusal there are none.
+use mathlib.Core.Path.{_≡_, sym, _∙_, subst}
+use native.Mathlib.Omega.{arith}
 use lib.ListN.{length}
 use borrow.Author.Needs.{needs}
 use Rattle.reading.specs.Rule.{Bytes}
 use Rattle.reading.proofs.Basics.ByteLaws.{slice-bytes}
 use Rattle.synthesis.specs.Monitor.{mark, most}
-use Rattle.synthesis.specs.Building.{fillingOf}
+use Rattle.synthesis.specs.Building.{synthesisOf, countedOf, tableAfter}
 use Rattle.running.specs.Calls.{noCalls, none}
 use Rattle.synthesis.specs.Table.{WellFormedTable}
+use Rattle.synthesis.proofs.Tables.SynthesisOutcomes.{filling-within}
 use Rattle.synthesis.proofs.Tables.Built.{counted-well-formed}
 use Rattle.commands.proofs.SiftingLaws.{ends-calls-under-rule}
 use Rattle.commands.proofs.sifting.sift_under.Statement.{statement}
@@ -17,6 +19,14 @@ bytes : (c : tie.After-fill) → Bytes (c .before .before .before .before .args 
 bytes c =
     let known = c .before .before .before in
     slice-bytes (known .before .args .file .now) (known .shared-slice-known .given)
+
+-- the answer is that of counting, and the rows are filled in
+filled : (c : tie.After-fill) → let x = c .before .before .before .before .args in
+    (c .fill .result ≡ countedOf (synthesisOf 128 (x .file .now))) × (c .fill .last .1 .0 ≡ tableAfter mark (synthesisOf 128 (x .file .now)) (x .table .now))
+filled c =
+    let start = c .before .before .before .before in
+    let x = start .args in
+    rw (filling-within 128 (x .file .now) (length (x .table .now)) (omega (arith, start .pre))) at (c .fill .ensures)
 
 fill-requires : tie.Need-fill-requires
 fill-requires c κs = search needs
@@ -56,12 +66,12 @@ returns c =
     let told = c .before .before .before in
     let built = told .before .before .before .before in
     let x = built .before .before .before .before .args in
-    let answer = sym (told .answer .given .1) ∙ built .fill .ensures .0 in (
+    let answer = sym (told .answer .given .1) ∙ filled built .0 in (
       bytes built,
       record {
         answer = answer;
-        state = ends-calls-under-rule (fillingOf most (x .file .now) (length (x .table .now))) (x .table .now) (told .answer .given .0 .0)
-            (built .fill .ensures .1) (sym answer) (c .sift-all .ensures);
+        state = ends-calls-under-rule (synthesisOf 128 (x .file .now)) (x .table .now) (told .answer .given .0 .0) (filled built .1) (sym answer)
+            (c .sift-all .ensures);
       },
     )
 
@@ -74,7 +84,7 @@ returns-2 c =
     let built = told .before .before .before .before in (
       bytes built,
       record {
-        answer = sym (told .answer2 .given .1) ∙ built .fill .ensures .0;
+        answer = sym (told .answer2 .given .1) ∙ filled built .0;
         state = (noCalls, none, c .start .ensures);
       },
     )
