@@ -5,7 +5,8 @@ from random import Random
 
 import known_equations
 import violation
-from equations import DROPPED_ENTRY, MOST_EQUATIONS, Equations, build, listing, rows_of, said
+from equations import CODES, DROPPED_ENTRY, MOST_EQUATIONS, Equations, fill, listing, rows_of, said
+from expected import fresh_table
 from merging import short_rows
 from rules import After, Refusal, numbered, read_rule
 
@@ -78,8 +79,8 @@ def check_rule(random, rule, short):
     short one; and a scan is dropped exactly when the kept ones and then the scan violate the rule. Says how many lists
     were tried."""
     equations = Equations(rule)
-    built = rows_of(equations)
-    tables = [] if isinstance(built, Refusal) else [built, short]
+    long = rows_of(equations)
+    tables = [] if isinstance(long, Refusal) else [long, short]
     for table in tables:
         check_rows(table)
     lists = lists_of_codes(random, equations)
@@ -95,6 +96,15 @@ def check_rule(random, rule, short):
     return len(lists)
 
 
+def check_filling(fill_table, data, size, answer):
+    """A filling answers as typed. It leaves the bytes behind the last row, and all where it is refused."""
+    table = fresh_table(size, 0)
+    counted = fill_table(data, table)
+    expect(said(counted) == answer, "filling", list(data), size, said(counted))
+    written = 0 if isinstance(counted, Refusal) else CODES * len(counted)
+    expect(table[written:] == fresh_table(size, 0)[written:], "bytes that stay", list(data), size)
+
+
 def check_typed():
     """What was typed is what the equations or violation say, and the verdicts are those of both."""
     for data, typed in known_equations.listings():
@@ -102,8 +112,8 @@ def check_typed():
     for data, typed in known_equations.sets():
         found = list(Equations(read_rule(data)).numbers(MOST_EQUATIONS))
         expect(found == typed, "equations", list(data), found)
-    for data, size, answer in known_equations.buildings():
-        expect(said(build(data, bytearray(size))) == answer, "building", list(data), size)
+    for data, size, answer in known_equations.fillings():
+        check_filling(fill, data, size, answer)
     for data, scans, dropped in known_equations.verdicts():
         rule = read_rule(data)
         expect(Equations(rule).verdicts(scans) == dropped, "typed verdicts", list(scans))

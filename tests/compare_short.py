@@ -2,9 +2,9 @@
 from collections import Counter
 
 import known_short
-from compare import expect, verdicts_by_table
-from equations import DROPPED_ENTRY, rows, said, text_of
-from merging import build_short, short_rows
+from compare import check_filling, expect, verdicts_by_table
+from equations import DROPPED_ENTRY, rows, text_of
+from merging import fill_short, short_rows
 from rules import Refusal
 
 # There are at least so many rules of each sort.
@@ -61,8 +61,8 @@ def check_typed():
         expect(text_of(data, short_rows(data)) == typed, "short listing", text_of(data, short_rows(data)))
     for data, typed in known_short.staying():
         expect(text_of(data, short_rows(data)) == typed, "staying", text_of(data, short_rows(data)))
-    for data, size, answer in known_short.buildings():
-        expect(said(build_short(data, bytearray(size))) == answer, "short building", list(data), size)
+    for data, size, answer in known_short.fillings():
+        check_filling(fill_short, data, size, answer)
 
 
 def sorts_of(before, after):

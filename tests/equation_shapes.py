@@ -129,7 +129,7 @@ def limit_rules(random):
     """Rules with about as many equations as there may be."""
     rules = [known.bytes_of(known_equations.late(n)) for n in range(20, 29)]
     for rule in drawn(random, counters, 250):
-        built = rows(rule)
-        if not isinstance(built, Refusal) and len(built) > 80:
+        table = rows(rule)
+        if not isinstance(table, Refusal) and len(table) > 80:
             rules += padded(rule, MOST_EQUATIONS)
     return rules

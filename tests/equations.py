@@ -6,7 +6,9 @@ from rules import Refusal, numbered, read_rule
 
 CODES = 256
 MOST_EQUATIONS = 128
-LEAST_TABLE = 32768
+
+# A table of so many bytes has room for the rows of every rule.
+LARGEST_TABLE = CODES * MOST_EQUATIONS
 
 # What an equation answers to a code that it drops, in place of the next equation, and how the table has it.
 DROPPED = None
@@ -102,29 +104,30 @@ def rows(data):
     return rule if isinstance(rule, Refusal) else rows_of(Equations(rule))
 
 
-def can_drop(built):
+def can_drop(table):
     """Whether a code is dropped somewhere in the rows."""
-    return any(DROPPED_ENTRY in entries for entries in built)
+    return any(DROPPED_ENTRY in entries for entries in table)
 
 
-def build_by(rows_of_file, data, table):
-    """The rows with which a build begins the lent table, or its refusal. The table is changed in place."""
-    if len(table) < LEAST_TABLE:
+def fill_by(rows_of_file, data, table):
+    """The rows that a rule file has by this function, or the refusal of filling. The lent table gets them in place."""
+    counted = rows_of_file(data)
+    if isinstance(counted, Refusal):
+        return counted
+    if len(table) < CODES * len(counted):
         return Refusal(10, 0)
-    built = rows_of_file(data)
-    if not isinstance(built, Refusal):
-        content = b"".join(built)
-        table[: len(content)] = content
-    return built
+    for number, entries in enumerate(counted):
+        table[CODES * number : CODES * number + CODES] = entries
+    return counted
 
 
-def build(data, table):
-    return build_by(rows, data, table)
+def fill(data, table):
+    return fill_by(rows, data, table)
 
 
-def said(built):
-    """The line that says how many equations there are, or the refusal."""
-    return str(built) if isinstance(built, Refusal) else f"equations {len(built)}"
+def said(counted):
+    """The line that says how many rows there are, or the refusal."""
+    return str(counted) if isinstance(counted, Refusal) else f"equations {len(counted)}"
 
 
 def row(table, number):
@@ -142,15 +145,15 @@ def row_lines(number, entries):
         first = last + 1
 
 
-def text_of(data, built):
+def text_of(data, counted):
     """What is printed of a rule file, given its rows or a refusal: the listing, or the line of the refusal alone."""
-    if isinstance(built, Refusal):
-        return said(built) + "\n"
+    if isinstance(counted, Refusal):
+        return said(counted) + "\n"
     patterns = read_rule(data).patterns
     lines = [f"patterns {len(patterns)}"]
     lines += [f"p {number} {pattern.lowest()} {pattern.count()}" for number, pattern in enumerate(patterns)]
-    lines.append(said(built))
-    for number, entries in enumerate(built):
+    lines.append(said(counted))
+    for number, entries in enumerate(counted):
         lines += row_lines(number, entries)
     return "".join(line + "\n" for line in lines)
 

@@ -20,6 +20,12 @@ def digest(content):
     return int.from_bytes(content, "big") % PRIME
 
 
+def fresh_table(size, case):
+    """The table that is lent in a case, counted from 0: byte i is case + 7 × i, modulo 251."""
+    cycle = bytes((case + 7 * i) % 251 for i in range(251))
+    return bytearray((cycle * (size // 251 + 1))[:size])
+
+
 def told(tally):
     """What was counted, each sort with its number."""
     return ", ".join(f"{number} {what}" for what, number in sorted(tally.items()))

@@ -1,4 +1,4 @@
-"""Listings of rules, answers of building, verdicts and violating lists, typed from the paper, by hand."""
+"""Listings of rules, answers of filling, verdicts and violating lists, typed from the paper and its change requests, by hand."""
 from known import ANY, FULL, ONE, POOL, bytes_of, counted
 
 SIX = "1 1 6 6 "
@@ -11,6 +11,9 @@ ROUND_TWICE = "1 1 30 2 1 1 2 30 5 0 5 1 3"
 
 # Two branches for 5: "after 5, after 6, ff" and "after 5, after 7, ff".
 BRANCHES = ONE + SIX + SEVEN + "4 5 0 5 1 3 5 0 5 2 3"
+
+# "after 5, after 6, ff" and "after 6, after 6, ff": "after 6, ff" stands at two places.
+PLACES = ONE + SIX + "4 5 0 5 1 3 5 1 5 1 3"
 
 # Example 10 of the article on suppressions, with code 5 for a request and code 101, deliver 5, for its answer: max of
 # both "after a request, after an answer, the variable" and "after a request, after a request, ff".
@@ -111,9 +114,9 @@ LISTINGS += [
         + ["3 0 6 1", "3 7 7 5", "3 8 255 1"]
         + ["4 0 255 1", "5 0 255 1"],
     ),
-    # "after 6, ff" at two places: two nodes, and so two equations
+    # two nodes, and so two equations
     (
-        ONE + SIX + "4 5 0 5 1 3 5 1 5 1 3",
+        PLACES,
         ["patterns 2", "p 0 5 1", "p 1 6 1", "equations 4"]
         + ["0 0 4 1", "0 5 5 2", "0 6 6 3", "0 7 255 1"]
         + ["1 0 255 1"]
@@ -165,23 +168,45 @@ def late(n):
     return ANY + "1 15 0 31 1 51 0 31 1 85 0 31 " + "4 " * 5 + by_first + by_second + "5 0 " * n + "2"
 
 
-# What building answers with a table of so many bytes.
-BUILDINGS = [(ANY + "5 0 " * n + "2", 32768, f"equations {n + 1}") for n in (1, 2, 63)]
-BUILDINGS += [(counted(m), 32768, f"equations {2**m}") for m in range(8)]
-BUILDINGS += [
-    (late(26), 32768, "equations 127"),
+# What filling answers with a table of so many bytes: each equation takes 256.
+FILLINGS = [(ANY + "5 0 " * n + "2", 256 * (n + 1), f"equations {n + 1}") for n in (1, 2, 63)]
+FILLINGS += [(counted(m), 256 * 2**m, f"equations {2**m}") for m in range(8)]
+FILLINGS += [(counted(m), 256 * 2**m - 1, "refused 10 at 0") for m in range(8)]
+FILLINGS += [
+    (late(26), 32512, "equations 127"),
+    (late(26), 32511, "refused 10 at 0"),
     (late(27), 32768, "equations 128"),
-    (late(28), 32768, "refused 9 at 0"),
-    (POOL, 32768, "equations 3"),
+    (late(27), 32767, "refused 10 at 0"),
+    (POOL, 768, "equations 3"),
+    (POOL, 769, "equations 3"),
+    (POOL, 32767, "equations 3"),
     (POOL, 40000, "equations 3"),
-    ("", 32768, "refused 1 at 0"),
-    # a table that is too small: before everything else
-    (POOL, 32767, "refused 10 at 0"),
+    (POOL, 767, "refused 10 at 0"),
+    (POOL, 512, "refused 10 at 0"),
     (POOL, 0, "refused 10 at 0"),
-    ("", 32767, "refused 10 at 0"),
-    ("2 2", 768, "refused 10 at 0"),
-    ("3", 0, "refused 10 at 0"),
-    (counted(8), 32767, "refused 10 at 0"),
+    ("2", 256, "equations 1"),
+    ("2", 255, "refused 10 at 0"),
+    ("2", 0, "refused 10 at 0"),
+    # the short rows would fit
+    (PLACES, 1024, "equations 4"),
+    (PLACES, 1023, "refused 10 at 0"),
+    (PLACES, 768, "refused 10 at 0"),
+    (counted(7), 256, "refused 10 at 0"),
+    # a table that is too small for a file that is refused: the file comes first
+    ("", 0, "refused 1 at 0"),
+    ("0", 0, "refused 2 at 0"),
+    ("2 2", 255, "refused 3 at 1"),
+    (ANY + "5 0 " * 64 + "2", 256, "refused 4 at 132"),
+    ("1 1 6 32 2", 1, "refused 5 at 0"),
+    ("5 0 2", 0, "refused 6 at 0"),
+    ("6 7 0", 0, "refused 7 at 1"),
+    ("3", 0, "refused 8 at 0"),
+    (late(28), 0, "refused 9 at 0"),
+    (late(28), 32767, "refused 9 at 0"),
+    (counted(8), 256, "refused 9 at 0"),
+    # over 128 equations for which there would be room
+    (late(28), 33024, "refused 9 at 0"),
+    (counted(8), 65536, "refused 9 at 0"),
 ]
 
 # A rule, scans, and the verdict on each: 0 kept, 1 dropped.
@@ -226,9 +251,9 @@ def sets():
     return [(bytes_of(text), equations) for text, equations in SETS]
 
 
-def buildings():
+def fillings():
     """Each file with the size of a table and the answer."""
-    return [(bytes_of(text), size, answer) for text, size, answer in BUILDINGS]
+    return [(bytes_of(text), size, answer) for text, size, answer in FILLINGS]
 
 
 def violations():

@@ -1,6 +1,6 @@
 """Answers of judging, and refusals of model files, typed by hand from the paper."""
 from known import ANY, ONE, POOL, bytes_of, counted
-from known_equations import BRANCHES, REQUESTS, ROUND, ROUND_TWICE, SIX
+from known_equations import BRANCHES, PLACES, REQUESTS, ROUND, ROUND_TWICE, SIX, late
 from known_runs import SECOND
 
 # The paper's model, which breaks the number-pool rule, and one that meets it.
@@ -131,22 +131,53 @@ REFUSED = [
     (PAPER + " 18 0 3", 13, 13),
 ]
 
-# A rule, a model, the table's size, and the number and place of the refusal: 10, then the rule, then the model.
+# A rule, a model, the size of a table that the rule's rows just fit, and the answer.
+FITTING = [
+    (POOL, PAPER, 768, "breaks"),
+    (POOL, MEETING, 768, "meets"),
+    ("2", PAPER, 256, "meets"),
+    (PLACES, "16 1 17 0 6 0", 1024, "breaks"),
+    (PLACES, "16 1 17 0 5 0", 1024, "meets"),
+    (counted(7), PAPER, 32768, "meets"),
+]
+
+# A rule, a model, the table's size, and the number and place of the refusal: of the rule, then 10, then of the model.
 ORDER = [
-    (POOL, PAPER, 32767, 10, 0),
+    (POOL, PAPER, 767, 10, 0),
     (POOL, PAPER, 0, 10, 0),
-    (POOL, "", 32767, 10, 0),
-    ("2 2", PAPER, 32767, 10, 0),
-    ("2 2", "", 0, 10, 0),
+    (POOL, "", 767, 10, 0),
+    (POOL, "16 1 19", 0, 10, 0),
+    (POOL, "16 1 18 0 1", 767, 10, 0),
+    (POOL, FULL + "18 0 1", 767, 10, 0),
+    (POOL, "", 768, 11, 0),
+    (POOL, "16 1 19", 768, 12, 2),
+    (POOL, "16 1 18 0 1", 40000, 13, 2),
+    (POOL, FULL + "18 0 1", 768, 14, 2050),
+    ("2", "16 1", 255, 10, 0),
+    ("2", "16", 255, 10, 0),
+    ("2", "16", 256, 11, 1),
+    # 10 goes by the long table
+    (PLACES, "16 1", 1023, 10, 0),
+    (PLACES, "16 1", 768, 10, 0),
+    (PLACES, "16 0", 1023, 10, 0),
+    (PLACES, "16 0", 1024, 12, 0),
+    (counted(7), PAPER, 32767, 10, 0),
+    (counted(7), "16 1", 256, 10, 0),
+    (counted(7), "", 32767, 10, 0),
+    (counted(7), "", 32768, 11, 0),
+    # a refused rule: with a model that is refused or not, and with a table that is too small or not
+    ("", "", 40000, 1, 0),
+    ("", "", 0, 1, 0),
+    ("2 2", PAPER, 0, 3, 1),
+    ("2 2", "16 0", 767, 3, 1),
     ("2 2", PAPER, 32768, 3, 1),
     ("2 2", "16 0", 32768, 3, 1),
-    ("", "", 40000, 1, 0),
-    ("3", "16 1", 32768, 8, 0),
+    ("3", "16 1", 255, 8, 0),
     ("3", "16 1 19", 32768, 8, 0),
-    (counted(8), "16 1", 32768, 9, 0),
-    (counted(8), "", 32768, 9, 0),
-    (counted(7), "", 32768, 11, 0),
-    (POOL, "16 1 18 0 1", 40000, 13, 2),
+    (counted(8), "16 1", 32767, 9, 0),
+    (counted(8), "", 0, 9, 0),
+    (counted(8), "", 65536, 9, 0),
+    (late(28), PAPER, 33024, 9, 0),
 ]
 
 
@@ -162,6 +193,11 @@ def judged():
 def refused():
     """Each model file with the line of its refusal."""
     return [(bytes_of(model), f"refused {number} at {place}") for model, number, place in REFUSED]
+
+
+def fitting():
+    """Each rule file with a model file, the table's size and the answer."""
+    return [(bytes_of(rule), bytes_of(model), size, answer) for rule, model, size, answer in FITTING]
 
 
 def ordered():

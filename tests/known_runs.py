@@ -32,17 +32,13 @@ SIFTED = [
 ]
 
 
-def built(text):
-    return b"".join(rows(bytes_of(text)))
-
-
 def runs_of(text):
     """Bytes that are typed as runs of one value, "256x1 1x9" being 256 times 1 and then 9."""
     pairs = [[int(number) for number in word.split("x")] for word in text.split()]
     return b"".join(bytes([value]) * times for times, value in pairs)
 
 
-POOL_TABLE = built(POOL)
+POOL_TABLE = b"".join(rows(bytes_of(POOL)))
 KEEPER = runs_of("256x0")
 DROPPER = runs_of("256x255")
 # Equation 0 drops the codes from 6 up and goes to 1 under the others; 1 goes back.

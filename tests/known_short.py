@@ -1,7 +1,7 @@
-"""Short tables, typed by hand: rules with the count of their equations before merging and the listing after it, and what the short build answers."""
+"""Short tables, typed by hand: rules with the count of their equations before merging and the listing after it, and what short filling answers."""
 import known_equations
 from known import ANY, ONE, POOL, bytes_of, counted
-from known_equations import BRANCHES, OVERLAPPING, REQUESTS, ROUND, ROUND_TWICE, SEVEN, SIX, late
+from known_equations import BRANCHES, OVERLAPPING, PLACES, REQUESTS, ROUND, ROUND_TWICE, SEVEN, SIX, late
 
 # "After any code" 63 times, and tt or ff.
 CHAIN = ANY + "5 0 " * 63
@@ -67,9 +67,8 @@ LISTINGS = [
         + ["1 0 255 1"]
         + ["2 0 5 1", "2 6 6 drop", "2 7 255 1"],
     ),
-    # "after 6, ff" at two places
     (
-        ONE + SIX + "4 5 0 5 1 3 5 1 5 1 3",
+        PLACES,
         4,
         ["patterns 2", "p 0 5 1", "p 1 6 1", "equations 3"]
         + ["0 0 4 1", "0 5 6 2", "0 7 255 1"]
@@ -108,33 +107,47 @@ LISTINGS = [
 # Rules of which no two equations drop alike: the listing is the one that known_equations.py has.
 STAYING = [POOL, "2", ONE + "5 0 3", ROUND, ROUND_TWICE, BRANCHES, REQUESTS, OVERLAPPING + "4 5 0 5 1 3 5 1 3", CHAIN + "3"]
 
-# What the short build answers with a table of so many bytes.
-BUILDINGS = [(counted(m), 32768, "equations 1") for m in range(8)]
-BUILDINGS += [(counted(m, "3"), 32768, f"equations {m + 1}") for m in range(1, 8)]
-BUILDINGS += [
-    (POOL, 32768, "equations 3"),
+# What short filling answers with a table of so many bytes: each equation that is left takes 256.
+FILLINGS = [(counted(m), 256, "equations 1") for m in range(8)]
+FILLINGS += [(counted(m), 255, "refused 10 at 0") for m in range(8)]
+FILLINGS += [(counted(m, "3"), 256 * (m + 1), f"equations {m + 1}") for m in range(1, 8)]
+FILLINGS += [(counted(m, "3"), 256 * (m + 1) - 1, "refused 10 at 0") for m in range(1, 8)]
+FILLINGS += [
+    (POOL, 768, "equations 3"),
     (POOL, 40000, "equations 3"),
-    (counted(7), 40000, "equations 1"),
-    (late(27), 32768, "equations 1"),
-    # 9 counts before merging
+    (POOL, 767, "refused 10 at 0"),
+    (POOL, 0, "refused 10 at 0"),
+    ("2", 256, "equations 1"),
+    ("2", 255, "refused 10 at 0"),
+    # less room than there would have to be before merging
+    (PLACES, 768, "equations 3"),
+    (PLACES, 1023, "equations 3"),
+    (PLACES, 767, "refused 10 at 0"),
+    (late(27), 256, "equations 1"),
+    (late(27), 32767, "equations 1"),
+    (late(27), 255, "refused 10 at 0"),
+    (counted(7), 0, "refused 10 at 0"),
+    (LATER, 32768, "equations 128"),
+    (LATER, 32767, "refused 10 at 0"),
+    # 9 counts before merging, and comes before the table
     (late(28), 32768, "refused 9 at 0"),
-    (counted(8), 32768, "refused 9 at 0"),
+    (late(28), 255, "refused 9 at 0"),
+    (counted(8), 256, "refused 9 at 0"),
+    (counted(8), 0, "refused 9 at 0"),
     (counted(8, "3"), 40000, "refused 9 at 0"),
-    ("", 32768, "refused 1 at 0"),
-    ("0", 32768, "refused 2 at 0"),
-    ("2 2", 32768, "refused 3 at 1"),
-    (ANY + "5 0 " * 64 + "2", 32768, "refused 4 at 132"),
-    ("1 1 6 32 2", 32768, "refused 5 at 0"),
-    (ONE + "5 1 2", 32768, "refused 6 at 4"),
-    ("6 7 0", 32768, "refused 7 at 1"),
-    ("3", 32768, "refused 8 at 0"),
-    # a table that is too small: before everything else, and though the short one would fit
-    (POOL, 32767, "refused 10 at 0"),
-    (counted(7), 32767, "refused 10 at 0"),
-    (counted(8), 32767, "refused 10 at 0"),
-    ("", 32767, "refused 10 at 0"),
-    ("6 7 0", 256, "refused 10 at 0"),
-    ("3", 0, "refused 10 at 0"),
+    (counted(8, "3"), 2303, "refused 9 at 0"),
+    # over 128 for which there would be room
+    (late(28), 33024, "refused 9 at 0"),
+    (counted(8), 65536, "refused 9 at 0"),
+    # so does each other refusal of the file
+    ("", 0, "refused 1 at 0"),
+    ("0", 1, "refused 2 at 0"),
+    ("2 2", 0, "refused 3 at 1"),
+    (ANY + "5 0 " * 64 + "2", 255, "refused 4 at 132"),
+    ("1 1 6 32 2", 0, "refused 5 at 0"),
+    (ONE + "5 1 2", 256, "refused 6 at 4"),
+    ("6 7 0", 0, "refused 7 at 1"),
+    ("3", 0, "refused 8 at 0"),
 ]
 
 
@@ -144,11 +157,11 @@ def listings():
 
 
 def staying():
-    """Each file with the text of its listing, which both builds have."""
+    """Each file with the text of its listing, which both tables have."""
     texts = dict(known_equations.listings())
     return [(bytes_of(text), texts[bytes_of(text)]) for text in STAYING]
 
 
-def buildings():
+def fillings():
     """Each file with the size of a table and the answer."""
-    return [(bytes_of(text), size, answer) for text, size, answer in BUILDINGS]
+    return [(bytes_of(text), size, answer) for text, size, answer in FILLINGS]

@@ -3,7 +3,7 @@ from collections import defaultdict
 from functools import cache
 from itertools import combinations
 
-from equations import DROPPED_ENTRY, build_by, rows
+from equations import DROPPED_ENTRY, fill_by, rows
 from rules import Refusal
 
 
@@ -47,10 +47,10 @@ def merged(table):
 @cache
 def short_rows(data):
     """The rows of the shortest table of the rule that a file holds, or the refusal of the file."""
-    built = rows(data)
-    return built if isinstance(built, Refusal) else merged(built)
+    table = rows(data)
+    return table if isinstance(table, Refusal) else merged(table)
 
 
-def build_short(data, table):
-    """As `build`, with the rows of the shortest table."""
-    return build_by(short_rows, data, table)
+def fill_short(data, table):
+    """As `fill`, with the rows of the shortest table."""
+    return fill_by(short_rows, data, table)

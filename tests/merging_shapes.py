@@ -40,8 +40,8 @@ def dropping(random, make, count):
     rules = []
     while len(rules) < count:
         rule = drawn(random, make, 1)[0]
-        built = rows(rule)
-        if not isinstance(built, Refusal) and can_drop(built):
+        table = rows(rule)
+        if not isinstance(table, Refusal) and can_drop(table):
             rules.append(rule)
     return rules
 

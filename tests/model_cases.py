@@ -6,7 +6,7 @@ import model_faults
 import model_limits
 import model_silence
 import stream_cases
-from equations import LEAST_TABLE, can_drop, rows
+from equations import CODES, LARGEST_TABLE, can_drop, rows
 from judging import refusal_of
 from known import POOL, bytes_of
 from models import MOST_STATES, SILENT
@@ -14,14 +14,16 @@ from model_shapes import as_file, chain, drawn_models, mended, put_back, random_
 from model_shapes import up_to_drop, with_unreached
 from rules import read_rule
 
-# Most tables are the least ones.
-SIZES = [LEAST_TABLE] * 12 + [32769, 33023, 40000, 65536]
-
 
 def typed_cases():
-    cases = [(LEAST_TABLE, rule, model) for rule, model, _ in known_models.judged()]
-    cases += [(LEAST_TABLE, bytes_of(POOL), model) for model, _ in known_models.refused()]
-    return cases + [(size, rule, model) for rule, model, size, _ in known_models.ordered()]
+    cases = [(LARGEST_TABLE, rule, model) for rule, model, _ in known_models.judged()]
+    cases += [(LARGEST_TABLE, bytes_of(POOL), model) for model, _ in known_models.refused()]
+    return cases + [(size, rule, model) for rule, model, size, _ in known_models.fitting() + known_models.ordered()]
+
+
+def fitting_size(rule):
+    """The size of a table that the rows of a rule just fit."""
+    return CODES * len(rows(rule))
 
 
 def chain_models(random, rule, table):
@@ -63,10 +65,12 @@ def models_for(random, number, data):
 
 
 def drawn_cases(random):
-    """Models for rules of many shapes."""
+    """Models for rules of many shapes. Most tables just fit, and none is too small."""
     cases = []
     for number, data in enumerate(stream_cases.rule_files()[::2]):
-        cases += [(random.choice(SIZES), data, model) for model in models_for(random, number, data)]
+        least = fitting_size(data)
+        sizes = [least] * 10 + [least + 1, least + 255, LARGEST_TABLE, LARGEST_TABLE, 40000, 65536]
+        cases += [(random.choice(sizes), data, model) for model in models_for(random, number, data)]
     return cases
 
 
@@ -77,13 +81,18 @@ def silent_cases(random):
         if can_drop(rows(data)):
             most = random.choice([3, 6, 40])
             models = model_silence.models_for(random, number, read_rule(data), rows(data), most)
-            cases += [(LEAST_TABLE, data, model) for model in models]
+            cases += [(LARGEST_TABLE, data, model) for model in models]
     return cases
 
 
 def spoiled_cases(random, judged):
-    """The models, of which some break their rule, with a fault at their end."""
-    return [(size, rule, model_faults.spoiled(random, model)) for size, rule, model in judged]
+    """The models, of which some break their rule, with a fault at their end; and with or without it, a byte too few for the
+    table."""
+    cases = []
+    for size, rule, model in judged:
+        faulty = model_faults.spoiled(random, model)
+        cases += [(size, rule, faulty)] + [(fitting_size(rule) - 1, rule, either) for either in (model, faulty)]
+    return cases
 
 
 def cases():
@@ -91,8 +100,8 @@ def cases():
     random = Random("models")
     pool = bytes_of(POOL)
     every = typed_cases() + model_faults.grid()
-    every += [(LEAST_TABLE, pool, model) for model in model_faults.files(random)]
-    some = drawn_cases(random) + [(LEAST_TABLE, rule, model) for rule, model in model_limits.pairs(random)]
+    every += [(LARGEST_TABLE, pool, model) for model in model_faults.files(random)]
+    some = drawn_cases(random) + [(LARGEST_TABLE, rule, model) for rule, model in model_limits.pairs(random)]
     some += silent_cases(random)
     every += some + spoiled_cases(random, [case for case in some[::25] if refusal_of(*case) is None])
     return list(dict.fromkeys(every))

@@ -2,6 +2,7 @@
 from itertools import product
 
 from known import ANY, POOL, bytes_of, counted
+from known_equations import PLACES
 from known_models import MEETING, PAPER
 from models import MOST_STEPS, SILENT, file_of, record
 
@@ -88,12 +89,13 @@ def files(random):
 
 
 def grid():
-    """Table sizes, rules and models of which none, one, two or all three are refused."""
-    sizes = (0, 1, 32767, 32768, 40000)
-    rules = [bytes_of(text) for text in [POOL] + REFUSED_RULES]
+    """Table sizes, rules and models of which none, one, two or all three are refused. Of the rules that aren't, the rows just
+    fit 256 bytes, 768, 1,024 and 32,768; the short rows of the last two, 768 and 256."""
+    sized = list(product((0, 255, 256, 767, 768, 769, 1023, 1024, 32767, 32768, 40000), ["2", POOL, PLACES, counted(7)]))
+    sized += product((0, 255, 767, 32767, 32768, 40000), REFUSED_RULES)
     models = [bytes_of(text) for text in (MEETING, PAPER, "", "16", "19", "16 65", "16 1 19", "16 1 17 0 9 1")]
     models += [file_of(2, CODE_STEPS + CODE_STEPS[:1]), file_of(2, CODE_STEPS)[:-1]]
-    return list(product(sizes, rules, models))
+    return [(size, bytes_of(rule), model) for (size, rule), model in product(sized, models)]
 
 
 def spoiled(random, model):

@@ -23,8 +23,8 @@ LONG = [(POOL, 3000), (known_runs.SECOND, 65536), (ANY + ONE + "6 4 5 0 7 0 5 1 
 
 def rule_files():
     """The rules that are accepted: those that can drop a scan, and some that can't."""
-    built = [(data, rows(data)) for data in table_cases.files()]
-    accepted = [(data, table) for data, table in built if not isinstance(table, Refusal)]
+    every = [(data, rows(data)) for data in table_cases.files()]
+    accepted = [(data, table) for data, table in every if not isinstance(table, Refusal)]
     dropping = [data for data, table in accepted if can_drop(table)]
     others = [data for data, table in accepted if not can_drop(table)]
     return dropping + others[::8]

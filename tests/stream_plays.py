@@ -13,7 +13,7 @@ from stream_script import MOST_BYTES
 RATES = [0, 0.4, 0.7, 0.9, 1]
 
 # What the table has behind the rows: the first byte, and the step from each byte to the next.
-FILLS = [(0, 0), (255, 0), (254, 0), (3, 7)]
+BEHIND = [(0, 0), (255, 0), (254, 0), (3, 7)]
 
 
 def fit_call(random, script, scans):
@@ -50,11 +50,11 @@ def play(random, script, rule, split):
 
 def play_rule(random, script, number, data):
     """Two streams of a rule. How they are split and how many scans are dropped changes from rule to rule. The table is
-    filled anew now and then; else the rows of earlier rules stand behind those of this one."""
+    prepared anew now and then; else the rows of earlier rules stand behind those of this one."""
     rule = read_rule(data)
     if number % 16 == 0:
-        script.fill(*FILLS[number // 16 % len(FILLS)])
-    script.build(data)
+        script.prepare(*BEHIND[number // 16 % len(BEHIND)])
+    script.fill(data)
     script.tally["rules"] += 1
     for turn in (2 * number, 2 * number + 1):
         scans = steered(random, rule, random.randrange(8, 33), RATES[turn % len(RATES)])
@@ -68,8 +68,8 @@ def play_rule(random, script, number, data):
 def play_every_way(random, script, data):
     """One stream in two parts, wherever they part; in single scans; whole; and between empty calls."""
     rule = read_rule(data)
-    script.fill(0, 0)
-    script.build(data)
+    script.prepare(0, 0)
+    script.fill(data)
     scans = steered(random, rule, 16, 0.6)
     ways = [[scans[:at], scans[at:]] for at in range(len(scans) + 1)]
     for split in ways + [singles(scans), [scans], [b"", scans, b"", b""]]:
@@ -79,12 +79,12 @@ def play_every_way(random, script, data):
 def play_refused_rule(random, script, data, refused):
     """A refused file changes no byte of the table: the stream goes on over it, once count and state are set again."""
     rule = read_rule(data)
-    script.build(data)
+    script.fill(data)
     count, sifting = script.count, Sifting(rule)
     scans = steered(random, rule, 20, 0.5)
     expect(fit_call(random, script, scans[:10]) == sifting.sift(scans[:10]), "before", list(refused))
     state = script.state
-    script.build(refused)
+    script.fill(refused)
     ran, _, _ = script.call(scans[10:], MOST_BYTES, 10, 10)
     expect(str(ran) == "refused 16 at 0 0 0 0", "count 0", str(ran))
     script.set_count(count)
@@ -96,8 +96,8 @@ def play_next_row(random, script, data):
     """With one more than the count, the row behind the last counts too, here one of zeros but for its last entry: the
     call is refused where that is too high. The rule's own rows never lead there."""
     rule = read_rule(data)
-    script.fill(0, 0)
-    script.build(data)
+    script.prepare(0, 0)
+    script.fill(data)
     count, behind = script.count, script.rows() + CODES
     with changed(script.set_count, count + 1, script.count):
         for entry, number in ((count + 1, 16), (254, 16), (DROPPED_ENTRY, None), (count, None), (0, None)):
@@ -114,8 +114,8 @@ def play_next_row(random, script, data):
 def play_long(random, script, data, length):
     """A long stream in one call, and a part of it in one."""
     rule = read_rule(data)
-    script.fill(1, 3)
-    script.build(data)
+    script.prepare(1, 3)
+    script.fill(data)
     scans = steered(random, rule, length, 0.5)
     play(random, script, rule, [scans])
     play(random, script, rule, [scans[: length // 3]])
@@ -124,7 +124,7 @@ def play_long(random, script, data, length):
 def play_foreign(random, script, count, rate):
     """A table of no rule, with entries at random. The runs begin at any equation."""
     drops = [random.random() < rate for _ in range(CODES * count)]
-    script.fill(*random.choice(FILLS))
+    script.prepare(*random.choice(BEHIND))
     script.write(0, bytes(DROPPED_ENTRY if is_drop else random.randrange(count) for is_drop in drops))
     script.set_count(count)
     script.tally["foreign tables"] += 1

@@ -2,7 +2,7 @@
 from collections import Counter
 from functools import cache
 
-from equations import CODES, build, said
+from equations import CODES, fill, said
 from expected import digest, three_bytes
 from rules import Refusal
 from running import run
@@ -20,7 +20,7 @@ def cycle(first, step):
     return bytes((first + step * i) % 256 for i in range(256))
 
 
-def filled(size, first, step):
+def prepared(size, first, step):
     """A buffer with first + step × i, modulo 256, in byte i."""
     return bytearray((cycle(first, step) * (size // 256 + 1))[:size])
 
@@ -41,19 +41,19 @@ class Script:
         self.stdin += kind + b"".join(body)
         self.turn += 1
 
-    def fill(self, first, step):
-        self.table[:] = filled(MOST_BYTES, first, step)
+    def prepare(self, first, step):
+        self.table[:] = prepared(MOST_BYTES, first, step)
         self.record(b"f", bytes([first, step]))
 
     def write(self, place, content):
         self.table[place : place + len(content)] = content
         self.record(b"w", three_bytes(place), three_bytes(len(content)), content)
 
-    def build(self, data):
-        built = build(data, self.table)
-        self.count = 0 if isinstance(built, Refusal) else len(built)
+    def fill(self, data):
+        counted = fill(data, self.table)
+        self.count = 0 if isinstance(counted, Refusal) else len(counted)
         self.state = 0
-        self.lines.append(said(built))
+        self.lines.append(said(counted))
         self.record(b"r", three_bytes(len(data)), data)
 
     def set_count(self, count):
@@ -74,8 +74,8 @@ class Script:
 
     def call(self, scans, lent, output_size, verdicts_size):
         """A call with so many bytes of the table and of each buffer. Gives what it returns, and the buffers then."""
-        output = filled(output_size, self.turn % 256, 7)
-        verdicts = filled(verdicts_size, self.turn % 251, 11)
+        output = prepared(output_size, self.turn % 256, 7)
+        verdicts = prepared(verdicts_size, self.turn % 251, 11)
         ran = run(self.table[:lent], self.count, self.state, scans, output, verdicts)
         self.state = ran.state
         self.lines.append(f"{ran} {digest(output)} {digest(verdicts)}")

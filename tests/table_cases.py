@@ -1,24 +1,34 @@
-"""The rule files and table sizes on which building is tried. They are the same at each run."""
+"""The rule files and table sizes on which counting and filling are tried. They are the same at each run."""
 from random import Random
 
 import cases
 import known
 import known_equations
 import known_short
-from equations import LEAST_TABLE
+from equations import CODES, LARGEST_TABLE, rows
 from equation_shapes import counters, drawn, families, limit_rules, pattern_rules, small_rules, tangled
+from merging import short_rows
 from merging_shapes import merging_rules
+from rules import Refusal
 from shapes import longest_rules, random_rules
 
-# Sizes on both sides of the least table, of its last row, of the end of row 155, and of the program's whole space.
-SIZES = [0, 1, 255, 256, 32512, 32767, 32769, 33023, 33024, 39935, 39936, 40000, 65535, 65536]
+# Sizes of tables whatever their rule: none, on both sides of one row, too small for 128 rows, and more than enough.
+SIZES = [0, 255, 256, 32767, 40000]
+
+# Sizes at which rows end, and beside them: rows 126 to 128 and 155, and the last of the program's space.
+ROW_SIZES = [1, 32512, 32769, 33023, 33024, 39935, 39936, 65535, 65536]
+
+# There are at least so many cases of each sort.
+LEAST = 10
+SORTS = [f"{number} before 10" for number in range(1, 10)]
+SORTS += ["10 for both tables", "10 for the long table alone", "rows that just fit", "a byte too few"]
 
 # The program takes no longer file.
 MOST_BYTES = 1024
 
 
 def typed_files():
-    typed = known_equations.listings() + known_equations.buildings() + known.answers()
+    typed = known_equations.listings() + known_equations.fillings() + known.answers()
     every = [file for file, *answer in typed + known_equations.verdicts() + known_equations.violations()]
     return [file for file in every if len(file) <= MOST_BYTES]
 
@@ -39,14 +49,45 @@ def files():
 
 
 def with_merging():
-    """These files and more, which are for the short build."""
-    typed = [file for file, *answer in known_short.listings() + known_short.buildings()]
+    """These files and more, which are for the short tables."""
+    typed = [file for file, *answer in known_short.listings() + known_short.fillings()]
     return list(dict.fromkeys(files() + typed + merging_rules(Random("merging"))))
 
 
+def fitting_sizes(file):
+    """How many bytes the long rows of a file take and how many the short ones, where it isn't refused."""
+    return [CODES * len(table) for table in (rows(file), short_rows(file)) if not isinstance(table, Refusal)]
+
+
+def own_size(number, file):
+    """By turns the largest table and one that the long rows just fit, which for a refused file has less than a row."""
+    return LARGEST_TABLE if number % 2 == 0 else (fitting_sizes(file) + [CODES - 1])[0]
+
+
+def all_sizes(file):
+    """Those for every rule, and those that the long and the short rows just fit, one byte less and one more."""
+    return sorted({*SIZES, *(size + more for size in fitting_sizes(file) for more in (-1, 0, 1))})
+
+
 def with_sizes(every):
-    """Each file with the least table, and some with tables of other sizes."""
+    """Each file with a table of one size, those that were typed with theirs, and some files with tables of many sizes. No
+    case comes twice."""
+    sized = [(own_size(number, file), file) for number, file in enumerate(every)]
+    sized += [(size, file) for file, size, answer in known_equations.fillings() + known_short.fillings()]
     listings = known_equations.listings() + known_short.listings()
     listed = [file for file, *answer in listings if len(file) <= MOST_BYTES]
-    resized = [(size, file) for file in listed + every[::90] for size in SIZES]
-    return [(LEAST_TABLE, file) for file in every] + resized
+    sized += [(size, file) for file in listed + every[::25] for size in all_sizes(file)]
+    return list(dict.fromkeys(sized + [(size, file) for file in listed[::5] for size in ROW_SIZES]))
+
+
+def sorts_of(size, file):
+    """What a case tells of the order of refusals and of what 10 goes by, as SORTS has it."""
+    fitting = fitting_sizes(file)
+    if not fitting:
+        yield from [f"{rows(file).number} before 10"] * (size < CODES)
+    elif size < min(fitting):
+        yield "10 for both tables"
+    elif size < max(fitting):
+        yield "10 for the long table alone"
+    yield from ["rows that just fit"] * (size in fitting)
+    yield from ["a byte too few"] * (size + 1 in fitting)

@@ -3,19 +3,20 @@
 With --check nothing is written, and the files are compared with what would be.
 """
 from compare import expect
-from equations import LEAST_TABLE, build
+from equations import fill, rows
 from expected import is_check, settle
 from judging import judge
-from known import POOL, bytes_of
+from known import POOL, bytes_of, counted
 from known_models import MEETING, PAPER
-from merging import build_short
+from merging import fill_short, short_rows
 from reasons import KEPT, by_violation
 from rules import Refusal
 from running import run
 
-# A rule with an unguarded variable, one with an ff each for codes 5 and 37, one that after either code drops 37, a model that is cut short inside its
-# first step, and the paper's scans.
+# A rule with an unguarded variable, one with over 128 equations, one with an ff each for codes 5 and 37, one that after either code drops 37, a model
+# that is cut short inside its first step, and the paper's scans.
 UNGUARDED = "6 7 0"
+MANY = counted(8)
 EITHER = "1 1 5 5 1 2 5 5 4 5 0 3 5 1 3"
 ALIKE = "1 1 5 5 1 2 5 5 4 5 0 5 1 3 5 1 5 1 3"
 CUT = "16 2 17 0"
@@ -24,18 +25,47 @@ SCANS = bytes_of("37 5 128 5 37 5")
 # What the header has for a kept scan in place of a node.
 KEPT_VALUE = 64
 
-# After the name of a function come its answer, 0 or the number of a refusal, and the value beside it: 1 for a model that meets
-# its rule and 0 for one that breaks it, the count of equations, the number of an ff node or 64 for a scan that is kept, or the
-# place of the refusal. A run has the equation and the counts of kept and of dropped scans there, and then the 8 bytes of the
-# output and all verdicts. Both buffers had 7 before the first run, the verdicts have what it left there before the second, and
-# the third has 5 verdicts of its own. The last two are over a short table, with verdicts that had 7 before the first of them.
+# What each byte of a table has before the first call: it is no entry.
+UNTOUCHED = 200
+
+# After the name of a function come its answer, 0 or the number of a refusal, and the value beside it: the count of equations, 1 for a model that meets
+# its rule and 0 for one that breaks it, the number of an ff node or 64 for a scan that is kept, or the place of the refusal. Where a table is lent, there
+# follows how many of its bytes are still untouched. A run has the equation and the counts of kept and of dropped scans there, and then the 8 bytes of the
+# output and all verdicts. The verdicts had 7 before the first run over each table, and the run with 5 of them has its own; the output has 7 before each.
 LINES = [
-    "judge 0 0",
-    "judge 0 1",
-    "judge 11 4",
-    "build 10 0",
-    "build 7 1",
-    "build 0 3",
+    # the number-pool rule has 3 equations; the one whose branches drop alike has 4, and 3 when they are merged
+    "count 0 3",
+    "count_short 0 3",
+    "count 0 4",
+    "count_short 0 3",
+    # a refused rule, with a table of less than a row and a refused model
+    "count 7 1",
+    "count_short 7 1",
+    "fill 7 1 255",
+    "fill_short 7 1 255",
+    "judge 7 1 255",
+    "count 9 0",
+    "count_short 9 0",
+    "fill 9 0 255",
+    "fill_short 9 0 255",
+    "judge 9 0 255",
+    # 767 bytes: one less than 3 rows take
+    "fill 10 0 767",
+    "fill_short 10 0 767",
+    "fill_short 10 0 767",
+    "judge 10 0 767",
+    "judge 10 0 767",
+    # 769: one more
+    "judge 11 4 769",
+    "judge 0 0 1",
+    "judge 0 1 1",
+    "fill 0 3 1",
+    # 1,023: enough for 3 rows, and one less than 4 take; and 1,024
+    "fill 10 0 1023",
+    "judge 10 0 1023",
+    "fill_short 0 3 255",
+    "fill_short 0 3 256",
+    "fill 0 4 0",
     "explain 0 4",
     "explain 0 64",
     "explain 17 1",
@@ -45,77 +75,99 @@ LINES = [
     "explain 0 4",
     "explain 0 64",
     "explain 17 0",
+    # 768
+    "judge 0 1 0",
+    "fill 0 3 0",
     "run 0 1 5 1 37 128 5 37 5 7 7 7 0 1 0 0 0 0 7 7",
     "run 16 3 0 0 7 7 7 7 7 7 7 7 0 1 0 0 0 0 7 7",
     "run 15 2 0 0 7 7 7 7 7 7 7 7 7 7 7 7 7",
-    "build_short 10 0",
-    "build_short 7 1",
-    "build_short 0 3",
-    "build 0 4",
-    "build_short 0 3",
+    "fill_short 0 3 0",
     "run 0 1 6 0 37 5 128 5 37 5 7 7 0 0 0 0 0 0 7 7",
     "run 0 1 5 1 5 128 5 37 5 7 7 7 1 0 0 0 0 0 7 7",
 ]
 
 
-def judged(model):
-    """The line of a judgment under the number-pool rule."""
-    answer = judge(bytes_of(POOL), bytes_of(model), bytearray(LEAST_TABLE))
-    if answer in ("breaks", "meets"):
-        return f"judge 0 {int(answer == 'meets')}"
-    _, number, _, place = answer.split()
-    return f"judge {number} {place}"
+def line_of(name, *numbers):
+    return " ".join([name, *map(str, numbers)])
 
 
-def built(rule, size, by=build):
-    """The line of a build, and the table after it."""
-    table = bytearray(size)
-    answer = by(bytes_of(rule), table)
-    if isinstance(answer, Refusal):
-        return f"{by.__name__} {answer.number} {answer.place}", table
-    return f"{by.__name__} 0 {len(answer)}", table
+def result_of(answer):
+    """The numbers for what counting or filling answers."""
+    return (answer.number, answer.place) if isinstance(answer, Refusal) else (0, len(answer))
 
 
-def explained(rule, kept, scan):
-    """The line of an explanation."""
+def counted_lines(rule):
+    counts = {"count": rows, "count_short": short_rows}
+    return [line_of(name, *result_of(rows_of_file(bytes_of(rule)))) for name, rows_of_file in counts.items()]
+
+
+def filled_line(by, rule, table):
+    """The line of a filling, which changes the table in place."""
+    return line_of(by.__name__, *result_of(by(bytes_of(rule), table)), table.count(UNTOUCHED))
+
+
+def judged_line(rule, model, table):
+    word, *numbers = judge(bytes_of(rule), bytes_of(model), table).split()
+    result = (numbers[0], numbers[2]) if word == "refused" else (0, int(word == "meets"))
+    return line_of("judge", *result, table.count(UNTOUCHED))
+
+
+def explained_line(rule, kept, scan):
     word, *numbers = by_violation(bytes_of(rule), bytes_of(kept), scan).split()
     if word == "refused":
-        return f"explain {numbers[0]} {numbers[2]}"
-    return f"explain 0 {KEPT_VALUE if word == KEPT else numbers[0]}"
+        return line_of("explain", numbers[0], numbers[2])
+    return line_of("explain", 0, KEPT_VALUE if word == KEPT else numbers[0])
 
 
-def ran(table, state, verdicts):
+def ran_line(table, state, verdicts):
     """The line of a run over the scans with 3 equations."""
     output = bytearray([7] * 8)
     answer = run(table, 3, state, SCANS, output, verdicts)
     number = 0 if answer.refusal is None else answer.refusal.number
-    fields = [number, answer.state, answer.kept, answer.dropped, *output, *verdicts]
-    return "run " + " ".join(str(field) for field in fields)
+    return line_of("run", number, answer.state, answer.kept, answer.dropped, *output, *verdicts)
 
 
-def shortened():
-    """The lines of the short build."""
-    first = [built(rule, size, build_short)[0] for rule, size in ((ALIKE, LEAST_TABLE - 1), (UNGUARDED, LEAST_TABLE), (POOL, LEAST_TABLE))]
-    last, table = built(ALIKE, LEAST_TABLE, build_short)
-    verdicts = bytearray([7] * 8)
-    return first + [built(ALIKE, LEAST_TABLE)[0], last, ran(table, 0, verdicts), ran(table, 2, verdicts)]
+def untouched(size):
+    return bytearray([UNTOUCHED] * size)
 
 
-def lines():
-    """The same by the Python."""
-    last, table = built(POOL, LEAST_TABLE)
-    verdicts = bytearray([7] * 8)
-    buildings = [built(POOL, LEAST_TABLE - 1)[0], built(UNGUARDED, LEAST_TABLE)[0], last]
-    reasons = [explained(POOL, "37", 5), explained(POOL, "37 128", 5)]
-    reasons += [explained(POOL, "37 5", 5), explained(POOL, "37 5", 128), explained(UNGUARDED, "37 5", 5)]
-    reasons += [explained(EITHER, "", scan) for scan in (5, 37, 6)] + [explained(EITHER, "37", 5)]
-    runs = [ran(table, 0, verdicts), ran(table, 3, verdicts), ran(table, 2, bytearray([7] * 5))]
-    return [judged(PAPER), judged(MEETING), judged(CUT)] + buildings + reasons + runs + shortened()
+def refused_lines(rule):
+    """The lines of a rule that is refused."""
+    table = untouched(255)
+    return counted_lines(rule) + [filled_line(by, rule, table) for by in (fill, fill_short)] + [judged_line(rule, CUT, table)]
+
+
+def table_lines():
+    """Fillings and judgments with tables of several sizes."""
+    less, more, almost, whole = [untouched(size) for size in (767, 769, 1023, 1024)]
+    lines = [filled_line(by, rule, less) for by, rule in ((fill, POOL), (fill_short, POOL), (fill_short, ALIKE))]
+    lines += [judged_line(POOL, model, less) for model in (MEETING, CUT)]
+    lines += [judged_line(POOL, model, more) for model in (CUT, PAPER, MEETING)] + [filled_line(fill, POOL, more)]
+    lines += [filled_line(fill, ALIKE, almost), judged_line(ALIKE, MEETING, almost), filled_line(fill_short, ALIKE, almost)]
+    return lines + [filled_line(by, ALIKE, whole) for by in (fill_short, fill)]
+
+
+def run_lines():
+    """Runs over tables that just fit: that of the number-pool rule, and the short one of the other."""
+    table, verdicts = untouched(768), bytearray([7] * 8)
+    lines = [judged_line(POOL, MEETING, table), filled_line(fill, POOL, table)]
+    lines += [ran_line(table, 0, verdicts), ran_line(table, 3, verdicts), ran_line(table, 2, bytearray([7] * 5))]
+    table, verdicts = untouched(768), bytearray([7] * 8)
+    return lines + [filled_line(fill_short, ALIKE, table)] + [ran_line(table, state, verdicts) for state in (0, 2)]
+
+
+def all_lines():
+    """The lines by the Python."""
+    counts = counted_lines(POOL) + counted_lines(ALIKE) + refused_lines(UNGUARDED) + refused_lines(MANY)
+    reasons = [explained_line(POOL, "37", 5), explained_line(POOL, "37 128", 5)]
+    reasons += [explained_line(POOL, "37 5", 5), explained_line(POOL, "37 5", 128), explained_line(UNGUARDED, "37 5", 5)]
+    reasons += [explained_line(EITHER, "", scan) for scan in (5, 37, 6)] + [explained_line(EITHER, "37", 5)]
+    return counts + table_lines() + reasons + run_lines()
 
 
 def main():
     checks = is_check(__doc__)
-    expect(lines() == LINES, "calls", lines())
+    expect(all_lines() == LINES, "calls", all_lines())
     settle("boundary_calls", b"", LINES, checks)
     print(f"{len(LINES)} calls")
 

@@ -12,14 +12,17 @@ import model_cases
 import stream_cases
 from compare import check_round, expect
 from compare_models import BY_SILENCE
-from expected import digest, is_check, settle, three_bytes, told
+from equations import CODES, rows
+from expected import digest, fresh_table, is_check, settle, three_bytes, told
 from judging import judge
 from models import MOST_STEPS, Model, read_model
 from rules import Refusal
-from write_tables import fresh_table
 
 # In so many cases at least silent steps have to decide.
 LEAST_BY_SILENCE = 800
+
+# In so many at least each of the rule, the table and the model has to be refused by itself or not, in all eight ways.
+LEAST_REFUSED = 30
 
 
 def reading_of(data):
@@ -32,6 +35,15 @@ def reading_of(data):
     steps = b"".join(bytes([step.source, *divmod(step.label, 256), step.target]) for step in model.steps)
     said = str(answer) if is_refused else "accepted"
     return f"{said} {model.states} {len(model.steps)} {digest(steps.ljust(4 * MOST_STEPS, bytes(1)))}"
+
+
+def refused_parts(size, rule, model):
+    """Which parts of a case are refused by themselves: a table of less than a row is one for any rule."""
+    counted = rows(rule)
+    is_refused = isinstance(counted, Refusal)
+    too_small = size < (CODES if is_refused else CODES * len(counted))
+    parts = {"rule": is_refused, "table": too_small, "model": isinstance(read_model(model), Refusal)}
+    return " and ".join(part for part, is_so in parts.items() if is_so) or "none"
 
 
 def input_of(size, rule, model):
@@ -55,10 +67,13 @@ def main():
             tally[BY_SILENCE] += compare_models.is_by_silence(rule, model)
             latest = max(latest, drop.place)
     expect(tally[BY_SILENCE] >= LEAST_BY_SILENCE, told(tally))
+    parts = Counter(refused_parts(*case) for case in cases)
+    expect(len(parts) == 8 and min(parts.values()) >= LEAST_REFUSED, told(parts))
     check_round(judged)
     settle("judgments", b"".join(input_of(*case) for case in cases), lines, checks)
     print(f"small models compared: {told(compared)}")
     print(f"{len(cases)} cases: {told(tally)}; the latest break is at pair {latest}")
+    print(f"refused by themselves: {told(parts)}")
 
 
 if __name__ == "__main__":

@@ -5,10 +5,9 @@ With --check nothing is written, and the files are compared with what would be.
 """
 import known_programs
 from compare import expect
-from equations import LEAST_TABLE, listing, rows
+from equations import LARGEST_TABLE, listing, rows
 from expected import is_check, settle_files
 from judging import judge
-from known import bytes_of
 from models import file_of
 from running import run
 from shapes import TRUTH
@@ -42,7 +41,7 @@ def check_model(rule):
     shorter = file_of(64, known_programs.STEPS[:-1])
     expect(len(known_programs.STEPS) == 512 and len(model) == 2050, "the largest model")
     cases = [(rule, model), (rule, shorter), (rule[:-1] + TRUTH, model)]
-    answers = [judge(*case, bytearray(LEAST_TABLE)) for case in cases]
+    answers = [judge(*case, bytearray(LARGEST_TABLE)) for case in cases]
     expect(answers == ["breaks", "meets", "meets"], "judgments", answers)
     return model
 

@@ -1,9 +1,9 @@
 """Writes what the test program `streams` reads and what it must answer, from the Python alone: from runs over the
 tables of the Python equations, which are held against sifting by violation.
 
-Its standard input is a list of records, which the program's first lines describe. Each rule that is built and each
-call of a run has one line on its standard output. With --check nothing is written, and the files are compared with
-what would be.
+Its standard input is a list of records, which the program's first lines describe. Each filling and each call of a
+run has one line on its standard output. With --check nothing is written, and the files are compared with what would
+be.
 """
 import compare_runs
 import stream_cases

@@ -9,19 +9,13 @@ import compare_short
 import known_programs
 import table_cases
 from compare import check, expect
-from equations import CODES, build, listing, row, rows, said, text_of
-from expected import digest, is_check, settle, three_bytes, told
-from merging import build_short
+from equations import fill, listing, row, rows, said, text_of
+from expected import digest, fresh_table, is_check, settle, three_bytes, told
+from merging import fill_short, short_rows
 from rules import Refusal
 
-# Numbers of rows that are asked for besides those of the equations and the one after.
+# Numbers of rows that are asked for besides those of the equations and the one behind them.
 ROWS = [127, 128, 155, 156, 2**56, 2**64 - 1]
-
-
-def fresh_table(size, case):
-    """The table that is lent: byte i is case + 7 × i, modulo 251."""
-    cycle = bytes((case + 7 * i) % 251 for i in range(251))
-    return bytearray((cycle * (size // 251 + 1))[:size])
 
 
 def summary(content):
@@ -29,27 +23,24 @@ def summary(content):
     return f"{len(content)} {digest(content)}"
 
 
-def count_of(built):
-    return 0 if isinstance(built, Refusal) else len(built)
+def filled_words(data, table, counted):
+    """What filling answers and leaves in the table, and what is listed of it."""
+    return [said(counted), "table", str(digest(table)), "listing", summary(text_of(data, counted).encode())]
 
 
-def built_words(data, table, built):
-    """What a build answers, leaves in the table, and what is listed of it."""
-    behind = table[CODES * count_of(built) :]
-    return f"{said(built)} table {digest(table)} {digest(behind)} listing {summary(text_of(data, built).encode())}"
-
-
-def row_words(table, equations):
-    """The rows of the equations, and some that are asked for one by one."""
-    handed = b"".join(row(table, number) for number in range(equations))
-    return ["rows", summary(handed)] + [summary(row(table, number)) for number in [equations] + ROWS]
+def row_words(table, counted):
+    """The rows that were filled, and some others that are asked for one by one. Of these the empty ones are left out."""
+    count = 0 if isinstance(counted, Refusal) else len(counted)
+    handed = b"".join(row(table, number) for number in range(count))
+    others = [(number, row(table, number)) for number in [count] + ROWS]
+    return ["rows", summary(handed)] + [f"{number} {summary(entries)}" for number, entries in others if entries]
 
 
 def line_of(case, size, data):
-    long_table, short_table = fresh_table(size, case), fresh_table(size, case)
-    built, merged = build(data, long_table), build_short(data, short_table)
-    words = [said(rows(data)), built_words(data, long_table, built), *row_words(long_table, count_of(built))]
-    return " ".join(words + ["short", built_words(data, short_table, merged)])
+    table, short_table = fresh_table(size, case), fresh_table(size, case)
+    filled, filled_short = fill(data, table), fill_short(data, short_table)
+    words = [said(rows(data)), *filled_words(data, table, filled), *row_words(table, filled)]
+    return " ".join(words + ["short", said(short_rows(data)), *filled_words(data, short_table, filled_short)])
 
 
 def main():
@@ -58,6 +49,8 @@ def main():
     rules, lists = check(files)
     tally = compare_short.check(files)
     cases = table_cases.with_sizes(files)
+    tally.update(sort for case in cases for sort in table_cases.sorts_of(*case))
+    expect(all(tally[sort] >= table_cases.LEAST for sort in table_cases.SORTS), told(tally))
     lines = [line_of(case, size, data) for case, (size, data) in enumerate(cases)]
     stdin = b"".join(three_bytes(size) + three_bytes(len(data)) + data for size, data in cases)
     settle("tables", stdin, lines, checks)

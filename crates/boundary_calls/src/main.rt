@@ -1,57 +1,26 @@
-// A test program: the functions for C, called on the paper's rule, model and scans, and on input that is refused. Each call prints its answer, what it
-// handed back beside it, and, where it is a run, what both buffers hold.
+// A test program: the functions for C, called on the paper's rule, model and scans, and on input that is refused. Each call prints its answer and what it
+// handed back beside it; where a table was lent to be filled, how many bytes of that are untouched; and where it is a run, what both buffers hold.
+mod inputs;
+
+use inputs::ALIKE;
+use inputs::BREAKS;
+use inputs::CANCELLED;
+use inputs::CUT;
+use inputs::EITHER;
+use inputs::MANY;
+use inputs::MEETS;
+use inputs::NOTHING;
+use inputs::POOL;
+use inputs::SCANS;
+use inputs::SYNCED;
+use inputs::UNGUARDED;
+use inputs::VIOLATING;
 use libc::STDOUT_FILENO;
 use testing::print_field;
+ghost use Prim.Native.Nat.{_≤_};
 
-const POOL: [u8; 23] = [
-    1,
-    2,
-    5,
-    5,
-    1,
-    1,
-    5,
-    5,
-    1,
-    16,
-    0,
-    31,
-    6,
-    5,
-    0,
-    4,
-    5,
-    1,
-    3,
-    5,
-    2,
-    7,
-    0,
-];
-
-const UNGUARDED: [u8; 3] = [6, 7, 0];
-
-const BREAKS: [u8; 13] = [16, 3, 17, 0, 37, 1, 18, 1, 2, 17, 2, 5, 0];
-
-const MEETS: [u8; 17] = [16, 3, 17, 0, 37, 1, 18, 1, 2, 17, 2, 128, 0, 17, 0, 5, 2];
-
-const CUT: [u8; 4] = [16, 2, 17, 0];
-
-const SCANS: [u8; 6] = [37, 5, 128, 5, 37, 5];
-
-// Both "after code 5, ff", its node 2, and "after code 37, ff", its node 4.
-const EITHER: [u8; 15] = [1, 1, 5, 5, 1, 2, 5, 5, 4, 5, 0, 3, 5, 1, 3];
-
-// Both "after code 5, after code 37, ff" and "after code 37, after code 37, ff": 4 equations, of which two drop alike.
-const ALIKE: [u8; 19] = [1, 1, 5, 5, 1, 2, 5, 5, 4, 5, 0, 5, 1, 3, 5, 1, 5, 1, 3];
-
-const NOTHING: [u8; 0] = [];
-
-const CANCELLED: [u8; 1] = [37];
-
-const SYNCED: [u8; 2] = [37, 128];
-
-const VIOLATING: [u8; 2] = [37, 5];
+// What each byte of a table has before the first call: it is no entry.
+const UNTOUCHED: u8 = 200;
 
 // Prints a space and a byte.
 fn print_byte(byte: u8) {
@@ -67,26 +36,68 @@ fn print_bytes(bytes: &[u8]) {
     }
 }
 
-// Prints the line of a call: its answer, and the value beside it.
-fn print_result(name: &[u8], number: u8, value: usize) {
+// 1 for a byte that no call has changed, else 0.
+fn one_if_untouched(byte: u8) -> usize
+    ensures { λ r. ⌜ r ≤ 1 ⌝ }
+{
+    if byte == UNTOUCHED { 1 } else { 0 }
+}
+
+// How many bytes of a table no call has changed.
+fn untouched(table: &[u8]) -> usize {
+    let mut n = 0;
+    let mut i = 0;
+    while i < table.len() {
+        n += one_if_untouched(table[i]);
+        i += 1;
+    }
+    n
+}
+
+// Prints the answer of a call, and the value beside it.
+fn print_answer(name: &[u8], number: u8, value: usize) {
     io::write_all(STDOUT_FILENO, name);
     print_byte(number);
     print_field(value as u64);
+}
+
+// The line of a call to which no table was lent.
+fn print_result(name: &[u8], number: u8, value: usize) {
+    print_answer(name, number, value);
     io::write_all(STDOUT_FILENO, b"\n");
 }
 
+// The line of one to which this table was lent.
+fn print_filled(name: &[u8], number: u8, value: usize, table: &[u8]) {
+    print_answer(name, number, value);
+    print_field(untouched(table) as u64);
+    io::write_all(STDOUT_FILENO, b"\n");
+}
+
+fn count(rule: &[u8]) {
+    let mut value = 99;
+    let number = boundary::jarveun_count(rule, &mut value);
+    print_result(b"count", number, value);
+}
+
+fn count_short(rule: &[u8]) {
+    let mut value = 99;
+    let number = boundary::jarveun_count_short(rule, &mut value);
+    print_result(b"count_short", number, value);
+}
+
 // Fills, and hands back the value.
-fn build(rule: &[u8], table: &mut [u8]) -> usize {
+fn fill(rule: &[u8], table: &mut [u8]) -> usize {
     let mut value = 99;
     let number = boundary::jarveun_fill(rule, table, &mut value);
-    print_result(b"build", number, value);
+    print_filled(b"fill", number, value, table);
     value
 }
 
 fn fill_short(rule: &[u8], table: &mut [u8]) -> usize {
     let mut value = 99;
     let number = boundary::jarveun_fill_short(rule, table, &mut value);
-    print_result(b"fill_short", number, value);
+    print_filled(b"fill_short", number, value, table);
     value
 }
 
@@ -99,7 +110,7 @@ fn explain(rule: &[u8], kept: &[u8], scan: u8) {
 fn judge(rule: &[u8], model: &[u8], table: &mut [u8]) {
     let mut value = 99;
     let number = boundary::jarveun_judge(rule, model, table, &mut value);
-    print_result(b"judge", number, value);
+    print_filled(b"judge", number, value, table);
 }
 
 // Runs over the paper's scans. The line has the equation, both counts and both buffers after the answer.
@@ -128,6 +139,54 @@ fn run(table: &[u8], count: usize, from: usize, verdicts: &mut [u8]) {
     io::write_all(STDOUT_FILENO, b"\n");
 }
 
+fn count_both(rule: &[u8]) {
+    count(rule);
+    count_short(rule);
+}
+
+// A rule that is refused, with a table of less than a row, and with a model that would be refused too.
+fn refuse(rule: &[u8]) {
+    count_both(rule);
+    let mut table = [UNTOUCHED; 255];
+    fill(rule, &mut table);
+    fill_short(rule, &mut table);
+    judge(rule, &CUT, &mut table);
+}
+
+// A byte less than three rows take.
+fn fill_less_than_three() {
+    let mut table = [UNTOUCHED; 767];
+    fill(&POOL, &mut table);
+    fill_short(&POOL, &mut table);
+    fill_short(&ALIKE, &mut table);
+    judge(&POOL, &MEETS, &mut table);
+    judge(&POOL, &CUT, &mut table);
+}
+
+// A byte more.
+fn fill_more_than_three() {
+    let mut table = [UNTOUCHED; 769];
+    judge(&POOL, &CUT, &mut table);
+    judge(&POOL, &BREAKS, &mut table);
+    judge(&POOL, &MEETS, &mut table);
+    fill(&POOL, &mut table);
+}
+
+// A byte less than the four long rows take, where the three short ones fit.
+fn fill_less_than_four() {
+    let mut table = [UNTOUCHED; 1023];
+    fill(&ALIKE, &mut table);
+    judge(&ALIKE, &MEETS, &mut table);
+    fill_short(&ALIKE, &mut table);
+}
+
+// As much as they take.
+fn fill_four() {
+    let mut table = [UNTOUCHED; 1024];
+    fill_short(&ALIKE, &mut table);
+    fill(&ALIKE, &mut table);
+}
+
 // Asks for the reasons of scans.
 fn explain_all() {
     explain(&POOL, &CANCELLED, 5);
@@ -141,14 +200,21 @@ fn explain_all() {
     explain(&EITHER, &CANCELLED, 5);
 }
 
-// Fills both ways, and runs over the short table.
-fn shorten_all() {
-    let mut small = [0u8; 32767];
-    fill_short(&ALIKE, &mut small);
-    let mut table = [0u8; 32768];
-    fill_short(&UNGUARDED, &mut table);
-    fill_short(&POOL, &mut table);
-    build(&ALIKE, &mut table);
+// Runs over a table that three rows just fit.
+fn run_long() {
+    let mut table = [UNTOUCHED; 768];
+    judge(&POOL, &MEETS, &mut table);
+    let count = fill(&POOL, &mut table);
+    let mut verdicts = [7u8; 8];
+    run(&table, count, 0, &mut verdicts);
+    run(&table, count, 3, &mut verdicts);
+    let mut few = [7u8; 5];
+    run(&table, count, 2, &mut few);
+}
+
+// The same with short rows.
+fn run_short() {
+    let mut table = [UNTOUCHED; 768];
     let count = fill_short(&ALIKE, &mut table);
     let mut verdicts = [7u8; 8];
     run(&table, count, 0, &mut verdicts);
@@ -156,20 +222,15 @@ fn shorten_all() {
 }
 
 fn main() {
-    let mut judged = [0u8; 32768];
-    judge(&POOL, &BREAKS, &mut judged);
-    judge(&POOL, &MEETS, &mut judged);
-    judge(&POOL, &CUT, &mut judged);
-    let mut short = [0u8; 32767];
-    build(&POOL, &mut short);
-    let mut table = [0u8; 32768];
-    build(&UNGUARDED, &mut table);
-    let count = build(&POOL, &mut table);
+    count_both(&POOL);
+    count_both(&ALIKE);
+    refuse(&UNGUARDED);
+    refuse(&MANY);
+    fill_less_than_three();
+    fill_more_than_three();
+    fill_less_than_four();
+    fill_four();
     explain_all();
-    let mut verdicts = [7u8; 8];
-    run(&table, count, 0, &mut verdicts);
-    run(&table, count, 3, &mut verdicts);
-    let mut few = [7u8; 5];
-    run(&table, count, 2, &mut few);
-    shorten_all();
+    run_long();
+    run_short();
 }

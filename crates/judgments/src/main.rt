@@ -9,7 +9,7 @@ use printing::print_judged;
 use printing::print_reading;
 use printing::print_table;
 use testing::Head;
-use testing::fill;
+use testing::prepare;
 use testing::read_size;
 
 fn answer(rule: &[u8], model: &[u8], table: &mut [u8]) {
@@ -27,7 +27,7 @@ fn answer_files(rule: &mut [u8], model: &mut [u8], table: &mut [u8], case: u64) 
     if io::read_full(STDIN_FILENO, model) < model.len() {
         return false;
     }
-    fill(table, case, 7, 250);
+    prepare(table, case, 7, 250);
     answer(rule, model, table);
     true
 }

@@ -1,8 +1,8 @@
-// Reads records from standard input, and prints a line for each rule that is built and for each call of a run.
+// Reads records from standard input, and prints a line for each filling and for each call of a run.
 // A record is one byte of kind and a body. The records before a call set its table, its count and its state:
 //   f FIRST STEP          byte i of the table is FIRST + STEP × i, modulo 256
 //   w PLACE LENGTH bytes  the table's bytes from the place on are these
-//   r LENGTH bytes        the table is built from this rule file, the count is that of building, 0 where it refuses, the state is the start
+//   r LENGTH bytes        the table is filled from this rule file, the count is what filling answers, 0 where it refuses, the state is the start
 //   n COUNT               the count
 //   b                     the state is the start
 //   s EQUATION            the state
@@ -13,12 +13,12 @@ mod printing;
 
 use libc::STDIN_FILENO;
 use printing::print_buffers;
-use printing::print_built;
+use printing::print_filled;
 use printing::print_ran;
 use running::State;
 use testing::Head;
-use testing::fill;
 use testing::filled_count;
+use testing::prepare;
 use testing::read_byte;
 use testing::read_long;
 use testing::read_size;
@@ -35,10 +35,10 @@ enum Step {
     Ended,
 }
 
-fn take_fill(held: Held, table: &mut [u8]) -> Step {
+fn take_bytes(held: Held, table: &mut [u8]) -> Step {
     let first = read_byte();
     let step = read_byte();
-    fill(table, first as u64, step, 255);
+    prepare(table, first as u64, step, 255);
     Step::Next(held)
 }
 
@@ -60,15 +60,15 @@ fn take_part(held: Held, table: &mut [u8]) -> Step {
     read_part(held, &mut table[at..end])
 }
 
-// Fills the space with a rule file, and builds the table from it.
+// Fills the space with a rule file, and the table from it.
 fn read_rule(space: &mut [u8], table: &mut [u8]) -> Step {
     if io::read_full(STDIN_FILENO, space) < space.len() {
         return Step::Ended;
     }
-    let built = synthesis::fill(space, table);
-    print_built(built);
+    let filled = synthesis::fill(space, table);
+    print_filled(filled);
     Step::Next(Held {
-        count: filled_count(built),
+        count: filled_count(filled),
         state: running::start(),
     })
 }
@@ -117,8 +117,8 @@ fn call(
     if io::read_full(STDIN_FILENO, scans) < scans.len() {
         return Step::Ended;
     }
-    fill(output, turn, 7, 255);
-    fill(verdicts, turn % 251, 11, 255);
+    prepare(output, turn, 7, 255);
+    prepare(verdicts, turn % 251, 11, 255);
     let ran = running::run(table, held.count, held.state, scans, output, verdicts);
     print_ran(ran);
     print_buffers(output, verdicts);
@@ -169,7 +169,7 @@ fn take_record(
     turn: u64,
 ) -> Step {
     match read_byte() {
-        b'f' => take_fill(held, table),
+        b'f' => take_bytes(held, table),
         b'w' => take_part(held, table),
         b'r' => take_rule(scans, table),
         b'n' => take_count(held),

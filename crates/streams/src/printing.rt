@@ -1,4 +1,4 @@
-// What is printed of building and of a run.
+// What is printed of filling and of a run.
 use libc::STDOUT_FILENO;
 use running::Checked;
 use running::RunResult;
@@ -8,7 +8,7 @@ use testing::print_counted;
 use testing::print_field;
 use testing::print_refusal;
 
-pub fn print_built(answer: Counted) {
+pub fn print_filled(answer: Counted) {
     print_counted(answer);
     io::write_all(STDOUT_FILENO, b"\n");
 }

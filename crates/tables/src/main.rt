@@ -1,5 +1,5 @@
-// Reads rule files from standard input, builds the table of each and then the short one, and prints a line for each file with what is said of it, left in
-// the tables and listed of them.
+// Reads rule files from standard input, counts the equations of each and fills a table, the same for the short table, and prints a line for each file with
+// what is said of it, left in the tables and listed of them.
 // A case is a table's size and a file's length, each as three bytes, highest first, and then the rule file. The input ends after the last.
 use libc::STDIN_FILENO;
 use libc::STDOUT_FILENO;
@@ -9,8 +9,8 @@ use reading::NumberedRule;
 use synthesis::Counted;
 use testing::Head;
 use testing::digest;
-use testing::fill;
 use testing::filled_count;
+use testing::prepare;
 use testing::print_counted;
 use testing::print_field;
 use testing::read_size;
@@ -38,15 +38,6 @@ fn rows_summary(table: &[u8], n: usize) -> Summary {
         k += 1;
     }
     Summary { len, digest: sum }
-}
-
-// The digest of what stands behind the first n rows.
-fn behind_digest(table: &[u8], n: usize) -> u64 {
-    if n > table.len() / 256 {
-        return 0;
-    }
-    let from = n * 256;
-    digest(0, &table[from..])
 }
 
 // How long the text of a line is: an array of 64 has no longer one.
@@ -94,7 +85,7 @@ fn refusal_summary(number: u8, place: usize) -> Summary {
     }
 }
 
-// What the program `equations` prints of a file on which building gives this answer and leaves this table.
+// What the program `equations` prints of a file on which filling gives this answer and leaves this table.
 fn text_summary(answer: Counted, file: &[u8], table: &[u8]) -> Summary {
     match answer {
         Counted::Equations(count) => {
@@ -110,19 +101,18 @@ fn print_summary(summary: Summary) {
     print_field(summary.digest);
 }
 
+// A row, but for an empty one.
 fn print_row(table: &[u8], k: usize) {
     let row = synthesis::row(table, k);
+    if row.len() == 0 {
+        return;
+    }
+    print_field(k as u64);
     print_field(row.len() as u64);
     print_field(digest(0, row));
 }
 
-// The digests of the whole table and of what stands behind its first n rows.
-fn print_table(table: &[u8], n: usize) {
-    io::write_all(STDOUT_FILENO, b" table");
-    print_field(digest(0, table));
-    print_field(behind_digest(table, n));
-}
-
+// The first n rows together, and some others by themselves.
 fn print_rows(table: &[u8], n: usize) {
     io::write_all(STDOUT_FILENO, b" rows");
     print_summary(rows_summary(table, n));
@@ -135,10 +125,11 @@ fn print_rows(table: &[u8], n: usize) {
     print_row(table, usize::MAX);
 }
 
-// What a build answers, leaves in the table, and what is listed of it.
-fn print_built(answer: Counted, file: &[u8], table: &[u8]) {
+// What filling answers and leaves in the table, and what is listed of it.
+fn print_filled(answer: Counted, file: &[u8], table: &[u8]) {
     print_counted(answer);
-    print_table(table, filled_count(answer));
+    io::write_all(STDOUT_FILENO, b" table");
+    print_field(digest(0, table));
     io::write_all(STDOUT_FILENO, b" listing");
     print_summary(text_summary(answer, file, table));
 }
@@ -146,27 +137,29 @@ fn print_built(answer: Counted, file: &[u8], table: &[u8]) {
 fn answer_long(rule: &[u8], table: &mut [u8]) {
     print_counted(synthesis::count(rule));
     io::write_all(STDOUT_FILENO, b" ");
-    let built = synthesis::fill(rule, table);
-    print_built(built, rule, table);
-    print_rows(table, filled_count(built));
+    let filled = synthesis::fill(rule, table);
+    print_filled(filled, rule, table);
+    print_rows(table, filled_count(filled));
 }
 
 fn answer_short(rule: &[u8], table: &mut [u8]) {
     io::write_all(STDOUT_FILENO, b" short ");
-    let built = synthesis::fill_short(rule, table);
-    print_built(built, rule, table);
+    print_counted(synthesis::count_short(rule));
+    io::write_all(STDOUT_FILENO, b" ");
+    let filled = synthesis::fill_short(rule, table);
+    print_filled(filled, rule, table);
     io::write_all(STDOUT_FILENO, b"\n");
 }
 
 // Fills the space with a rule file, answers it, and says whether the file was whole.
-// Byte i of the table that is lent to each build is case + 7 × i, modulo 251.
+// Byte i of the table that is lent to each filling is case + 7 × i, modulo 251.
 fn answer_file(space: &mut [u8], table: &mut [u8], case: u64) -> bool {
     if io::read_full(STDIN_FILENO, space) < space.len() {
         return false;
     }
-    fill(table, case, 7, 250);
+    prepare(table, case, 7, 250);
     answer_long(space, table);
-    fill(table, case, 7, 250);
+    prepare(table, case, 7, 250);
     answer_short(space, table);
     true
 }

@@ -1,3 +1,3 @@
--- The laws of the loops that the test programs share: the digest, and the buffer that is filled.
+-- The laws of the loops that the test programs share: the digest, and the buffer that is prepared.
 pub mod DigestLaws
-pub mod FillingLaws
+pub mod PreparingLaws

@@ -1,3 +1,3 @@
 -- In the order in which to read them.
 pub mod Numbers
-pub mod Filling
+pub mod Preparing

@@ -1,4 +1,4 @@
--- Numbers in base 256, digests, and the count in an answer of building.
+-- Numbers in base 256, digests, and the count in an answer.
 use Prim.Native.Nat.{ℕ, _+_, _*_, _%_, _≤_}
 use mathlib.Core.List.{List, [], _∷_}
 use Rattle.synthesis.specs.declared.Counted.{Counted}
@@ -20,7 +20,7 @@ abbrev pub AtMost : (limit : ℕ) → Head → Type 0
 AtMost limit (Number n) = n ≤ limit
 AtMost limit Ended = Unit
 
--- how many equations an answer of building says; none where it is refused
+-- how many equations an answer says; none where it is a refusal
 abbrev pub countIn : Counted → ℕ
 countIn (Equations n) = n
 countIn (Refused number place) = 0

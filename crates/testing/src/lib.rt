@@ -1,15 +1,15 @@
 // What the test programs share. The definitions that the contracts cite stand in specs/.
 mod digests;
-mod filling;
 mod numbers;
+mod preparing;
 mod printing;
 
 pub use digests::digest;
-pub use filling::fill;
 pub use numbers::Head;
 pub use numbers::read_byte;
 pub use numbers::read_long;
 pub use numbers::read_size;
+pub use preparing::prepare;
 pub use printing::filled_count;
 pub use printing::print_counted;
 pub use printing::print_field;

@@ -18,7 +18,7 @@ pub fn print_refusal(number: u8, place: usize) {
     print_field(place as u64);
 }
 
-// Prints what counting or building answers.
+// Prints what counting or filling answers.
 pub fn print_counted(answer: Counted) {
     match answer {
         Counted::Equations(n) => {
@@ -31,7 +31,7 @@ pub fn print_counted(answer: Counted) {
     }
 }
 
-// How many equations were built, and so how many rows were written.
+// How many equations filling answered, and so how many rows it wrote.
 pub fn filled_count(answer: Counted) -> usize
     ensures { λ r. ⌜ r ≡ countIn answer ⌝ }
 {

@@ -3,11 +3,11 @@ use crate::numbers::wide;
 ghost use mathlib.Core.Path.{_≡_};
 ghost use Prim.Native.Nat.{_+_};
 ghost use lib.ListN.{length};
-ghost use Rattle.testing.specs.Filling.{filled};
+ghost use Rattle.testing.specs.Preparing.{prepared};
 
-// Fills a buffer: byte i is first + step × i, modulo top + 1.
-pub fn fill(buf: &mut [u8], first: u64, step: u8, top: u8)
-    ensures { λ _. ⌜ now (buf .exit) ≡ filled (top + 1) first step (length (now (buf .entry))) ⌝ }
+// Sets every byte of a buffer: byte i is first + step × i, modulo top + 1.
+pub fn prepare(buf: &mut [u8], first: u64, step: u8, top: u8)
+    ensures { λ _. ⌜ now (buf .exit) ≡ prepared (top + 1) first step (length (now (buf .entry))) ⌝ }
 {
     let size = wide(top) + 1;
     let mut byte = first % size;

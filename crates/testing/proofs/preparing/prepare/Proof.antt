@@ -1,14 +1,14 @@
--- `filling::fill` meets its contract. The bytes so far are filled; the measure is how many are left.
+-- `preparing::prepare` meets its contract. The bytes so far are prepared; the measure is how many are left.
 use Prim.Native.Nat.{_-_}
 use native.Mathlib.Omega.{arith}
 use borrow.Author.Needs.{needs}
 use lib.ListN.{length}
-use Rattle.testing.proofs.FillingLaws.{Filling, filling-start, filling-next, filling-end}
-use Rattle.testing.proofs.filling.fill.Statement.{statement}
-use Rattle.testing.proofs.filling.fill.Tie as tie
+use Rattle.testing.proofs.PreparingLaws.{Preparing, preparing-start, preparing-next, preparing-end}
+use Rattle.testing.proofs.preparing.prepare.Statement.{statement}
+use Rattle.testing.proofs.preparing.prepare.Tie as tie
 
 abbrev Inv-loop : tie.InvT-loop
-Inv-loop buf₀ first step top size byte₀ i₀ buf byte i = Filling size first step buf₀ buf byte i
+Inv-loop buf₀ first step top size byte₀ i₀ buf byte i = Preparing size first step buf₀ buf byte i
 
 abbrev μ-loop : tie.MeasureT-loop
 μ-loop buf₀ first step top size byte₀ i₀ buf byte i = length buf₀ - i
@@ -23,7 +23,7 @@ rem-byte : tie.Need-rem-byte Inv-loop μ-loop
 rem-byte c = search needs
 
 loop-holds : tie.Need-loop-holds Inv-loop μ-loop
-loop-holds c = filling-start _ _ _ _ (omega arith)
+loop-holds c = preparing-start _ _ _ _ (omega arith)
 
 cast-buf : tie.Need-cast-buf Inv-loop μ-loop
 cast-buf c = search needs
@@ -49,7 +49,7 @@ loop-less c = search needs
 loop-again : tie.Need-loop-again Inv-loop μ-loop
 loop-again c =
     let l = c .before .before .loop in
-    rw (c .wide2 .ensures .0) (filling-next _ _ _ _ (l .buf) (l .byte) (l .i) (l .inv) (omega arith))
+    rw (c .wide2 .ensures .0) (preparing-next _ _ _ _ (l .buf) (l .byte) (l .i) (l .inv) (omega arith))
 
 same-length : tie.Need-same-length Inv-loop μ-loop
 same-length c = search needs
@@ -57,10 +57,10 @@ same-length c = search needs
 returns : tie.Need-returns Inv-loop μ-loop
 returns c =
     let l = c .before .loop in
-    rw (← (c .before .before .wide .ensures .0)) (filling-end _ _ _ _ (l .buf) (l .byte) (l .i) (l .inv) (omega arith))
+    rw (← (c .before .before .wide .ensures .0)) (preparing-end _ _ _ _ (l .buf) (l .byte) (l .i) (l .inv) (omega arith))
 
-pub fill-spec : {M : Type 1} → statement M
-fill-spec =
+pub prepare-spec : {M : Type 1} → statement M
+prepare-spec =
     tie.close
     (tie.spec
     Inv-loop
