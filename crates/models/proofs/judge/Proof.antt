@@ -16,7 +16,7 @@ model-bytes : (c : tie.After-slice-known) → Bytes (c .before .before .before .
 model-bytes c =
     slice-bytes (c .before .before .before .args .model .now) (c .before .shared-slice-known2 .given)
 
--- the model is read and the rule built
+-- the model is read and the table filled
 accepts : (c : tie.After-enum-told3) → let b = c .before .before .before .before in let m = b .before .before .before .before in
     let x = m .before .before .before .before .args in
     Accepts (x .rule .now) (x .table .now) (x .model .now) (b .fill .last .1 .0) (m .read-model .result .model)

@@ -6,14 +6,13 @@ use mathlib.Core.List.{List, _∷_}
 use native.Mathlib.Omega.{arith}
 use lib.ListN.{length, take, replicate}
 use Rattle.reading.specs.Rule.{All}
-use Rattle.reading.specs.File.{Outcome, accepted, refused}
+use Rattle.reading.specs.File.{accepted}
 use Rattle.synthesis.specs.Monitor.{mark, most, Answer, lookup}
 use Rattle.synthesis.specs.Table.{WellFormedTable, filled}
 use Rattle.synthesis.specs.Merging.{upTo, merged, rounds, firsts}
-use Rattle.synthesis.specs.Building.{Synthesis, synthesisOf, countedOf, tableLeft, numberedAnswer, classesOf, shortened, shortOf}
+use Rattle.synthesis.specs.Building.{Synthesis, synthesisOf, fillingOf, countedOf, tableLeft, numberedAnswer, classesOf, shortened, shortOf}
 use Rattle.synthesis.specs.Arrays.{AreClasses, AreNumbers, ClassesNumbered}
-use Rattle.synthesis.specs.Plans.{IsPlan, ShortPlanFor, IsShortPlan}
-use Rattle.synthesis.specs.declared.Counted.{Counted}
+use Rattle.synthesis.specs.Plans.{ShortPlanFor, IsShortPlan}
 use Rattle.synthesis.specs.declared.Counted.the-variants.{Equations, Refused}
 use Rattle.synthesis.specs.declared.shortening.ShortPlan.{ShortPlan}
 use Rattle.synthesis.proofs.Tables.FilledTables.{filled-cong}
@@ -52,21 +51,20 @@ refused-short-plan s long p counts number place e =
 
 -- ---- a long table of the rule
 
-module _ (s : List ℕ) (y : Synthesis) (is : synthesisOf most s ≡ accepted y) (few : length (y .equations) ≤ most) (scratch long : List ℕ)
+module _ (s : List ℕ) (y : Synthesis) (is : synthesisOf most s ≡ accepted y) (scratch long : List ℕ)
     (room : 256 * length (y .equations) ≤ length scratch) (filled-is : long ≡ filled mark (y .answer) (y .equations) 256 scratch) where
+  fills : fillingOf most s (length scratch) ≡ accepted y
+  fills = filling-accepts (length scratch) (filling-by-count most s (length scratch)) is room
+
   -- it is what filling leaves
   long-left : long ≡ tableLeft most mark s scratch
-  long-left = filled-is ∙ rw (filling-accepts (length scratch) (filling-by-count most s (length scratch)) is room)
+  long-left = filled-is ∙ rw fills
 
   pub long-well-formed : WellFormedTable most mark (length (y .equations)) long
-  long-well-formed =
-      rw long-left (accepted-well-formed most mark s scratch y (filling-accepts (length scratch) (filling-by-count most s (length scratch)) is room))
+  long-well-formed = rw long-left (accepted-well-formed most mark s scratch y fills)
 
   pub long-answers : (k c : ℕ) → k < length (y .equations) → c < 256 → lookup 256 mark long k c ≡ numberedAnswer y k c
-  long-answers k c h b =
-      rw long-left
-      (built-numbers most mark s scratch (omega arith) k c b y
-      (filling-accepts (length scratch) (filling-by-count most s (length scratch)) is room) h)
+  long-answers k c h b = rw long-left (built-numbers most mark s scratch (omega arith) k c b y fills h)
 
 -- ---- the plan from a long table and the numbers of its classes
 

@@ -25,13 +25,13 @@ module _ (f : tie.After-fill-table) where
   long-wf =
       let p = counted told in
       rw (p .count-is)
-      (long-well-formed _ (p .synthesis) (p .is) (p .fills .few) _ _ (omega (arith, p .fills .few)) (plan-filled p _ _ (f .fill-table .ensures)))
+      (long-well-formed _ (p .synthesis) (p .is) _ _ (omega (arith, p .fills .few)) (plan-filled p _ _ (f .fill-table .ensures)))
 
   long-said : (k code : ℕ) → k < told .answer .given .0 .0 → code < 256
       → lookup 256 mark (f .fill-table .last .1 .1 .1 .0) k code ≡ numberedAnswer (counted told .synthesis) k code
   long-said k code h b =
       let p = counted told in
-      long-answers _ (p .synthesis) (p .is) (p .fills .few) _ _ (omega (arith, p .fills .few)) (plan-filled p _ _ (f .fill-table .ensures)) k code
+      long-answers _ (p .synthesis) (p .is) _ _ (omega (arith, p .fills .few)) (plan-filled p _ _ (f .fill-table .ensures)) k code
       (omega (arith, h, p .count-is)) b
 
 plan-of-requires : tie.Need-plan-of-requires
