@@ -9,7 +9,7 @@
 #include <stdlib.h>
 #include <string.h>
 
-enum { BLOCK = 65536, BLOCKS = 16, RUN_CALLS = 16, SMALL_CALLS = 256, BUILD_CALLS = 7 };
+enum { BLOCK = 65536, BLOCKS = 16, RUN_CALLS = 16, SMALL_CALLS = 256, JOB_CALLS = 7 };
 
 static uint8_t scans[BLOCKS * BLOCK];
 
@@ -85,7 +85,7 @@ static void enter(size_t j, const char *name, const struct runner *runner)
 /* One call on a block. */
 static void contest_of_runs(unsigned percent, size_t rounds)
 {
-    static uint8_t table[LEAST_TABLE];
+    static uint8_t table[MOST_TABLE];
     char what[80];
     random_table(table, MOST_EQUATIONS, percent);
     struct runner runner = {.table = table, .count = MOST_EQUATIONS, .size = BLOCK, .calls = 1};
@@ -104,7 +104,7 @@ static void contest_of_runs(unsigned percent, size_t rounds)
 /* Calls on a few scans each: the loop "jump", without and with the checks of a run. */
 static void contest_of_small_calls(size_t count, size_t size, size_t rounds)
 {
-    static uint8_t table[LEAST_TABLE];
+    static uint8_t table[MOST_TABLE];
     char what[80];
     random_table(table, count, 1);
     struct runner runner = {.table = table, .count = count, .size = size, .calls = SMALL_CALLS};
@@ -120,41 +120,77 @@ static void contest_of_small_calls(size_t count, size_t size, size_t rounds)
     print(what, entrants, 3);
 }
 
-typedef uint8_t build_function(const uint8_t *, size_t, uint8_t *, size_t, size_t *);
-typedef uint8_t explain_function(const uint8_t *, size_t, const uint8_t *, size_t, uint8_t, size_t *);
-typedef uint8_t judge_function(const uint8_t *, size_t, const uint8_t *, size_t, uint8_t *, size_t, size_t *);
-
-/* A rule, a model where it is to be judged, and what becomes of them. Where a scan is to be explained, the first block of scans was kept before. */
-struct job {
-    const uint8_t *rule, *model;
-    size_t rule_len, model_len, value;
-    build_function *build;
-    explain_function *explain;
-    judge_function *judge;
-    uint8_t refused, table[LEAST_TABLE];
+/* One of these, of the library or of its twin. */
+struct function {
+    uint8_t (*count)(const uint8_t *, size_t, size_t *);
+    uint8_t (*fill)(const uint8_t *, size_t, uint8_t *, size_t, size_t *);
+    uint8_t (*explain)(const uint8_t *, size_t, const uint8_t *, size_t, uint8_t, size_t *);
+    uint8_t (*judge)(const uint8_t *, size_t, const uint8_t *, size_t, uint8_t *, size_t, size_t *);
 };
+
+struct operation {
+    const char *name;
+    struct function ours, twin;
+};
+
+static const struct operation operations[] = {
+    {"count", {.count = jarveun_count}, {.count = twin_count}},
+    {"fill", {.fill = jarveun_fill}, {.fill = twin_fill}},
+    {"explain", {.explain = jarveun_explain}, {.explain = twin_explain}},
+    {"judge", {.judge = jarveun_judge}, {.judge = twin_judge}},
+};
+
+static const struct operation short_operations[] = {
+    {"count_short", {.count = jarveun_count_short}, {.count = twin_count_short}},
+    {"fill_short", {.fill = jarveun_fill_short}, {.fill = twin_fill_short}},
+};
+
+enum { OPERATIONS = sizeof operations / sizeof operations[0], SHORT_OPERATIONS = sizeof short_operations / sizeof short_operations[0] };
+
+struct named_rule {
+    const char *name;
+    const uint8_t *bytes;
+    size_t len;
+};
+
+/* A rule, and what becomes of it. Where a scan is to be explained, the first block of scans was kept before. */
+struct job {
+    struct function function;
+    const struct named_rule *rule;
+    size_t value;
+    uint8_t refused, table[MOST_TABLE];
+};
+
+static uint8_t model[LARGEST_MODEL];
 
 static void do_job(void *work)
 {
     struct job *j = work;
-    if (j->judge)
-        j->refused = j->judge(j->rule, j->rule_len, j->model, j->model_len, j->table, LEAST_TABLE, &j->value);
-    else if (j->explain)
-        j->refused = j->explain(j->rule, j->rule_len, scans, BLOCK, scans[BLOCK], &j->value);
+    const uint8_t *rule = j->rule->bytes;
+    size_t len = j->rule->len;
+    if (j->function.count)
+        j->refused = j->function.count(rule, len, &j->value);
+    else if (j->function.fill)
+        j->refused = j->function.fill(rule, len, j->table, MOST_TABLE, &j->value);
+    else if (j->function.explain)
+        j->refused = j->function.explain(rule, len, scans, BLOCK, scans[BLOCK], &j->value);
     else
-        j->refused = j->build(j->rule, j->rule_len, j->table, LEAST_TABLE, &j->value);
+        j->refused = j->function.judge(rule, len, model, LARGEST_MODEL, j->table, MOST_TABLE, &j->value);
 }
 
 static int same_job(const void *a, const void *b)
 {
     const struct job *x = a, *y = b;
-    return x->refused == y->refused && x->value == y->value && memcmp(x->table, y->table, LEAST_TABLE) == 0;
+    return x->refused == y->refused && x->value == y->value && memcmp(x->table, y->table, MOST_TABLE) == 0;
 }
 
-static void contest_of_jobs(const char *what, struct job ours, struct job twin, size_t rounds)
+static void contest_of_jobs(const struct operation *operation, const struct named_rule *rule, size_t rounds)
 {
+    char what[80];
+    snprintf(what, sizeof what, "%s %s", operation->name, rule->name);
+    struct job ours = {.function = operation->ours, .rule = rule}, twin = {.function = operation->twin, .rule = rule};
     struct entrant entrants[] = {{what, &ours, do_job, 0, 0}, {"twin", &twin, do_job, 0, 0}};
-    compete(entrants, 2, rounds, BUILD_CALLS, same_job);
+    compete(entrants, 2, rounds, JOB_CALLS, same_job);
     if (ours.refused) {
         fprintf(stderr, "%s: refused %u at %zu\n", what, ours.refused, ours.value);
         exit(1);
@@ -163,30 +199,24 @@ static void contest_of_jobs(const char *what, struct job ours, struct job twin, 
     print(what, entrants, 2);
 }
 
-static void contests_of_rule(const char *name, const uint8_t *rule, size_t len, size_t rounds)
+static void contests_of_rule(const struct operation *all, size_t n, const struct named_rule *rule, size_t rounds)
 {
-    static uint8_t model[LARGEST_MODEL];
-    char what[80];
-    largest_model(model);
-    struct job ours = {.rule = rule, .rule_len = len, .model = model, .model_len = sizeof model, .build = jarveun_build}, twin = ours;
-    twin.build = twin_build;
-    snprintf(what, sizeof what, "build %s", name);
-    contest_of_jobs(what, ours, twin, rounds);
-    ours.explain = jarveun_explain;
-    twin.explain = twin_explain;
-    snprintf(what, sizeof what, "explain %s", name);
-    contest_of_jobs(what, ours, twin, rounds);
-    ours.judge = jarveun_judge;
-    twin.judge = twin_judge;
-    snprintf(what, sizeof what, "judge %s", name);
-    contest_of_jobs(what, ours, twin, rounds);
+    for (size_t i = 0; i < n; i++)
+        contest_of_jobs(&all[i], rule, rounds);
 }
 
-static void contest_of_shortening(const char *what, const uint8_t *rule, size_t len, size_t rounds)
+static void contests_of_rules(size_t rounds)
 {
-    struct job ours = {.rule = rule, .rule_len = len, .build = jarveun_build_short}, twin = ours;
-    twin.build = twin_build_short;
-    contest_of_jobs(what, ours, twin, rounds);
+    uint8_t chain_bytes[CHAIN_RULE];
+    const struct named_rule paper = {"paper", paper_rule, sizeof paper_rule}, hard = {"hard", hard_rule, sizeof hard_rule},
+                            chain = {"chain", chain_bytes, CHAIN_RULE}, wheels = {"wheels", wheels_rule, sizeof wheels_rule};
+    chain_rule(chain_bytes);
+    largest_model(model);
+    contests_of_rule(operations, OPERATIONS, &paper, rounds);
+    contests_of_rule(operations, OPERATIONS, &hard, rounds);
+    contests_of_rule(short_operations, SHORT_OPERATIONS, &hard, rounds);
+    contests_of_rule(short_operations, SHORT_OPERATIONS, &chain, rounds);
+    contests_of_rule(short_operations, SHORT_OPERATIONS, &wheels, rounds);
 }
 
 int main(int argc, char **argv)
@@ -205,12 +235,6 @@ int main(int argc, char **argv)
         contest_of_small_calls(count, 16, rounds);
         contest_of_small_calls(count, 50, rounds);
     }
-    contests_of_rule("paper", paper_rule, sizeof paper_rule, rounds);
-    contests_of_rule("hard", hard_rule, sizeof hard_rule, rounds);
-    uint8_t chain[CHAIN_RULE];
-    chain_rule(chain);
-    contest_of_shortening("build_short hard", hard_rule, sizeof hard_rule, rounds);
-    contest_of_shortening("build_short chain", chain, sizeof chain, rounds);
-    contest_of_shortening("build_short wheels", wheels_rule, sizeof wheels_rule, rounds);
+    contests_of_rules(rounds);
     return 0;
 }

@@ -1,4 +1,4 @@
-/* Rules whose tables take long to build, and the largest model. */
+/* Rules whose tables take long to fill, and the largest model. */
 #ifndef RULES_H
 #define RULES_H
 

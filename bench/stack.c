@@ -9,18 +9,31 @@
 
 enum { STACK = 1 << 20, PAINT = 0xa5, SCANS = 4096 };
 
-static uint8_t stack[STACK], model[LARGEST_MODEL], table[JARVEUN_TABLE], scans[SCANS], output[SCANS], verdicts[SCANS];
+static uint8_t stack[STACK], model[LARGEST_MODEL], table[JARVEUN_TABLE], short_table[JARVEUN_TABLE], scans[SCANS], output[SCANS], verdicts[SCANS];
 static const uint8_t *rule;
-static size_t rule_len, count;
+static size_t rule_len, equations;
 
-static void build(void)
+static void count(void)
 {
-    jarveun_build(rule, rule_len, table, sizeof table, &count);
+    size_t value;
+    jarveun_count(rule, rule_len, &value);
 }
 
-static void build_short(void)
+static void fill(void)
 {
-    jarveun_build_short(rule, rule_len, table, sizeof table, &count);
+    jarveun_fill(rule, rule_len, table, sizeof table, &equations);
+}
+
+static void count_short(void)
+{
+    size_t value;
+    jarveun_count_short(rule, rule_len, &value);
+}
+
+static void fill_short(void)
+{
+    size_t value;
+    jarveun_fill_short(rule, rule_len, short_table, sizeof short_table, &value);
 }
 
 static void explain(void)
@@ -38,7 +51,7 @@ static void judge(void)
 static void run(void)
 {
     size_t equation = 0, kept, dropped;
-    jarveun_run(table, sizeof table, count, &equation, scans, SCANS, output, SCANS, verdicts, SCANS, &kept, &dropped);
+    jarveun_run(table, sizeof table, equations, &equation, scans, SCANS, output, SCANS, verdicts, SCANS, &kept, &dropped);
 }
 
 /* How many bytes of the painted stack a call changes. */
@@ -58,24 +71,32 @@ static size_t depth(void (*call)(void))
     return STACK - untouched;
 }
 
-/* The most that was seen of each function. */
-static size_t building, shortening, explaining, judging, running;
+/* Each function, and the most that was seen of it. A run goes over what filling left. */
+static struct {
+    const char *name;
+    void (*call)(void);
+    size_t most;
+} functions[] = {
+    {"count", count, 0},
+    {"fill", fill, 0},
+    {"count_short", count_short, 0},
+    {"fill_short", fill_short, 0},
+    {"explain", explain, 0},
+    {"judge", judge, 0},
+    {"run", run, 0},
+};
 
-static void most(size_t *a, size_t b)
-{
-    if (*a < b)
-        *a = b;
-}
+enum { FUNCTIONS = sizeof functions / sizeof functions[0] };
 
 static void measure(const uint8_t *bytes, size_t n)
 {
     rule = bytes;
     rule_len = n;
-    most(&building, depth(build));
-    most(&shortening, depth(build_short));
-    most(&explaining, depth(explain));
-    most(&judging, depth(judge));
-    most(&running, depth(run));
+    for (size_t i = 0; i < FUNCTIONS; i++) {
+        size_t seen = depth(functions[i].call);
+        if (functions[i].most < seen)
+            functions[i].most = seen;
+    }
 }
 
 int main(void)
@@ -91,6 +112,7 @@ int main(void)
     /* One node more, where the file ends: no file has the reader go deeper. */
     nested[MOST_NODES - 1] = MAX;
     measure(nested, MOST_NODES);
-    printf("run\t%zu\nexplain\t%zu\nbuild\t%zu\nbuild_short\t%zu\njudge\t%zu\n", running, explaining, building, shortening, judging);
+    for (size_t i = 0; i < FUNCTIONS; i++)
+        printf("%s\t%zu\n", functions[i].name, functions[i].most);
     return 0;
 }

@@ -100,18 +100,27 @@ static int never_drops(const struct model *m, const uint8_t *table)
     return 1;
 }
 
+/* What is said where the model is refused: the refusals of the rule, and then 10, come first. */
+static uint8_t refuse_model(const uint8_t *rule, size_t rule_len, size_t table_len, uint8_t number, size_t place, size_t *value)
+{
+    uint8_t refused = twin_count(rule, rule_len, value);
+    if (refused)
+        return refused;
+    if (table_len < CODES * *value)
+        return refuse(value, 10, 0);
+    return refuse(value, number, place);
+}
+
 uint8_t twin_judge(const uint8_t *rule, size_t rule_len, const uint8_t *model, size_t model_len, uint8_t *table, size_t table_len, size_t *value)
 {
     struct model m;
     size_t place;
-    uint8_t model_refused = read_model(model, model_len, &m, &place);
-    if (table_len < LEAST_TABLE)
-        return refuse(value, 10, 0);
-    uint8_t rule_refused = model_refused ? twin_count(rule, rule_len, value) : twin_build(rule, rule_len, table, table_len, value);
-    if (rule_refused)
-        return rule_refused;
-    if (model_refused)
-        return refuse(value, model_refused, place);
+    uint8_t refused = read_model(model, model_len, &m, &place);
+    if (refused)
+        return refuse_model(rule, rule_len, table_len, refused, place, value);
+    refused = twin_fill(rule, rule_len, table, table_len, value);
+    if (refused)
+        return refused;
     link_steps(&m);
     *value = (size_t)never_drops(&m, table);
     return 0;

@@ -1,8 +1,21 @@
-/* Jarveun for programs in C and C++: a rule is built into a table, scans are run through the table, a dropped scan is explained by the rule, a model
-   of a phone is judged under it. README.md says what the files mean. `rt staticlib boundary` writes target/staticlib/libboundary.a, for x86-64
-   Linux; it is linked beside the program, and wants nothing but memcpy and memset of the C library.
+/* Jarveun for programs in C and C++: the equations of a rule are counted and filled into a table, scans are run through the table, a dropped scan is
+   explained by the rule, a model of a phone is judged under it. README.md says what the files mean. `rt staticlib boundary` writes
+   target/staticlib/libboundary.a, for x86-64 Linux; it is linked beside the program, and wants nothing but memcpy and memset of the C library.
 
    Every function answers 0, or the number of a refusal. Whatever the bytes are, it ends, and does what is said here.
+
+   From a rule to its table. Counting needs no table, and filling needs 256 bytes for each row. So count, set these bytes aside, and fill:
+
+       size_t count;
+       uint8_t refused = jarveun_count(rule, rule_len, &count);
+       if (refused)
+           return refused;
+       uint8_t *table = (uint8_t *)malloc(256 * count);
+       if (table)
+           refused = jarveun_fill(rule, rule_len, table, 256 * count, &count);
+
+   This filling isn't refused, and hands back the same count. jarveun_count_short and jarveun_fill_short go together in the same way. JARVEUN_TABLE
+   bytes are enough for every rule.
 
    What is handed over
    - A pointer and the length after it: that many bytes are there to be read, and where the pointer isn't const, to be written.
@@ -13,11 +26,12 @@
 
    What a call takes
    - No globals, heap, files or locks: calls share nothing, and may run side by side, any number of them on one table that they only read.
-   - Stack. At most 200 bytes were seen in use by a run, 46,000 by explaining, 47,000 by building, 80,000 by the short build and 81,000 by judging, the
-     last four on rules with 64 nodes, each inside the one before; bench/stack.c measures this.
+   - Stack. At most 200 bytes were seen in use by a run, 43,000 by counting, 46,000 by explaining, 47,000 by filling, and 81,000 by judging and by
+     counting and filling for the short table, all but the first on rules with 64 nodes, each inside the one before; bench/stack.c measures this.
 
-   The refusals. A place is an offset in bytes from 0, in the rule, or for 11 to 14 in the model, and for 17 in the kept scans. Where none is named
-   below, it is that of the record's first byte.
+   The refusals. The first to apply is answered. Each function names those that it looks for, in their order; 1 to 7 go by the records of the rule from
+   left to right, 8 comes after them and 9 after 8, and 11 to 14 go by the records of the model from left to right. A place is an offset in bytes from
+   0, in the rule, or for 11 to 14 in the model, and for 17 in the kept scans. Where none is named below, it is that of the record's first byte.
     1  the rule ends before its formula is whole; at its length
     2  a record of the rule with a kind that isn't 1 to 7
     3  a byte after the whole formula, or a pattern once the formula has begun; at that byte
@@ -27,7 +41,7 @@
     7  a variable with no necessity between it and its max
     8  opening the formula gives ff at once: no model satisfies the rule; at 0
     9  the rule has over 128 equations; at 0
-   10  the table has under 32,768 bytes; at 0
+   10  the table has under 256 bytes for each row that it is to have; at 0
    11  the model is empty, or ends inside a record; at its length
    12  a record of the model with another kind than is due, or a count of states that isn't 1 to 64
    13  a step with a state that isn't under the count
@@ -46,24 +60,35 @@
 extern "C" {
 #endif
 
-/* The least size of a table for both builds and for judging. */
+/* The bytes of the longest table, which has 128 rows. */
 #define JARVEUN_TABLE 32768
 
 /* What explaining hands back for a kept scan. A rule has at most 64 nodes, numbered from 0, so no node has this number. */
 #define JARVEUN_KEPT 64
 
-/* Builds the table of a rule. The table has at least JARVEUN_TABLE bytes. Refusals: 10, then 1 to 9.
-   0: *value is the count of equations, 1 to 128. Row k, the 256 bytes of the table from 256 * k on, has an entry for each code: the next equation,
-   or 255 where the code is dropped. The bytes after the last row are as they were.
-   Refused: *value is the place, and the table is as it was. *value is never read. */
-uint8_t jarveun_build(const uint8_t *rule, size_t rule_len, uint8_t *table, size_t table_len, size_t *value);
+/* Counts the equations of a rule. Refusals: 1 to 9.
+   0: *value is their count, 1 to 128.
+   Refused: *value is the place. *value is never read, and nothing else is written. */
+uint8_t jarveun_count(const uint8_t *rule, size_t rule_len, size_t *value);
 
-/* Builds the shortest table of a rule: equations that drop alike on every list of scans are one, and the rows are numbered as a search from row 0
-   finds them. A run over it keeps and drops what one over the table of jarveun_build does. The table has at least JARVEUN_TABLE bytes here too.
-   Refusals: 10, then 1 to 9, where 9 counts the equations before they are merged.
-   0: *value is the count of rows, 1 to 128, and they are of the form that jarveun_build has. The bytes after the last row are as they were.
+/* Fills a table with a row for each equation of a rule. The table has at least 256 * count bytes, by the count of jarveun_count. Refusals: 1 to 9,
+   then 10.
+   0: *value is the count. Row k, the 256 bytes of the table from 256 * k on, has an entry for each code: the next equation, or 255 where the code is
+   dropped. The bytes after the last row are as they were.
    Refused: *value is the place, and the table is as it was. *value is never read. */
-uint8_t jarveun_build_short(const uint8_t *rule, size_t rule_len, uint8_t *table, size_t table_len, size_t *value);
+uint8_t jarveun_fill(const uint8_t *rule, size_t rule_len, uint8_t *table, size_t table_len, size_t *value);
+
+/* Counts the rows of the shortest table of a rule: equations that drop alike on every list of scans are one. Refusals: 1 to 9, where 9 counts the
+   equations before they are merged.
+   0: *value is the count of rows, 1 to 128, and never over that of jarveun_count.
+   Refused: *value is the place. *value is never read, and nothing else is written. */
+uint8_t jarveun_count_short(const uint8_t *rule, size_t rule_len, size_t *value);
+
+/* Fills a table with these rows, numbered as a search from row 0 finds them. A run over it keeps and drops what one over the table of jarveun_fill
+   does. The table has at least 256 * count bytes, by the count of jarveun_count_short. Refusals: 1 to 9 as there, then 10.
+   0: *value is the count, and the rows are of the form that jarveun_fill has. The bytes after the last row are as they were.
+   Refused: *value is the place, and the table is as it was. *value is never read. */
+uint8_t jarveun_fill_short(const uint8_t *rule, size_t rule_len, uint8_t *table, size_t table_len, size_t *value);
 
 /* Explains why a scan is dropped after the scans kept so far; any list of them that doesn't violate the rule is taken. Refusals: 1 to 9, then 17.
    0: *value is the number of the lowest ff node that the scan opens, 1 to 63, or JARVEUN_KEPT where the scan is kept. A node's number is how many
@@ -71,12 +96,12 @@ uint8_t jarveun_build_short(const uint8_t *rule, size_t rule_len, uint8_t *table
    Refused: *value is the place. *value is never read, and nothing else is written. */
 uint8_t jarveun_explain(const uint8_t *rule, size_t rule_len, const uint8_t *kept, size_t kept_len, uint8_t scan, size_t *value);
 
-/* Judges a model under a rule. The table has at least JARVEUN_TABLE bytes. Refusals: 10, then 1 to 9, then 11 to 14.
-   0: *value is 1 where the model meets the rule, and 0 where it breaks it. The table is as building leaves it.
+/* Judges a model under a rule. The table has at least 256 * count bytes, by the count of jarveun_count. Refusals: 1 to 9, then 10, then 11 to 14.
+   0: *value is 1 where the model meets the rule, and 0 where it breaks it. The table is as jarveun_fill leaves it.
    Refused: *value is the place, and the table is as it was. *value is never read. */
 uint8_t jarveun_judge(const uint8_t *rule, size_t rule_len, const uint8_t *model, size_t model_len, uint8_t *table, size_t table_len, size_t *value);
 
-/* Runs scans through a table with so many equations, as one of the builds answered. The table has at least 256 * count bytes, and no others are looked at;
+/* Runs scans through a table with so many equations, as its filling answered. The table has at least 256 * count bytes, and no others are looked at;
    the output and the verdicts have each at least as many bytes as there are scans. Refusals: 15, then 16.
    *equation goes in and comes out: the first equation, 0, before the first call, and then what the last call left there.
    0: the kept scans are at the front of the output, *kept of them, and at the front of the verdicts there is a byte for each scan, 0 kept or

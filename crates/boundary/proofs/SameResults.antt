@@ -1,7 +1,13 @@
 -- Equal answers have the same number and value.
-use mathlib.Core.Path.{_≡_, ap}
+use Prim.Native.Nat.{ℕ}
+use mathlib.Core.Path.{_≡_, _∙_, ap}
 use Rattle.boundary.specs.Results.{Result}
 
 pub alike : {A : Type 0} (result : A → Result) {x y : A} → x ≡ y
     → (result x .number ≡ result y .number) × (result x .value ≡ result y .value)
 alike {A} result same = (ap (λ (x : A). result x .number) same, ap (λ (x : A). result x .value) same)
+
+-- what is handed back for an answer is handed back for one that is equal
+pub passed-on : {A : Type 0} (result : A → Result) {x y : A} {number value : ℕ} → (number ≡ result x .number) × (value ≡ result x .value)
+    → x ≡ y → (number ≡ result y .number) × (value ≡ result y .value)
+passed-on result handed same = (handed .0 ∙ alike result same .0, handed .1 ∙ alike result same .1)

@@ -19,7 +19,7 @@ pub record Result : Type 0 where
   pub number : ℕ
   pub value : ℕ
 
--- building: the count of equations
+-- counting and filling: the count of equations
 abbrev pub countedResult : Counted → Result
 countedResult (Counted′.the-variants.Equations n) = record { number = 0; value = n }
 countedResult (Counted′.the-variants.Refused number place) = record { number = number; value = place }

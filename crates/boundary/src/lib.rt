@@ -1,6 +1,6 @@
-// The library for programs in C: both builds, explaining, judging and running, under plain names. A slice is a pointer and a length; the contracts suppose that
-// it is good, and apart from what is changed. include/jarveun.h declares the functions, and says what a caller owes. The definitions that the
-// contracts cite stand in specs/ of the layers; Results.antt has the answers as numbers.
+// The library for programs in C: counting, filling, explaining, judging and running, under plain names. A slice is a pointer and a length; the
+// contracts suppose that it is good, and apart from what is changed. include/jarveun.h declares the functions, and says what a caller owes. The
+// definitions that the contracts cite stand in specs/ of the layers; Results.antt has the answers as numbers.
 use models::Judged;
 use running::Checked;
 use running::State;
@@ -9,7 +9,7 @@ use synthesis::Reason;
 ghost use mathlib.Core.Path.{_≡_};
 ghost use lib.ListN.{length};
 ghost use Rattle.synthesis.specs.Monitor.{mark, most};
-ghost use Rattle.synthesis.specs.Building.{fillingOf, shortFillingOf, countedOf, tableAfter};
+ghost use Rattle.synthesis.specs.Building.{synthesisOf, fillingOf, shortOf, shortFillingOf, countedOf, tableAfter};
 ghost use Rattle.synthesis.specs.Reason.{explanationOf, reasonOf};
 ghost use Rattle.running.specs.Running.{runOf, outputAfter, verdictsAfter};
 ghost use Rattle.models.specs.Judging.{judgingOf, JudgedAs, tableJudged};
@@ -18,7 +18,7 @@ ghost use Rattle.boundary.specs.Results.{countedResult, reasonResult, ju
 // What is handed back in place of a node where a scan is kept. No node of a rule has this number.
 const KEPT_VALUE: usize = 64;
 
-// Hands back what a build answers: 0, with the count of equations in `value`, or the number of a refusal, with its place.
+// Hands back what counting or filling answers: 0, with the count of equations in `value`, or the number of a refusal, with its place.
 fn hand_back(answer: Counted, value: &mut usize) -> u8
     ensures { λ r. ⌜ r ≡ countedResult answer .number ⌝ }
     ensures { λ _. ⌜ now (value .exit) ≡ countedResult answer .value ⌝ }
@@ -35,7 +35,16 @@ fn hand_back(answer: Counted, value: &mut usize) -> u8
     }
 }
 
-// Fills a table as building does, and hands back its answer.
+// Counts the equations of a rule.
+#[no_mangle]
+pub extern "C" fn jarveun_count(rule: &[u8], value: &mut usize) -> u8
+    ensures { λ r. ⌜ r ≡ countedResult (countedOf (synthesisOf most (now (rule .entry)))) .number ⌝ }
+    ensures { λ _. ⌜ now (value .exit) ≡ countedResult (countedOf (synthesisOf most (now (rule .entry)))) .value ⌝ }
+{
+    hand_back(synthesis::count(rule), value)
+}
+
+// Fills a table with the rows of a rule's equations.
 #[no_mangle]
 pub extern "C" fn jarveun_fill(rule: &[u8], table: &mut [u8], value: &mut usize) -> u8
     ensures { λ r. ⌜ r ≡ countedResult (countedOf (fillingOf most (now (rule .entry)) (length (now (table .entry))))) .number ⌝ }
@@ -45,7 +54,16 @@ pub extern "C" fn jarveun_fill(rule: &[u8], table: &mut [u8], value: &mut usize)
     hand_back(synthesis::fill(rule, table), value)
 }
 
-// The same by the short build.
+// Counts the rows of a rule's short table.
+#[no_mangle]
+pub extern "C" fn jarveun_count_short(rule: &[u8], value: &mut usize) -> u8
+    ensures { λ r. ⌜ r ≡ countedResult (countedOf (shortOf most (now (rule .entry)))) .number ⌝ }
+    ensures { λ _. ⌜ now (value .exit) ≡ countedResult (countedOf (shortOf most (now (rule .entry)))) .value ⌝ }
+{
+    hand_back(synthesis::count_short(rule), value)
+}
+
+// Fills a table with these rows.
 #[no_mangle]
 pub extern "C" fn jarveun_fill_short(rule: &[u8], table: &mut [u8], value: &mut usize) -> u8
     ensures { λ r. ⌜ r ≡ countedResult (countedOf (shortFillingOf most (now (rule .entry)) (length (now (table .entry))))) .number ⌝ }

@@ -1,8 +1,7 @@
--- `jarveun_fill` meets its contract: its two numbers are those of what `build` answers.
-use mathlib.Core.Path.{_∙_}
+-- `jarveun_fill` meets its contract: its two numbers are those of what `fill` answers.
 use borrow.Author.Needs.{needs}
 use Rattle.boundary.specs.Results.{countedResult}
-use Rattle.boundary.proofs.SameResults.{alike}
+use Rattle.boundary.proofs.SameResults.{passed-on}
 use Rattle.boundary.proofs.jarveun_fill.Statement.{statement}
 use Rattle.boundary.proofs.jarveun_fill.Tie as tie
 
@@ -17,9 +16,9 @@ same-length c = search needs
 
 returns : tie.Need-returns
 returns c =
-    let built = c .before .before .before .before .fill .ensures in
-    let same = alike countedResult (built .0) in
-    (c .hand-back .ensures .0 ∙ same .0, (c .hand-back .ensures .1 ∙ same .1, built .1))
+    let filled = c .before .before .before .before .fill .ensures in
+    let same = passed-on countedResult (c .hand-back .ensures) (filled .0) in
+    (same .0, (same .1, filled .1))
 
 pub jarveun-fill-spec : {M : Type 1} → statement M
 jarveun-fill-spec = tie.close (tie.spec fill-requires hand-back-requires same-length returns)

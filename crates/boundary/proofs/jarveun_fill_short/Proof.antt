@@ -1,8 +1,7 @@
 -- `jarveun_fill_short` meets its contract: its two numbers are those of what `fill_short` answers.
-use mathlib.Core.Path.{_∙_}
 use borrow.Author.Needs.{needs}
 use Rattle.boundary.specs.Results.{countedResult}
-use Rattle.boundary.proofs.SameResults.{alike}
+use Rattle.boundary.proofs.SameResults.{passed-on}
 use Rattle.boundary.proofs.jarveun_fill_short.Statement.{statement}
 use Rattle.boundary.proofs.jarveun_fill_short.Tie as tie
 
@@ -17,9 +16,9 @@ same-length c = search needs
 
 returns : tie.Need-returns
 returns c =
-    let built = c .before .before .before .before .fill-short .ensures in
-    let same = alike countedResult (built .0) in
-    (c .hand-back .ensures .0 ∙ same .0, (c .hand-back .ensures .1 ∙ same .1, built .1))
+    let filled = c .before .before .before .before .fill-short .ensures in
+    let same = passed-on countedResult (c .hand-back .ensures) (filled .0) in
+    (same .0, (same .1, filled .1))
 
 pub jarveun-fill-short-spec : {M : Type 1} → statement M
 jarveun-fill-short-spec = tie.close (tie.spec fill-short-requires hand-back-requires same-length returns)

@@ -1,4 +1,5 @@
-/* Builds the table of a rule and the shortest one, and explains why a scan is dropped. Sets of nodes are numbers, node k is bit k. */
+/* Counts the equations of a rule, fills its table and the shortest one, and explains why a scan is dropped. Sets of nodes are numbers, node k is
+   bit k. */
 #include "jarveun.h"
 #include "twin.h"
 
@@ -95,7 +96,7 @@ static size_t search(const struct graph *g, uint64_t *found)
     return n;
 }
 
-static void fill(const struct graph *g, uint64_t *found, size_t n, uint8_t *restrict table)
+static void fill_rows(const struct graph *g, uint64_t *found, size_t n, uint8_t *restrict table)
 {
     for (size_t k = 0; k < n; k++) {
         uint64_t equation = found[k];
@@ -131,17 +132,24 @@ uint8_t twin_count(const uint8_t *rule, size_t rule_len, size_t *value)
     return plan(rule, rule_len, &g, found, value);
 }
 
-uint8_t twin_build(const uint8_t *rule, size_t rule_len, uint8_t *table, size_t table_len, size_t *value)
+/* 0 where so many rows fit into a table, or refusal 10 with its place. */
+static uint8_t fit(size_t table_len, size_t *value)
+{
+    if (table_len >= CODES * *value)
+        return 0;
+    *value = 0;
+    return 10;
+}
+
+uint8_t twin_fill(const uint8_t *rule, size_t rule_len, uint8_t *table, size_t table_len, size_t *value)
 {
     struct graph g;
     uint64_t found[MOST_EQUATIONS + 1];
-    if (table_len < LEAST_TABLE) {
-        *value = 0;
-        return 10;
-    }
     uint8_t refused = plan(rule, rule_len, &g, found, value);
     if (!refused)
-        fill(&g, found, *value, table);
+        refused = fit(table_len, value);
+    if (!refused)
+        fill_rows(&g, found, *value, table);
     return refused;
 }
 
@@ -172,32 +180,62 @@ static int refine(const uint8_t *table, size_t n, uint8_t *classes)
     return changed;
 }
 
-/* Fills a table with a row for each class of the n equations of a longer one, and says how many there are. */
-static size_t shorten(const uint8_t *longer, size_t n, uint8_t *restrict table)
+/* What the short table is filled from: the rows of all equations, the first equation of each class, and the number of each one's class. */
+struct short_plan {
+    uint8_t rows[MOST_TABLE], firsts[MOST_EQUATIONS], numbers[CODES];
+};
+
+/* Numbers the classes of the n equations, and says how many there are. */
+static size_t number_classes(struct short_plan *p, size_t n)
 {
-    uint8_t classes[CODES] = {[DROPPED] = DROPPED}, numbers[CODES] = {[DROPPED] = DROPPED};
+    uint8_t classes[CODES] = {[DROPPED] = DROPPED};
     size_t m = 0;
-    while (refine(longer, n, classes))
+    while (refine(p->rows, n, classes))
         ;
-    for (size_t k = 0; k < n; k++)
-        numbers[k] = classes[k] == k ? (uint8_t)m++ : numbers[classes[k]];
-    for (size_t k = 0; k < n; k++)
-        if (classes[k] == k)
-            for (size_t code = 0; code < CODES; code++)
-                *table++ = numbers[longer[CODES * k + code]];
+    p->numbers[DROPPED] = DROPPED;
+    for (size_t k = 0; k < n; k++) {
+        if (classes[k] == k) {
+            p->firsts[m] = (uint8_t)k;
+            p->numbers[k] = (uint8_t)m++;
+        } else {
+            p->numbers[k] = p->numbers[classes[k]];
+        }
+    }
     return m;
 }
 
-uint8_t twin_build_short(const uint8_t *rule, size_t rule_len, uint8_t *table, size_t table_len, size_t *value)
+/* As `plan`, for the short table: 0 and the count of classes, or one of refusals 1 to 9 with its place. */
+static uint8_t plan_short(const uint8_t *rule, size_t rule_len, struct short_plan *p, size_t *value)
 {
-    uint8_t longer[LEAST_TABLE];
-    if (table_len < LEAST_TABLE) {
-        *value = 0;
-        return 10;
-    }
-    uint8_t refused = twin_build(rule, rule_len, longer, LEAST_TABLE, value);
+    uint8_t refused = twin_fill(rule, rule_len, p->rows, MOST_TABLE, value);
     if (!refused)
-        *value = shorten(longer, *value, table);
+        *value = number_classes(p, *value);
+    return refused;
+}
+
+static void fill_short_rows(const struct short_plan *p, size_t m, uint8_t *restrict table)
+{
+    for (size_t i = 0; i < m; i++) {
+        const uint8_t *row = p->rows + CODES * p->firsts[i];
+        for (size_t code = 0; code < CODES; code++)
+            *table++ = p->numbers[row[code]];
+    }
+}
+
+uint8_t twin_count_short(const uint8_t *rule, size_t rule_len, size_t *value)
+{
+    struct short_plan p;
+    return plan_short(rule, rule_len, &p, value);
+}
+
+uint8_t twin_fill_short(const uint8_t *rule, size_t rule_len, uint8_t *table, size_t table_len, size_t *value)
+{
+    struct short_plan p;
+    uint8_t refused = plan_short(rule, rule_len, &p, value);
+    if (!refused)
+        refused = fit(table_len, value);
+    if (!refused)
+        fill_short_rows(&p, *value, table);
     return refused;
 }
 
