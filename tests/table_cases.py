@@ -19,7 +19,7 @@ SIZES = [0, 255, 256, 32767, 40000]
 ROW_SIZES = [1, 32512, 32769, 33023, 33024, 39935, 39936, 65535, 65536]
 
 # There are at least so many cases of each sort.
-LEAST = 10
+LEAST = 5
 SORTS = [f"{number} before 10" for number in range(1, 10)]
 SORTS += ["10 for both tables", "10 for the long table alone", "rows that just fit", "a byte too few"]
 
