@@ -1,7 +1,8 @@
 -- Each promise of this crate, by its theorem.
 use Rattle.commands.specs.Promises.{Promises}
 use Rattle.commands.proofs.Printing.{prints-answer, settled-by-buffer, judgment-settled-by-buffer}
-use Rattle.commands.proofs.SiftingLaws.{sifts-by-rule, no-calls-refused}
+use Rattle.commands.proofs.SiftingLaws.{sifts-by-rule, no-calls-refused, sift-hands-back}
+use Rattle.commands.proofs.JudgingFiles.{meets-exactly, judged-texts}
 
 pub promises : Promises
 promises = record {
@@ -10,4 +11,7 @@ promises = record {
   judgment-settled-by-buffer = judgment-settled-by-buffer;
   sifts-by-rule = sifts-by-rule;
   no-calls-refused = no-calls-refused;
+  sift-hands-back = sift-hands-back;
+  meets-exactly = meets-exactly;
+  judged-texts = judged-texts;
 }

@@ -19,7 +19,7 @@ use Rattle.running.proofs.Refusals.{runs-on-tables}
 use Rattle.running.proofs.Histories.{calls-weaken, one-run}
 use Rattle.running.proofs.DemandTwo.{drops-exactly}
 use Rattle.commands.specs.Sifting.{EndsCalls, FitOn, EndsCallsOn, GoesOn, UnderRule}
-use Rattle.commands.specs.Promises.{SiftsByRule, NoCallsRefused}
+use Rattle.commands.specs.Promises.{SiftsByRule, NoCallsRefused, SiftHandsBack}
 use Rattle.commands.proofs.ProgramTables.{any-table}
 
 -- ---- calls on one table
@@ -71,3 +71,9 @@ pub no-calls-refused : NoCallsRefused
 no-calls-refused s table number place e h none = refl
 no-calls-refused s table number place e h (call before c calls bytes under) =
     let k = under .answered in let z : _≡_ {A = ℕ} 0 1 = cc in absurd (omega arith)
+
+pub sift-hands-back : SiftHandsBack
+sift-hands-back s table x bytes sifts = record {
+  answer = sifts .answer;
+  state = λ r n read counted. let (h, calls, ends) = sifts .state in (h, sifts-by-rule s table r n bytes read counted h calls, ends);
+}

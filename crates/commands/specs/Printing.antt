@@ -5,13 +5,14 @@ use mathlib.Core.Bool.{Bool, true, false, cond}
 use mathlib.Core.List.{List, map}
 use lib.ListN.{length}
 use Rattle.reading.specs.Pattern.{extentOf}
-use Rattle.reading.specs.File.{Outcome, accepted, refused, ruleOf}
+use Rattle.reading.specs.File.{Outcome, accepted, refused, andThen, ruleOf}
 use Rattle.reading.specs.Numbered.{readingOf}
 use Rattle.reading.specs.declared.NumberedRule.{NumberedRule}
 use Rattle.synthesis.specs.Monitor.{mark}
 use Rattle.synthesis.specs.Building.{Synthesis, synthesisOf, countedOf, tableAfter}
 use Rattle.synthesis.specs.declared.Counted.{Counted}
 use Rattle.synthesis.specs.declared.Counted.the-variants.{Equations, Refused}
+use Rattle.models.specs.Judging.{withModel, JudgedAs}
 use Rattle.models.specs.declared.Judged.{Judged}
 use Rattle.models.specs.declared.Judged as Judged′
 use Rattle.listing.specs.Lines.{refusalLine, judgmentLine, listing}
@@ -28,6 +29,10 @@ abbrev pub judgedText : Judged → List ℕ
 judgedText Judged′.the-variants.Meets = judgmentLine true
 judgedText Judged′.the-variants.Breaks = judgmentLine false
 judgedText (Judged′.the-variants.Refused number place) = refusalLine number place
+
+-- what `meets` hands back for a rule file and a model file
+abbrev pub JudgesFiles : (s f : List ℕ) → Judged → Type 0
+JudgesFiles s f answer = JudgedAs (andThen (synthesisOf 128 s) (withModel f)) answer
 
 -- ---- how far printing comes
 

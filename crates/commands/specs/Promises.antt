@@ -7,15 +7,23 @@ use lib.ListN.{take}
 use Rattle.reading.specs.Rule.{Rule, Bytes}
 use Rattle.reading.specs.File.{accepted, andThen, ruleOf}
 use Rattle.reading.specs.Numbered.{readingOf}
+use Rattle.reading.specs.declared.FileRead.the-variants.{Refused as NotAccepted}
 use Rattle.synthesis.specs.Monitor.{mark, most}
 use Rattle.synthesis.specs.Building.{synthesisOf, countedOf, tableAfter}
 use Rattle.synthesis.specs.declared.Counted.the-variants.{Equations, Refused}
 use Rattle.running.specs.Calls.{History, noCalls, Calls}
 use Rattle.running.specs.Promises.{Sifted}
-use Rattle.models.specs.Judging.{withModel}
+use Rattle.models.specs.Phone.{Phone, phoneOf}
+use Rattle.models.specs.Judging.{modelReadingOf, withModel}
+use Rattle.models.specs.Promises.{JudgedExactly}
+use Rattle.models.specs.declared.Judged.{Judged}
+use Rattle.models.specs.declared.Judged.the-variants.{Meets, Breaks, Refused as NotJudged}
+use Rattle.listing.specs.Text.{text}
+use Rattle.listing.specs.Lines.{refusalLine}
 use Rattle.commands.specs.declared.EquationsResult.{EquationsResult}
-use Rattle.commands.specs.Printing.{textFor, printed, Shows}
-use Rattle.commands.specs.Sifting.{UnderRule}
+use Rattle.commands.specs.declared.SiftResult.{SiftResult}
+use Rattle.commands.specs.Printing.{textFor, judgedText, JudgesFiles, printed, Shows}
+use Rattle.commands.specs.Sifting.{UnderRule, Sifts}
 
 -- A program takes rules of at most 128 equations. Its table has 256 bytes for each of so many, so that 10 never comes: the answer is that of counting.
 
@@ -46,12 +54,42 @@ NoCallsRefused =
     (s table : List ℕ) (number place : ℕ) → countedOf (synthesisOf 128 s) ≡ Refused number place
     → (h : History) → Calls most mark (UnderRule (synthesisOf 128 s) table) h → h ≡ noCalls
 
+-- So this is what `sift` hands back: the answer of counting, and under an accepted rule a state in which scans that were sifted by the rule leave the run.
+pub record HandsBack (s : List ℕ) (x : SiftResult) : Type 0 where
+  pub answer : x .answer ≡ countedOf (synthesisOf 128 s)
+  pub state : (r : Rule) (n : ℕ) → ruleOf s ≡ accepted r → countedOf (synthesisOf 128 s) ≡ Equations n
+      → (h : History) × Sifted r h × (x .state ≡ h .state)
+
+abbrev pub SiftHandsBack : Type 0
+SiftHandsBack = (s table : List ℕ) (x : SiftResult) → Bytes s → Sifts s table x → HandsBack s x
+
+-- 4. What `meets` hands back: the refusal of the rule, if it has one, else that of the model; 10 doesn't come. Where neither is refused, it is "meets"
+-- exactly when the model satisfies the rule, and else "breaks".
+pub record MeetsFiles (s f : List ℕ) (answer : Judged) : Type 1 where
+  pub rule : (number place : ℕ) → countedOf (synthesisOf 128 s) ≡ Refused number place → answer ≡ NotJudged number place
+  pub model : (n : ℕ) → countedOf (synthesisOf 128 s) ≡ Equations n
+      → (number place : ℕ) → modelReadingOf (phoneOf f) .answer ≡ NotAccepted number place → answer ≡ NotJudged number place
+  pub judged : (r : Rule) (n : ℕ) (y : Phone) → ruleOf s ≡ accepted r → countedOf (synthesisOf 128 s) ≡ Equations n → phoneOf f ≡ accepted y
+      → JudgedExactly r y answer
+
+abbrev pub MeetsExactly : Type 1
+MeetsExactly = (s f : List ℕ) (answer : Judged) → Bytes s → JudgesFiles s f answer → MeetsFiles s f answer
+
+-- The line that is due to a judgment.
+pub record JudgedTexts : Type 0 where
+  pub meets : judgedText Meets ≡ text "meets\n"
+  pub breaks : judgedText Breaks ≡ text "breaks\n"
+  pub refused : (number place : ℕ) → judgedText (NotJudged number place) ≡ refusalLine number place
+
 -- ---- all of these
 
 -- The theorem `promises` has this type, so that each promise has its proof.
-pub record Promises : Type 0 where
+pub record Promises : Type 1 where
   pub prints-answer : PrintsAnswer
   pub settled-by-buffer : SettledByBuffer
   pub judgment-settled-by-buffer : JudgmentSettledByBuffer
   pub sifts-by-rule : SiftsByRule
   pub no-calls-refused : NoCallsRefused
+  pub sift-hands-back : SiftHandsBack
+  pub meets-exactly : MeetsExactly
+  pub judged-texts : JudgedTexts

@@ -9,11 +9,8 @@ ghost use mathlib.Core.List.{List};
 ghost use Prim.Native.Nat.{ℕ, _*_};
 ghost use lib.ListN.{length};
 ghost use Rattle.reading.specs.Rule.{Bytes};
-ghost use Rattle.reading.specs.File.{andThen};
-ghost use Rattle.synthesis.specs.Building.{synthesisOf};
 ghost use Rattle.listing.specs.Positions.{lineOf, Within};
-ghost use Rattle.models.specs.Judging.{withModel, JudgedAs};
-ghost use Rattle.commands.specs.Printing.{judgedText};
+ghost use Rattle.commands.specs.Printing.{judgedText, JudgesFiles};
 
 // The line of an answer.
 fn answer_line(answer: Judged) -> Line
@@ -31,7 +28,7 @@ fn answer_line(answer: Judged) -> Line
 fn print_judged(rule: &[u8], model: &[u8], table: &mut [u8]) -> Judged
     requires { ⌜ length (now table) ≡ 256 * 128 ⌝ }
     ensures { λ _. ⌜ Bytes (now (rule .entry)) × Bytes (now (model .entry)) ⌝ }
-    ensures { λ r. ⌜ JudgedAs (andThen (synthesisOf 128 (now (rule .entry))) (withModel (now (model .entry)))) r ⌝ }
+    ensures { λ r. ⌜ JudgesFiles (now (rule .entry)) (now (model .entry)) r ⌝ }
 {
     let answer = models::judge(rule, model, table);
     print_line(b"meets: standard output", answer_line(answer));
@@ -41,7 +38,7 @@ fn print_judged(rule: &[u8], model: &[u8], table: &mut [u8]) -> Judged
 // Reads a rule from the file rule.bin and a model from the file model.bin, prints whether the model meets the rule or why one is refused, and
 // hands back the answer. No more than 4,096 bytes are read of each.
 pub fn meets() -> Judged
-    ensures { λ r. ⌜ ((s : List ℕ) × (f : List ℕ) × Bytes s × Bytes f × JudgedAs (andThen (synthesisOf 128 s) (withModel f)) r) ⌝ }
+    ensures { λ r. ⌜ ((s : List ℕ) × (f : List ℕ) × Bytes s × Bytes f × JudgesFiles s f r) ⌝ }
 {
     let mut rule = io::buffer();
     let n = read_file(b"meets: rule.bin", b"rule.bin", &mut rule);
