@@ -1,10 +1,10 @@
 -- The three demands hold, by the promises of the layers at the limit `most` and the mark `mark`.
-use Prim.Native.Nat.{ℕ, _≤_}
-use mathlib.Core.Path.{_≡_}
+use Prim.Native.Nat.{ℕ, _*_, _≤_}
+use mathlib.Core.Path.{_≡_, refl}
 use mathlib.Core.Logic.{inl, inr}
 use mathlib.Core.List.{List}
 use native.Mathlib.Omega.{arith}
-use lib.ListN.{length}
+use lib.ListN.{length, replicate, length-replicate}
 use Rattle.reading.proofs.Accepting.Accepted.{answers-accepted as rules-accepted}
 use Rattle.reading.proofs.Refusing.FaultsRefused as rules
 use Rattle.synthesis.specs.Monitor.{mark, most}
@@ -32,7 +32,7 @@ use Rattle.models.proofs.Files.FileFaults as models
 use Rattle.models.proofs.Judgments.Accepting.{accepts-exactly, short-accepts-exactly, fills-exactly, short-fills-exactly}
 use Rattle.models.proofs.Judgments.JudgingLaws as judging
 use Rattle.models.proofs.Judgments.TablesEnforce.{tables-enforce, short-tables-enforce, short-bisimilar}
-use Rattle.demands.specs.Outcomes.{counting, filling, shortCounting, shortFilling, running}
+use Rattle.demands.specs.Outcomes.{counting, filling, shortCounting, shortFilling, shortTableFilled, running}
 use Rattle.demands.specs.Refusals.{RunRefused, short-buffer, unfit}
 use Rattle.demands.specs.Demands.{DemandOne, DemandTwo, DemandTwoShort, DemandThree}
 use Rattle.demands.proofs.Refused.{count-refused, count-short-refused, fill-refused}
@@ -44,6 +44,7 @@ use Rattle.demands.proofs.RefusedCalls.{run-refused, run-fit, judge-ref
 
 pub demand-one : DemandOne
 demand-one = record {
+  numbers = record { most-equations = refl; dropped-entry = refl };
   refuses = record {
     read-rule = rules.refuses-at-the-fault;
     count = count-refused;
@@ -116,7 +117,16 @@ demand-two-short = record {
   fills = λ s table r n left. tables.fills-by-iff shortFillingOf most mark s table r n left (omega arith);
   accepts = short-accepts-exactly most;
   counts = short-refuses-alike most;
-  shortest = shortest-monitor most mark;
+  shortest = λ s bytes r n read counted.
+      let table = replicate {A = ℕ} (256 * n) 0 in
+      let fills = record {
+        below = omega arith;
+        bytes = bytes;
+        read = read;
+        counted = short-fills-as-counted most s (length table) .enough n counted (omega (arith, length-replicate {A = ℕ} (256 * n) 0));
+        left-is = refl;
+      } in
+      shortest-monitor most mark s table r n (shortTableFilled s table) fills;
   as-counted = λ s table. short-fills-as-counted most s (length table);
   with-room = λ s table. short-fills-exactly most s (length table);
 }

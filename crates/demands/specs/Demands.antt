@@ -72,7 +72,13 @@ pub record LeavesTheRest : Type 0 where
   pub judge : (s table f : List ℕ) (answer : Judged) → JudgedAs (judging s table f) answer → (answer ≡ Judged′.Meets) ⊎ (answer ≡ Judged′.Breaks)
       → tableAfterJudging s table f ≡ tableFilled s table
 
+-- The numbers of the library: the most equations that a rule may have, and the entry of a code that is dropped.
+pub record LibraryNumbers : Type 0 where
+  pub most-equations : most ≡ 128
+  pub dropped-entry : mark ≡ 255
+
 pub record DemandOne : Type 1 where
+  pub numbers : LibraryNumbers
   pub refuses : RefusesExactly
   pub unchanged : LeavesUnchanged
   pub rest : LeavesTheRest
@@ -123,7 +129,7 @@ pub record DemandTwoShort : Type 1 where
       ↔ (RuleWithinLimits r × (s ≡ encode r) × (countedOf (shortFilling s table) ≡ Counted.Equations n) × (left ≡ shortTableFilled s table))
   pub accepts : (s : List ℕ) → Bytes s → ((n : ℕ) × (countedOf (shortCounting s) ≡ Counted.Equations n)) ↔ Acceptable most s
   pub counts : (s : List ℕ) → RefusesAlike most s
-  pub shortest : (s table : List ℕ) (r : Rule) (n : ℕ) (left : List ℕ) → FillsShort most mark s table r n left
+  pub shortest : (s : List ℕ) → Bytes s → (r : Rule) (n : ℕ) → ruleOf s ≡ accepted r → countedOf (shortCounting s) ≡ Counted.Equations n
       → (rows : ℕ) (rival : List ℕ) → WellFormedTable rows mark rows rival → Monitors r (lookup 256 mark rival) 0 → n ≤ rows
   pub as-counted : (s table : List ℕ) → FillsAsCounted (shortCounting s) (shortFilling s table) (length table)
   pub with-room : (s table : List ℕ) → Bytes s → FillsWithRoom most s (shortCounting s) (shortFilling s table) (length table)

@@ -24,7 +24,6 @@ paper-examples = record {
     nodes-with-body = (refl, refl);
     steps = (refl, refl, refl);
   };
-  library-numbers = record { most-equations = refl; dropped-mark = refl };
   number-pool = number-pool;
   pool-table = pool-table;
   texts = record { refusal = refl; meets = refl; breaks = refl; one-digit = refl; two-digits = refl; four-digits = refl };

@@ -59,13 +59,6 @@ pub record KindBytes : Type 0 where
   pub nodes-with-body : (necessityKind ≡ 5) × (variableKind ≡ 7)
   pub steps : (statesKind ≡ 16) × (codeStepKind ≡ 17) × (silentStepKind ≡ 18)
 
--- ---- tables
-
--- the most equations and the mark for dropped, by the paper's numbers
-pub record LibraryNumbers : Type 0 where
-  pub most-equations : most ≡ 128
-  pub dropped-mark : mark ≡ 255
-
 -- ---- what is said of a file
 
 -- the bytes of a table that an answer needs: 256 for each equation, and none for a refusal
@@ -207,7 +200,6 @@ pub record PoolScans (table : List ℕ) : Type 0 where
 pub record PaperExamples : Type 0 where
   pub codes : Codes
   pub kind-bytes : KindBytes
-  pub library-numbers : LibraryNumbers
   pub number-pool : NumberPool
   pub pool-table : (table : List ℕ) → 768 ≤ length table → PoolTable (tableLeft most mark poolFile table)
   pub texts : Texts

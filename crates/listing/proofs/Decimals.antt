@@ -58,7 +58,7 @@ decimal-digits (suc k) n h = on (ltb n 10) refl (decimal-digits k (n / 10) fewer
 -- ---- the text of an entry
 
 module _ (x : ℕ) where
-  pub drop-text : x ≡ 255 → answerText (meaning 255 x) ≡ text "drop"
+  pub drop-text : x ≡ mark → answerText (meaning mark x) ≡ text "drop"
   drop-text e = rw (eq-eqb x mark e)
 
   pub next-text : (x ≡ mark → ⊥) → answerText (meaning mark x) ≡ decimal x

@@ -5,7 +5,7 @@ ghost use mathlib.Core.Path.{_≡_};
 ghost use mathlib.Core.List.{[], _∷_, _++_};
 ghost use Prim.Native.Nat.{suc};
 ghost use lib.ListN.{length};
-ghost use Rattle.synthesis.specs.Monitor.{meaning};
+ghost use Rattle.synthesis.specs.Monitor.{mark, meaning};
 ghost use Rattle.listing.specs.Text.{text, decimal};
 ghost use Rattle.listing.specs.Lines.{answerText};
 ghost use Rattle.listing.specs.Positions.{lineOf};
@@ -68,7 +68,7 @@ impl Line {
     // The line with a space and an entry of a table.
     pub(crate) fn entry(self, entry: u8) -> Self
         requires { ⌜ Room self 5 ⌝ }
-        ensures { λ r. ⌜ Adds self (text " " ++ answerText (meaning 255 entry)) r ⌝ }
+        ensures { λ r. ⌜ Adds self (text " " ++ answerText (meaning mark entry)) r ⌝ }
     {
         if entry == DROPPED {
             return self.word(b" drop");

@@ -94,7 +94,7 @@ pub record Enqueued (pair : ℕ) (seen pairs : List ℕ) (found : ℕ) (seen′ 
   pub extended : Extended (λ p. p ≡ pair) seen pairs found seen′ pairs′ found′
   pub is-seen : Seen seen′ pair
 
--- where a label leads from an equation with this row; 255 where it is dropped
+-- where a label leads from an equation with this row; the mark where it is dropped
 abbrev pub leadsTo : (row : List ℕ) → (equation label : ℕ) → ℕ
 leadsTo row equation label = cond (eqb label 256) equation (getD row label mark)
 

@@ -1,5 +1,5 @@
 -- Why a scan is dropped: the ff nodes at which a list of codes violates a rule, and what the desk is told. Nodes are numbered from 0 in reading order, and
--- patterns aren't nodes. The limit on equations is any; the paper's is 128.
+-- patterns aren't nodes. The limit on equations is any; the paper's is `most`.
 use Prim.Native.Nat.{ℕ, suc, _+_, _≤_, _<_}
 use mathlib.Core.Path.{_≡_}
 use mathlib.Core.Bool.{true, cond}

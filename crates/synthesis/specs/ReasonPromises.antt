@@ -1,4 +1,4 @@
--- What this crate promises of reasons, as statements over the definitions. The limit on equations is any; with 128 these are the terms of the contract
+-- What this crate promises of reasons, as statements over the definitions. The limit on equations is any; with `most` these are the terms of the contract
 -- of `explain`.
 use Prim.Native.Nat.{ℕ, _<_}
 use mathlib.Core.Path.{_≡_}

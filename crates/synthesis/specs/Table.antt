@@ -1,5 +1,5 @@
 -- Tables: which are well formed, and the rows that are filled in. The mark is the entry that stands for dropped, which
--- should be no equation's number; the paper's is 255. Rows are filled for any number of codes; the paper's is 256.
+-- should be no equation's number; the paper's is `mark` of Monitor.antt. Rows are filled for any number of codes; the paper's is 256.
 use Prim.Native.Nat.{ℕ, zero, suc, _*_, _≤_, _<_}
 use mathlib.Core.Path.{_≡_}
 use mathlib.Core.Logic.{_⊎_}

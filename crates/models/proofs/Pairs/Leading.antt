@@ -1,4 +1,4 @@
--- Where a step leads beside an equation, by its label and the equation's row: by cases on whether the label is 256 and the entry 255.
+-- Where a step leads beside an equation, by its label and the equation's row: by cases on whether the label is 256 and the entry the mark.
 use Prim.Native.Nat.{ℕ, _≤_, _<_}
 use mathlib.Core.Path.{_≡_, refl, _∙_}
 use mathlib.Core.Logic.{_⊎_, inl, inr}

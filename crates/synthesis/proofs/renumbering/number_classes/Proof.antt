@@ -1,6 +1,7 @@
 -- `renumbering::number_classes` meets its contract.
 use native.Mathlib.Omega.{arith}
 use borrow.Author.Needs.{needs}
+use Rattle.synthesis.specs.Monitor.{most}
 use Rattle.synthesis.proofs.Functions.ShortWays.{zero-classes, long-classes}
 use Rattle.synthesis.proofs.renumbering.number_classes.Statement.{statement}
 use Rattle.synthesis.proofs.renumbering.number_classes.Tie as tie
@@ -15,7 +16,7 @@ merge-first-requires : tie.Need-merge-first-requires
 merge-first-requires c κs =
     let start = c .before .before .before .before .before in
     let few = start .pre .0 .few in
-    (start .pre .0, few, few, zero-classes (start .args .n) 128 few)
+    (start .pre .0, few, few, zero-classes (start .args .n) most few)
 
 slice-aggregate-number : tie.Need-slice-aggregate-number
 slice-aggregate-number c = search needs
