@@ -1,21 +1,19 @@
 -- What is handed back for a kept scan is no node: a node that is answered is one of the rule, and a rule has at most 64.
 use Prim.Native.Nat.{ℕ, _<_}
 use mathlib.Core.Path.{_≡_, refl, sym, _∙_, ap}
-use mathlib.Core.List.{List}
 use native.Mathlib.Omega.{arith}
 use lib.ListN.{length}
-use Rattle.reading.specs.Rule.{Bytes}
 use Rattle.reading.specs.File.{Outcome, accepted, refused}
 use Rattle.reading.proofs.Accepting.Accepted.{accepts-encodings}
 use Rattle.synthesis.specs.Monitor.{most}
 use Rattle.synthesis.specs.Building.{Synthesis, synthesisOf, countedOf}
-use Rattle.synthesis.specs.Reason.{explanationOf, reasonOf}
 use Rattle.synthesis.specs.declared.Reason.the-variants.{Node, Refused}
 use Rattle.synthesis.proofs.Tables.Equations.{answers-count}
 use Rattle.synthesis.proofs.Reasons.Explained.{reasons-exactly}
 use Rattle.boundary.specs.Results.{keptValue}
+use Rattle.boundary.specs.Promises.{KeptIsNoNode}
 
-pub kept-is-no-node : (s w : List ℕ) (c m : ℕ) → Bytes s → reasonOf (explanationOf most s w c) ≡ Node m → m < keptValue
+pub kept-is-no-node : KeptIsNoNode
 kept-is-no-node s w c m bytes e = on (synthesisOf most s) refl
   where
     on : (o : Outcome Synthesis) → synthesisOf most s ≡ o → m < keptValue
