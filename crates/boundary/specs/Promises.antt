@@ -18,7 +18,7 @@ use Rattle.running.specs.declared.RunResult.{RunResult}
 use Rattle.models.specs.Judging.{judgingOf, JudgedAs}
 use Rattle.models.specs.declared.Judged.{Judged}
 use Rattle.models.specs.declared.Judged.the-variants as Judged′
-use Rattle.boundary.specs.Results.{Result, countedResult, keptValue, reasonResult, judgedResult, stateOf, IsRun}
+use Rattle.boundary.specs.Results.{Result, countedResult, reasonResult, judgedResult, stateOf, IsRun}
 
 -- ---- a number and a value
 
@@ -48,14 +48,14 @@ TellsCounts = (s : List ℕ) (capacity : ℕ) → Bytes s → CountsTold s capac
 
 -- ---- explaining
 
--- 2. What is got for a kept scan is no node's number,
+-- 2. What is got for a kept scan, 64, is no node's number,
 abbrev pub KeptIsNoNode : Type 0
-KeptIsNoNode = (s kept : List ℕ) (scan m : ℕ) → Bytes s → reasonOf (explanationOf most s kept scan) ≡ Reason′.Node m → m < keptValue
+KeptIsNoNode = (s kept : List ℕ) (scan m : ℕ) → Bytes s → reasonOf (explanationOf most s kept scan) ≡ Reason′.Node m → m < 64
 
 -- so it is got exactly where the scan is kept, and a lower value exactly where the node of that number is the reason.
 pub record ReasonTold (reason : Reason) : Type 0 where
-  pub kept : Tells reasonResult reason 0 keptValue Reason′.Kept
-  pub node : (m : ℕ) → m < keptValue → Tells reasonResult reason 0 m (Reason′.Node m)
+  pub kept : Tells reasonResult reason 0 64 Reason′.Kept
+  pub node : (m : ℕ) → m < 64 → Tells reasonResult reason 0 m (Reason′.Node m)
   pub refused : TellsRefusals reasonResult reason Reason′.Refused
 
 abbrev pub TellsReason : Type 0

@@ -8,7 +8,7 @@ use lib.ListN.{length, replicate, length-replicate}
 use Rattle.reading.proofs.Accepting.Accepted.{answers-accepted as rules-accepted}
 use Rattle.reading.proofs.Refusing.FaultsRefused as rules
 use Rattle.synthesis.specs.Monitor.{mark, most}
-use Rattle.synthesis.specs.Building.{fillingOf, shortFillingOf}
+use Rattle.synthesis.specs.Building.{fillingOf, shortFillingOf, FillsShort}
 use Rattle.synthesis.proofs.Tables.Equations.{file-well-formed, counted-equations, reaches-equations}
 use Rattle.synthesis.proofs.Tables.Built as tables
 use Rattle.synthesis.proofs.Tables.SynthesisOutcomes.{fills-as-counted, short-fills-as-counted}
@@ -119,7 +119,7 @@ demand-two-short = record {
   counts = short-refuses-alike most;
   shortest = λ s bytes r n read counted.
       let table = replicate {A = ℕ} (256 * n) 0 in
-      let fills = record {
+      let fills : FillsShort most mark s table r n (shortTableFilled s table) = record {
         below = omega arith;
         bytes = bytes;
         read = read;
