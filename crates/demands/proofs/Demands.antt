@@ -1,14 +1,14 @@
 -- The three demands hold, by the promises of the layers at the limit `most` and the mark `mark`.
-use Prim.Native.Nat.{ℕ, _*_, _≤_}
+use Prim.Native.Nat.{ℕ, _≤_}
 use mathlib.Core.Path.{_≡_, refl}
 use mathlib.Core.Logic.{inl, inr}
 use mathlib.Core.List.{List}
 use native.Mathlib.Omega.{arith}
-use lib.ListN.{length, replicate, length-replicate}
+use lib.ListN.{length}
 use Rattle.reading.proofs.Accepting.Accepted.{answers-accepted as rules-accepted}
 use Rattle.reading.proofs.Refusing.FaultsRefused as rules
 use Rattle.synthesis.specs.Monitor.{mark, most}
-use Rattle.synthesis.specs.Building.{fillingOf, shortFillingOf, FillsShort}
+use Rattle.synthesis.specs.Building.{fillingOf, shortFillingOf}
 use Rattle.synthesis.proofs.Tables.Equations.{file-well-formed, counted-equations, reaches-equations}
 use Rattle.synthesis.proofs.Tables.Built as tables
 use Rattle.synthesis.proofs.Tables.SynthesisOutcomes.{fills-as-counted, short-fills-as-counted}
@@ -118,15 +118,10 @@ demand-two-short = record {
   accepts = short-accepts-exactly most;
   counts = short-refuses-alike most;
   shortest = λ s bytes r n read counted.
-      let table = replicate {A = ℕ} (256 * n) 0 in
-      let fills : FillsShort most mark s table r n (shortTableFilled s table) = record {
-        below = omega arith;
-        bytes = bytes;
-        read = read;
-        counted = short-fills-as-counted most s (length table) .enough n counted (omega (arith, length-replicate {A = ℕ} (256 * n) 0));
-        left-is = refl;
-      } in
-      shortest-monitor most mark s table r n (shortTableFilled s table) fills;
+      let table = tables.zeroRows n in
+      shortest-monitor most mark s table r n (shortTableFilled s table)
+      (tables.fills-with-room shortFillingOf (shortCounting s) most mark s table r n (omega arith) bytes read counted
+      (short-fills-as-counted most s (length table)) (omega (arith, tables.zero-rows n)));
   as-counted = λ s table. short-fills-as-counted most s (length table);
   with-room = λ s table. short-fills-exactly most s (length table);
 }

@@ -112,8 +112,8 @@ pub fn count(rule: &[u8]) -> Counted
     plan_of(rule, MOST).answer
 }
 
-// Fills a table with a row for each equation of the rule of a file, and answers how many there are: 1 to 9 as counting has it, and 10 where the rows don't
-// fit. A refused call leaves the table as it was.
+// Fills a table with a row for each equation of the rule of a file, and answers how many there are. It is refused as counting is, and then with 10 where
+// the rows don't fit. A refused call leaves the table as it was.
 pub fn fill(rule: &[u8], table: &mut [u8]) -> Counted
     ensures { λ r. ⌜ r ≡ countedOf (fillingOf most (now (rule .entry)) (length (now (table .entry)))) ⌝ }
     ensures { λ _. ⌜ now (table .exit) ≡ tableAfter mark (fillingOf most (now (rule .entry)) (length (now (table .entry)))) (now (table .entry)) ⌝ }
@@ -139,8 +139,8 @@ pub fn count_short(rule: &[u8]) -> Counted
     shortening::short_plan_of(rule, &mut long).answer
 }
 
-// Fills a table with a row for each of these classes, and answers how many there are: 1 to 9 as counting has it, and 10 where the rows don't fit. A
-// refused call leaves the table as it was.
+// Fills a table with a row for each of these classes, and answers how many there are. It is refused as counting is, and then with 10 where the rows don't
+// fit. A refused call leaves the table as it was.
 pub fn fill_short(rule: &[u8], table: &mut [u8]) -> Counted
     ensures { λ r. ⌜ r ≡ countedOf (shortFillingOf most (now (rule .entry)) (length (now (table .entry)))) ⌝ }
     ensures { λ _. ⌜ now (table .exit) ≡ tableAfter mark (shortFillingOf most (now (rule .entry)) (length (now (table .entry)))) (now (table .entry)) ⌝ }

@@ -1,10 +1,10 @@
 -- What is answered and left of the short table. Counting for it is refused as counting is; it is filled, as the long one is, from a closed list; and
 -- under the renaming from the long table it drops, keeps and monitors alike.
-use Prim.Native.Nat.{ℕ, _*_, _≤_, _<_}
+use Prim.Native.Nat.{ℕ, _≤_, _<_}
 use mathlib.Core.Path.{_≡_, refl, sym, _∙_, ap, subst}
 use mathlib.Core.List.{List}
 use native.Mathlib.Omega.{arith}
-use lib.ListN.{length, replicate, length-replicate}
+use lib.ListN.{length}
 use Rattle.reading.specs.Rule.{Rule}
 use Rattle.reading.specs.File.{accepted, ruleOf}
 use Rattle.synthesis.specs.Monitor.{Monitors, lookup}
@@ -19,7 +19,7 @@ use Rattle.synthesis.proofs.Monitors.Renaming.{renamed-runs, renamed-mo
 use Rattle.synthesis.proofs.Tables.SynthesisOutcomes.{synthesis-accepts, counted-accepts, counted-refuses}
 use Rattle.synthesis.proofs.Tables.SynthesisOutcomes.{short-accepts, short-accepted, short-refused, short-filling-by-count, filling-accepted}
 use Rattle.synthesis.proofs.Tables.TableMonitors.{filled-well-formed, filled-same-after}
-use Rattle.synthesis.proofs.Tables.Built.{outcome-unchanged, fills-count, table-monitors}
+use Rattle.synthesis.proofs.Tables.Built.{outcome-unchanged, zeroRows, zero-rows, fills-count, table-monitors}
 use Rattle.synthesis.proofs.Quotients.Firsts.{firsts-length}
 use Rattle.synthesis.proofs.Quotients.Quotient.{firsts-closed}
 use Rattle.synthesis.proofs.Quotients.ShortTables.{count, classes, number, count-some, rule-inside, rule-settled, some-class, number-zero}
@@ -93,9 +93,9 @@ short-drops-alike limit mark s table r n long b table′ m short b′ w bytes =
 pub short-monitors : ShortMonitors
 short-monitors limit mark s table r n short b =
     let n = count limit r in
-    let table′ = replicate {A = ℕ} (256 * n) 0 in
+    let table′ = zeroRows n in
     let long = tableLeft limit mark s table′ in
-    let b′ = fills-long b table′ (omega (arith, length-replicate {A = ℕ} (256 * n) 0)) in
+    let b′ = fills-long b table′ (omega (arith, zero-rows n)) in
     subst (Monitors r (lookup 256 mark short)) (number-zero limit r (shortens b .counted .few))
     (renamed-monitors r (λ k. k < n) (lookup 256 mark long) (lookup 256 mark short) (number limit r)
     (rows-rename b table′ long n b′) 0 (count-some limit r) (table-monitors limit mark s table′ r n long b′))

@@ -12,16 +12,16 @@ use Rattle.synthesis.specs.Monitor.{Answer, lookup}
 use Rattle.synthesis.specs.Answering.{answerOf}
 use Rattle.synthesis.specs.Table.{filled}
 use Rattle.synthesis.specs.Merging.{merged, firsts}
-use Rattle.synthesis.specs.Building.{equationsOf, Synthesis, withEquations, synthesisOf, countedOf, tableAfter, tableLeft}
+use Rattle.synthesis.specs.Building.{equationsOf, Synthesis, withEquations, synthesisOf, fillingOf, countedOf, tableAfter, tableLeft}
 use Rattle.synthesis.specs.Building.{numberedAnswer, classesOf, shortened, shortFillingOf, Fills, FillsShort}
 use Rattle.synthesis.specs.declared.Counted.the-variants.{Equations}
 use Rattle.synthesis.proofs.Monitors.Renaming.{Renames}
 use Rattle.synthesis.proofs.Numberings.Indices.{index-first}
 use Rattle.synthesis.proofs.Numberings.Finding.{ClosedUnder}
 use Rattle.synthesis.proofs.Tables.SynthesisOutcomes.{synthesis-accepts, counted-accepts, accepts-as, short-accepted}
-use Rattle.synthesis.proofs.Tables.SynthesisOutcomes.{filling-by-count, short-filling-by-count, filling-accepts, filling-accepted}
+use Rattle.synthesis.proofs.Tables.SynthesisOutcomes.{short-filling-by-count, filling-accepted, fills-as-counted}
 use Rattle.synthesis.proofs.Tables.Equations.{first-member, equations-closed}
-use Rattle.synthesis.proofs.Tables.Built.{built-numbers, fills-outcome, fills-count}
+use Rattle.synthesis.proofs.Tables.Built.{built-numbers, fills-with-room, fills-outcome, fills-count}
 use Rattle.synthesis.proofs.Quotients.Settled.{Inside, Settled}
 use Rattle.synthesis.proofs.Quotients.NumberedAnswers.{numbered-inside}
 use Rattle.synthesis.proofs.Quotients.Refinement.{settled}
@@ -135,13 +135,9 @@ module _ {limit mark : ℕ} {s table : List ℕ} {r : Rule} {n : ℕ} {left : Li
   -- and that is filled too, if its rows fit
   pub fills-long : FillsShort limit mark s table r n left → (table′ : List ℕ) → 256 * count limit r ≤ length table′
       → Fills limit mark s table′ r (count limit r) (tableLeft limit mark s table′)
-  fills-long b table′ room = record {
-    below = b .below;
-    bytes = b .bytes;
-    read = b .read;
-    counted = ap countedOf (filling-accepts (length table′) (filling-by-count limit s (length table′)) (shortens b .counted .outcome) room);
-    left-is = refl;
-  }
+  fills-long b table′ room =
+      fills-with-room fillingOf (synthesisOf limit s) limit mark s table′ r (count limit r) (b .below) (b .bytes) (b .read) (short-fills-counted b)
+      (fills-as-counted limit s (length table′)) room
 
 -- ---- the rows of the long table, renamed to those of the short one
 

@@ -6,7 +6,7 @@ use mathlib.Core.Logic.{_↔_}
 use mathlib.Core.Bool.{false}
 use mathlib.Core.List.{List}
 use native.Mathlib.Omega.{arith}
-use lib.ListN.{length, getD}
+use lib.ListN.{length, getD, replicate, length-replicate}
 use Rattle.reading.specs.Rule.{Rule, RuleWithinLimits, encode, Bytes}
 use Rattle.reading.specs.File.{Outcome, accepted, ruleOf}
 use Rattle.reading.proofs.Accepting.Encoding.{encoding-is-bytes}
@@ -20,7 +20,7 @@ use Rattle.synthesis.specs.Table.{filled, WellFormedTable}
 use Rattle.synthesis.specs.Building.{equationsOf, Synthesis, withEquations, synthesisOf, fillingOf, countedOf, tableAfter, tableLeft}
 use Rattle.synthesis.specs.Building.{numberedAnswer, FillsBy, Fills}
 use Rattle.synthesis.specs.declared.Counted.the-variants.{Equations, Refused}
-use Rattle.synthesis.specs.Promises.{TableMonitors, TableDrops, RefusesViolatedByEmpty, TableUnchanged, RefusedUnchanged}
+use Rattle.synthesis.specs.Promises.{FillsAsCounted, TableMonitors, TableDrops, RefusesViolatedByEmpty, TableUnchanged, RefusedUnchanged}
 use Rattle.synthesis.specs.Promises.{FillsAccepted, BuiltWellFormed, EntryAnswers, EntriesAnswer, SameAfterRows, TableRest}
 use Rattle.synthesis.proofs.Unfolding.AnsweringLaws.{answers-as-defined}
 use Rattle.synthesis.proofs.Monitors.RuleMonitor.{rule-monitors, unsatisfiable-iff}
@@ -146,6 +146,21 @@ fills-accepted limit mark s table n below bytes e =
         left-is = refl;
       },
     )
+
+-- where counting answers n, a table with the bytes of n rows is filled, by either filling
+pub fills-with-room : (outcomeOf : (limit : ℕ) → List ℕ → (capacity : ℕ) → Outcome Synthesis) (counting : Outcome Synthesis) (limit mark : ℕ)
+    (s table : List ℕ) (r : Rule) (n : ℕ) → limit ≤ mark → Bytes s → ruleOf s ≡ accepted r → countedOf counting ≡ Equations n
+    → FillsAsCounted counting (outcomeOf limit s (length table)) (length table) → 256 * n ≤ length table
+    → FillsBy outcomeOf limit mark s table r n (tableAfter mark (outcomeOf limit s (length table)) table)
+fills-with-room outcomeOf counting limit mark s table r n below bytes read e as-counted room =
+    record { below = below; bytes = bytes; read = read; counted = as-counted .enough n e room; left-is = refl }
+
+-- such a table
+abbrev pub zeroRows : ℕ → List ℕ
+zeroRows n = replicate (256 * n) 0
+
+pub zero-rows : (n : ℕ) → length (zeroRows n) ≡ 256 * n
+zero-rows n = length-replicate {A = ℕ} (256 * n) 0
 
 -- A file fills a table as a rule, by either filling, exactly where it is the encoding of that rule, within the limits, and is counted.
 pub fills-by-iff : (outcomeOf : (limit : ℕ) → List ℕ → (capacity : ℕ) → Outcome Synthesis) (limit mark : ℕ) (s table : List ℕ) (r : Rule) (n : ℕ)
