@@ -9,7 +9,7 @@ use Rattle.synthesis.specs.Building.{synthesisOf, fillingOf, countedOf, tableLe
 use Rattle.synthesis.specs.declared.Counted.the-variants.{Equations}
 use Rattle.synthesis.proofs.Tables.SynthesisOutcomes.{fills-as-counted}
 use Rattle.synthesis.proofs.Tables.Equations.{answers-count}
-use Rattle.synthesis.proofs.Tables.Built.{fills-with-room, zeroRows, zero-rows}
+use Rattle.synthesis.proofs.Tables.Built.{fills-when-counted, zeroRows, zero-rows}
 use Rattle.models.specs.Judging.{judgingOf, JudgedAs}
 use Rattle.models.proofs.Judgments.JudgingOrder.{judging-within, judges-in-order}
 use Rattle.models.proofs.Judgments.JudgingLaws.{judges-exactly}
@@ -33,7 +33,7 @@ meets-exactly s f answer bytes judges =
       model = λ n counted. order .model n counted (few n counted);
       judged = λ r n y read counted model.
           judges-exactly 128 mark s table r n (tableLeft 128 mark s table)
-          (fills-with-room fillingOf (synthesisOf 128 s) 128 mark s table r n (omega arith) bytes read counted (fills-as-counted 128 s (length table))
+          (fills-when-counted fillingOf (synthesisOf 128 s) 128 mark s table r n (omega arith) bytes read counted (fills-as-counted 128 s (length table))
           (few n counted)) f y answer model judged;
     }
 

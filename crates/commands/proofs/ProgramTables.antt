@@ -12,7 +12,7 @@ use Rattle.synthesis.specs.Table.{rows, filled}
 use Rattle.synthesis.specs.Building.{Synthesis, synthesisOf, fillingOf, countedOf, tableAfter, Fills}
 use Rattle.synthesis.specs.declared.Counted.the-variants.{Equations}
 use Rattle.synthesis.proofs.Tables.SynthesisOutcomes.{counted-accepts, fills-as-counted}
-use Rattle.synthesis.proofs.Tables.Built.{fills-with-room, zeroRows, zero-rows}
+use Rattle.synthesis.proofs.Tables.Built.{fills-when-counted, zeroRows, zero-rows}
 
 -- a table that the rows at most fill is left with them alone
 filled-alone : (mark : ℕ) (answer : ℕ → ℕ → Answer ℕ) (l table : List ℕ) → length table ≤ 256 * length l
@@ -33,7 +33,7 @@ any-table limit mark s r n below bytes read counted table = on (decLe (256 * n) 
         let as-counted = fills-as-counted limit s (length table′) in
         let filled = as-counted .same n (as-counted .enough n counted room) in
         subst (Fills limit mark s table′ r n) (sym (same ∙ ap (λ (o : Outcome Synthesis). tableAfter mark o table′) (sym filled)))
-        (fills-with-room fillingOf (synthesisOf limit s) limit mark s table′ r n below bytes read counted as-counted room)
+        (fills-when-counted fillingOf (synthesisOf limit s) limit mark s table′ r n below bytes read counted as-counted room)
 
     on : Dec (256 * n ≤ length table) → (table′ : List ℕ) × Fills limit mark s table′ r n (tableAfter mark (synthesisOf limit s) table)
     on (yes room) = (table, with-room table room refl)

@@ -120,7 +120,7 @@ demand-two-short = record {
   shortest = λ s bytes r n read counted.
       let table = tables.zeroRows n in
       shortest-monitor most mark s table r n (shortTableFilled s table)
-      (tables.fills-with-room shortFillingOf (shortCounting s) most mark s table r n (omega arith) bytes read counted
+      (tables.fills-when-counted shortFillingOf (shortCounting s) most mark s table r n (omega arith) bytes read counted
       (short-fills-as-counted most s (length table)) (omega (arith, tables.zero-rows n)));
   as-counted = λ s table. short-fills-as-counted most s (length table);
   with-room = λ s table. short-fills-exactly most s (length table);

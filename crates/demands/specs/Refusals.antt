@@ -24,7 +24,7 @@ pub data CountRefused (s : List ℕ) : (number place : ℕ) → Type 1 where
   in-file : {number place : ℕ} → RuleFault s number place → CountRefused s number place
   -- 8: no finite model satisfies the rule
   no-finite-model : (r : Rule) → RuleWithinLimits r → s ≡ encode r → ((m : Model) → Finite m → Satisfies m r → ⊥) → CountRefused s 8 0
-  -- 9: one does, and too many equations are reached: no list of so few is closed under the codes
+  -- 9: one does, and over `most` equations are reached: no list of so few is closed under the codes
   too-many : (r : Rule) → RuleWithinLimits r → s ≡ encode r → (m : Model) → Finite m → Satisfies m r
       → ((es : List ℕ) → length es ≤ most → Closed r es → ⊥) → CountRefused s 9 0
 

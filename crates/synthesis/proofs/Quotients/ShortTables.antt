@@ -21,7 +21,7 @@ use Rattle.synthesis.proofs.Numberings.Finding.{ClosedUnder}
 use Rattle.synthesis.proofs.Tables.SynthesisOutcomes.{synthesis-accepts, counted-accepts, accepts-as, short-accepted}
 use Rattle.synthesis.proofs.Tables.SynthesisOutcomes.{short-filling-by-count, filling-accepted, fills-as-counted}
 use Rattle.synthesis.proofs.Tables.Equations.{first-member, equations-closed}
-use Rattle.synthesis.proofs.Tables.Built.{built-numbers, fills-with-room, fills-outcome, fills-count}
+use Rattle.synthesis.proofs.Tables.Built.{built-numbers, fills-when-counted, fills-outcome, fills-count}
 use Rattle.synthesis.proofs.Quotients.Settled.{Inside, Settled}
 use Rattle.synthesis.proofs.Quotients.NumberedAnswers.{numbered-inside}
 use Rattle.synthesis.proofs.Quotients.Refinement.{settled}
@@ -136,7 +136,7 @@ module _ {limit mark : ℕ} {s table : List ℕ} {r : Rule} {n : ℕ} {left : Li
   pub fills-long : FillsShort limit mark s table r n left → (table′ : List ℕ) → 256 * count limit r ≤ length table′
       → Fills limit mark s table′ r (count limit r) (tableLeft limit mark s table′)
   fills-long b table′ room =
-      fills-with-room fillingOf (synthesisOf limit s) limit mark s table′ r (count limit r) (b .below) (b .bytes) (b .read) (short-fills-counted b)
+      fills-when-counted fillingOf (synthesisOf limit s) limit mark s table′ r (count limit r) (b .below) (b .bytes) (b .read) (short-fills-counted b)
       (fills-as-counted limit s (length table′)) room
 
 -- ---- the rows of the long table, renamed to those of the short one

@@ -148,11 +148,11 @@ fills-accepted limit mark s table n below bytes e =
     )
 
 -- where counting answers n, a table with the bytes of n rows is filled, by either filling
-pub fills-with-room : (outcomeOf : (limit : ℕ) → List ℕ → (capacity : ℕ) → Outcome Synthesis) (counting : Outcome Synthesis) (limit mark : ℕ)
+pub fills-when-counted : (outcomeOf : (limit : ℕ) → List ℕ → (capacity : ℕ) → Outcome Synthesis) (counting : Outcome Synthesis) (limit mark : ℕ)
     (s table : List ℕ) (r : Rule) (n : ℕ) → limit ≤ mark → Bytes s → ruleOf s ≡ accepted r → countedOf counting ≡ Equations n
     → FillsAsCounted counting (outcomeOf limit s (length table)) (length table) → 256 * n ≤ length table
     → FillsBy outcomeOf limit mark s table r n (tableAfter mark (outcomeOf limit s (length table)) table)
-fills-with-room outcomeOf counting limit mark s table r n below bytes read e as-counted room =
+fills-when-counted outcomeOf counting limit mark s table r n below bytes read e as-counted room =
     record { below = below; bytes = bytes; read = read; counted = as-counted .enough n e room; left-is = refl }
 
 -- such a table
