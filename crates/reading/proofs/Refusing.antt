@@ -9,4 +9,5 @@ pub mod FaultsFound
 pub mod ReachedPlaces
 pub mod OneFault
 pub mod FaultsRefused
+pub mod FaultNumbers
 pub mod PatternFaults

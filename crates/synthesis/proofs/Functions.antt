@@ -11,6 +11,7 @@ pub mod EnabledLaws
 pub mod GraphLaws
 pub mod PlanLaws
 pub mod FillingWays
+pub mod PageWays
 pub mod MergingRounds
 pub mod NumberingClasses
 pub mod ShortWays

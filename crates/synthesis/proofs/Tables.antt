@@ -4,5 +4,7 @@ pub mod WellFormedTables
 pub mod FilledTables
 pub mod TableMonitors
 pub mod SynthesisOutcomes
+pub mod Limits
 pub mod Equations
 pub mod Built
+pub mod Previews

@@ -1,9 +1,11 @@
 -- What counting and filling answer, and what filling leaves in the table that it is lent: the table of a rule's equations, which is the long one, and
--- the short one. The limit on equations and the mark for dropped are any; the paper's are `most` and `mark`.
+-- the short one; and what the rule page counts and fills. The limit on equations and the mark for dropped are any; the paper's are `most`, on the page
+-- `previewLimit`, and `mark`.
 use Prim.Native.Nat.{ℕ, _*_, _≤_}
 use mathlib.Core.Path.{_≡_}
+use mathlib.Core.Bool.{cond}
 use mathlib.Core.List.{List}
-use lib.Dec.{ltb}
+use lib.Dec.{eqb, ltb}
 use lib.ListN.{length, getD}
 use Rattle.reading.specs.Rule.{Rule, Bytes}
 use Rattle.reading.specs.File.{Outcome, accepted, refused, refuse, andThen, ruleOf}
@@ -30,12 +32,15 @@ pub record Synthesis : Type 0 where
 abbrev pub withEquations : (limit : ℕ) → Rule → Synthesis
 withEquations limit r = record { rule = r; equations = equationsOf limit r; answer = answerOf r }
 
--- The outcome of a rule: 8 where opening node 0 gives ff, 9 where the equations are over the limit.
+-- The outcome of these equations under a limit: 9 where they are over it.
+abbrev pub withinLimit : (limit : ℕ) → Synthesis → Outcome Synthesis
+withinLimit limit y = refuse (ltb limit (length (y .equations))) 9 0 (accepted y)
+
+-- The outcome of a rule: 8 where opening node 0 gives ff, and then that of its equations.
 abbrev pub synthesisOfRule : (limit : ℕ) → Rule → Outcome Synthesis
 synthesisOfRule limit r =
     refuse (unsatisfiable r) 8 0
-    (refuse (ltb limit (length (equationsOf limit r))) 9 0
-    (accepted (withEquations limit r)))
+    (withinLimit limit (withEquations limit r))
 
 -- The outcome of counting the equations of a rule file: that of reading it, and then that of its rule.
 unfoldable pub synthesisOf : (limit : ℕ) → List ℕ → Outcome Synthesis
@@ -62,6 +67,28 @@ tableAfter mark (refused number place) table = table
 -- what filling leaves in a table
 abbrev pub tableLeft : (limit mark : ℕ) → (s table : List ℕ) → List ℕ
 tableLeft limit mark s table = tableAfter mark (fillingOf limit s (length table)) table
+
+-- ---- the rule page
+
+-- the most equations that the page shows
+abbrev pub previewLimit : ℕ
+previewLimit = 32
+
+-- The numbers of refusals on the page: 18 stands in the place of 9.
+abbrev pub pageNumber : ℕ → ℕ
+pageNumber number = cond (eqb number 9) 18 number
+
+abbrev pub onPage : Outcome Synthesis → Outcome Synthesis
+onPage (accepted y) = accepted y
+onPage (refused number place) = refused (pageNumber number) place
+
+-- The outcome of counting on the page.
+unfoldable pub previewOf : List ℕ → Outcome Synthesis
+previewOf s = onPage (synthesisOf previewLimit s)
+
+-- The outcome of filling there.
+unfoldable pub previewFillingOf : List ℕ → (capacity : ℕ) → Outcome Synthesis
+previewFillingOf s capacity = onPage (fillingOf previewLimit s capacity)
 
 -- ---- the short table
 

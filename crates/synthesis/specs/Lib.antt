@@ -12,5 +12,6 @@ pub mod Reason
 pub mod ReasonPromises
 pub mod Promises
 pub mod ShortPromises
+pub mod PreviewPromises
 pub mod Arrays
 pub mod Plans

@@ -9,7 +9,7 @@ use Rattle.reading.specs.declared.FileRead.the-variants.{Accepted, Refused}
 use Rattle.synthesis.specs.Monitor.{mark, most, lookup}
 use Rattle.synthesis.specs.Answering.{answerOf}
 use Rattle.synthesis.specs.Table.{WellFormedTable}
-use Rattle.synthesis.specs.Building.{Synthesis, synthesisOf, countedOf, numberedAnswer, classesOf, shortened, shortOf}
+use Rattle.synthesis.specs.Building.{Synthesis, synthesisOf, countedOf, pageNumber, numberedAnswer, classesOf, shortened, shortOf}
 use Rattle.synthesis.specs.Arrays.{IsGraph, ClassesNumbered}
 use Rattle.synthesis.specs.declared.Counted.{Counted}
 use Rattle.synthesis.specs.declared.Counted.the-variants as counted
@@ -24,6 +24,11 @@ use Rattle.synthesis.specs.declared.explaining.Followed.the-variants as 
 abbrev pub refusalOf : FileRead → Counted
 refusalOf Accepted = counted.Refused 0 0
 refusalOf (Refused number place) = counted.Refused number place
+
+-- an answer as the rule page gives it
+abbrev pub countedOnPage : Counted → Counted
+countedOnPage (counted.Equations n) = counted.Equations n
+countedOnPage (counted.Refused number place) = counted.Refused (pageNumber number) place
 
 -- what a plan has to fill the rows of a synthesis from
 pub record PlanFor (y : Synthesis) (p : Plan) : Type 0 where

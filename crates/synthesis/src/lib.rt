@@ -14,9 +14,9 @@ ghost use mathlib.Core.Path.{_≡_};
 ghost use Prim.Native.Nat.{_≤_};
 ghost use lib.ListN.{length};
 ghost use Rattle.synthesis.specs.Monitor.{mark, most, rowOf};
-ghost use Rattle.synthesis.specs.Building.{synthesisOf, fillingOf, shortOf, shortFillingOf, countedOf, tableAfter};
+ghost use Rattle.synthesis.specs.Building.{synthesisOf, fillingOf, previewOf, previewFillingOf, shortOf, shortFillingOf, countedOf, tableAfter};
 ghost use Rattle.synthesis.specs.Reason.{explanationOf, reasonOf};
-ghost use Rattle.synthesis.specs.Plans.{refusalOf, IsPlan};
+ghost use Rattle.synthesis.specs.Plans.{refusalOf, countedOnPage, IsPlan};
 
 // The entry of a code that is dropped.
 pub const DROPPED: u8 = 255;
@@ -24,7 +24,10 @@ pub const DROPPED: u8 = 255;
 // The most equations that a rule may have.
 pub const MOST: usize = 128;
 
-// The bytes of the rows of so many.
+// The most that the rule page shows.
+pub const PREVIEW_MOST: usize = 32;
+
+// The bytes of the rows of a rule with the most equations.
 const LONGEST: usize = 256 * MOST;
 
 // What is said of a rule file: how many equations its rule has, or a refusal with a number and a place.
@@ -105,20 +108,21 @@ fn plan_of(rule: &[u8], limit: usize) -> Plan
     }
 }
 
-// Answers how many equations the rule of a file has, or a refusal of 1 to 9.
-pub fn count(rule: &[u8]) -> Counted
-    ensures { λ r. ⌜ r ≡ countedOf (synthesisOf most (now (rule .entry))) ⌝ }
+// Counts the equations of the rule of a file, under a limit.
+fn count_within(rule: &[u8], limit: usize) -> Counted
+    requires { ⌜ limit ≤ most ⌝ }
+    ensures { λ r. ⌜ r ≡ countedOf (synthesisOf limit (now (rule .entry))) ⌝ }
 {
-    plan_of(rule, MOST).answer
+    plan_of(rule, limit).answer
 }
 
-// Fills a table with a row for each equation of the rule of a file, and answers how many there are. It is refused as counting is, and then with 10 where
-// the rows don't fit. A refused call leaves the table as it was.
-pub fn fill(rule: &[u8], table: &mut [u8]) -> Counted
-    ensures { λ r. ⌜ r ≡ countedOf (fillingOf most (now (rule .entry)) (length (now (table .entry)))) ⌝ }
-    ensures { λ _. ⌜ now (table .exit) ≡ tableAfter mark (fillingOf most (now (rule .entry)) (length (now (table .entry)))) (now (table .entry)) ⌝ }
+// Fills a table with their rows.
+fn fill_within(rule: &[u8], limit: usize, table: &mut [u8]) -> Counted
+    requires { ⌜ limit ≤ most ⌝ }
+    ensures { λ r. ⌜ r ≡ countedOf (fillingOf limit (now (rule .entry)) (length (now (table .entry)))) ⌝ }
+    ensures { λ _. ⌜ now (table .exit) ≡ tableAfter mark (fillingOf limit (now (rule .entry)) (length (now (table .entry)))) (now (table .entry)) ⌝ }
 {
-    let plan = plan_of(rule, MOST);
+    let plan = plan_of(rule, limit);
     let answer = plan.answer;
     let Counted::Equations(n) = answer else {
         return answer;
@@ -129,6 +133,53 @@ pub fn fill(rule: &[u8], table: &mut [u8]) -> Counted
     let found = plan.found;
     filling::fill_table(plan.graph, found, n, table);
     answer
+}
+
+// Answers how many equations the rule of a file has, or a refusal of 1 to 9.
+pub fn count(rule: &[u8]) -> Counted
+    ensures { λ r. ⌜ r ≡ countedOf (synthesisOf most (now (rule .entry))) ⌝ }
+{
+    count_within(rule, MOST)
+}
+
+// Fills a table with a row for each equation of the rule of a file, and answers how many there are. It is refused as counting is, and then with 10 where
+// the rows don't fit. A refused call leaves the table as it was.
+pub fn fill(rule: &[u8], table: &mut [u8]) -> Counted
+    ensures { λ r. ⌜ r ≡ countedOf (fillingOf most (now (rule .entry)) (length (now (table .entry)))) ⌝ }
+    ensures { λ _. ⌜ now (table .exit) ≡ tableAfter mark (fillingOf most (now (rule .entry)) (length (now (table .entry)))) (now (table .entry)) ⌝ }
+{
+    fill_within(rule, MOST, table)
+}
+
+// An answer as the rule page gives it: 18 stands in the place of 9.
+fn on_page(counted: Counted) -> Counted
+    ensures { λ r. ⌜ r ≡ countedOnPage counted ⌝ }
+{
+    match counted {
+        Counted::Equations(n) => Counted::Equations(n),
+        Counted::Refused(number, place) => {
+            if number == 9 {
+                return Counted::Refused(18, place);
+            }
+            Counted::Refused(number, place)
+        }
+    }
+}
+
+// Answers how many equations the rule of a file has, as the rule page shows it: a refusal of 1 to 8, or 18 where there are over 32.
+pub fn count_preview(rule: &[u8]) -> Counted
+    ensures { λ r. ⌜ r ≡ countedOf (previewOf (now (rule .entry))) ⌝ }
+{
+    on_page(count_within(rule, PREVIEW_MOST))
+}
+
+// Fills a table with their rows, and answers how many there are. It is refused as counting on the page is, and then with 10 where the rows don't fit. A
+// refused call leaves the table as it was.
+pub fn fill_preview(rule: &[u8], table: &mut [u8]) -> Counted
+    ensures { λ r. ⌜ r ≡ countedOf (previewFillingOf (now (rule .entry)) (length (now (table .entry)))) ⌝ }
+    ensures { λ _. ⌜ now (table .exit) ≡ tableAfter mark (previewFillingOf (now (rule .entry)) (length (now (table .entry)))) (now (table .entry)) ⌝ }
+{
+    on_page(fill_within(rule, PREVIEW_MOST, table))
 }
 
 // Answers how many equations the short table of the rule of a file has, one for each class of equations that drop alike, or a refusal of 1 to 9.
