@@ -8,3 +8,4 @@ pub mod Reasons
 pub mod Functions
 pub mod Promises
 pub mod ShortPromises
+pub mod PreviewPromises

@@ -4,11 +4,11 @@ use Prim.Native.Nat.{ℕ, _*_, _≤_, _<_}
 use mathlib.Core.Path.{_≡_}
 use mathlib.Core.Logic.{_↔_}
 use mathlib.Core.List.{List, []}
-use lib.ListN.{length, take}
+use lib.ListN.{length}
 use Rattle.reading.specs.Rule.{Rule, Bytes}
 use Rattle.reading.specs.File.{Outcome, accepted, refused, andThen, ruleOf}
 use Rattle.synthesis.specs.Violation.{ViolatesRule}
-use Rattle.synthesis.specs.Monitor.{mark, most}
+use Rattle.synthesis.specs.Monitor.{mark, most, rowOf}
 use Rattle.synthesis.specs.Building.{Synthesis, withinLimit, synthesisOf, fillingOf, countedOf, tableAfter, tableLeft, Fills}
 use Rattle.synthesis.specs.Building.{previewLimit, previewOf, previewFillingOf}
 use Rattle.synthesis.specs.Promises.{FillsAsCounted, TableUnchanged, Closed}
@@ -45,8 +45,8 @@ pub record SameAtDesk (s : List ℕ) (n : ℕ) : Type 0 where
   pub count : countedOf (synthesisOf most s) ≡ Equations n
   pub answer : (table : List ℕ) → countedOf (previewFillingOf s (length table)) ≡ countedOf (fillingOf most s (length table))
   pub table : (table : List ℕ) → tableAfter mark (previewFillingOf s (length table)) table ≡ tableLeft most mark s table
-  pub rows : (table table′ : List ℕ) → 256 * n ≤ length table → 256 * n ≤ length table′
-      → take (256 * n) (tableAfter mark (previewFillingOf s (length table)) table) ≡ take (256 * n) (tableLeft most mark s table′)
+  pub rows : (table table′ : List ℕ) → 256 * n ≤ length table → 256 * n ≤ length table′ → (k : ℕ) → k < n
+      → rowOf 256 (tableAfter mark (previewFillingOf s (length table)) table) k ≡ rowOf 256 (tableLeft most mark s table′) k
 
 abbrev pub PreviewAgrees : Type 0
 PreviewAgrees = (s : List ℕ) (n : ℕ) → countedOf (previewOf s) ≡ Equations n → SameAtDesk s n

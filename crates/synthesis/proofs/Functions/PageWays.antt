@@ -2,7 +2,6 @@
 use mathlib.Core.Path.{_≡_, refl, _∙_, ap}
 use mathlib.Core.List.{List}
 use Prim.Native.Nat.{ℕ}
-use lib.ListN.{length}
 use borrow.Author.Tests.{eq-eqb, ne-eqb}
 use Rattle.reading.specs.File.{Outcome, accepted, refused}
 use Rattle.synthesis.specs.Monitor.{mark}
@@ -34,10 +33,11 @@ pub preview-counted : (s : List ℕ) {counted answer : Counted} → counted ≡ 
 unfolding previewOf
 preview-counted s e e′ = e′ ∙ ap countedOnPage e ∙ page-counted (synthesisOf previewLimit s)
 
-pub preview-filled : (s table : List ℕ) {counted answer : Counted} {after : List ℕ} → let filling = fillingOf previewLimit s (length table) in
-    (counted ≡ countedOf filling) × (after ≡ tableAfter mark filling table) → answer ≡ countedOnPage counted
-    → (answer ≡ countedOf (previewFillingOf s (length table))) × (after ≡ tableAfter mark (previewFillingOf s (length table)) table)
+pub preview-filled : (s : List ℕ) (capacity : ℕ) (table : List ℕ) {counted answer : Counted} {after : List ℕ}
+    → let filling = fillingOf previewLimit s capacity in (counted ≡ countedOf filling) × (after ≡ tableAfter mark filling table)
+    → answer ≡ countedOnPage counted
+    → (answer ≡ countedOf (previewFillingOf s capacity)) × (after ≡ tableAfter mark (previewFillingOf s capacity) table)
 unfolding previewFillingOf
-preview-filled s table (e, left) e′ =
-    let filling = fillingOf previewLimit s (length table) in
+preview-filled s capacity table (e, left) e′ =
+    let filling = fillingOf previewLimit s capacity in
     (e′ ∙ ap countedOnPage e ∙ page-counted filling, left ∙ page-table table filling)

@@ -68,8 +68,11 @@ module _ (limit limit′ : ℕ) (h : limit ≤ limit′) (r : Rule) where
       on false (yes few) d′ =
           rw (equations-more few, le-ltb limit′ (length (equationsOf limit r)) (omega (arith, few)))
       on false (no over) (yes few) =
-          rw (le-ltb limit′ (length (equationsOf limit′ r)) few, lt-ltb limit (length (equationsOf limit r)) (omega (arith, over)),
-          lt-ltb limit (length (equationsOf limit′ r)) (omega (arith, over, equations-no-fewer)))
+          rw (
+            le-ltb limit′ (length (equationsOf limit′ r)) few,
+            lt-ltb limit (length (equationsOf limit r)) (omega (arith, over)),
+            lt-ltb limit (length (equationsOf limit′ r)) (omega (arith, over, equations-no-fewer)),
+          )
       on false (no over) (no more) =
           rw (lt-ltb limit (length (equationsOf limit r)) (omega (arith, over)), lt-ltb limit′ (length (equationsOf limit′ r)) (omega (arith, more)))
 

@@ -14,7 +14,7 @@ same-length : tie.Need-same-length
 same-length c = search needs
 
 returns : tie.Need-returns
-returns c = preview-filled _ _ (c .before .before .before .fill-within .ensures) (c .on-page .ensures)
+returns c = preview-filled _ _ _ (c .before .before .before .fill-within .ensures) (c .on-page .ensures)
 
 pub fill-preview-spec : {M : Type 1} → statement M
 fill-preview-spec = tie.close (tie.spec fill-within-requires on-page-requires same-length returns)
