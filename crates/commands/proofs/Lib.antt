@@ -1,7 +1,8 @@
--- Lines from position to position, what is printed of them, the programs' tables, the calls that `sift` makes, and what `meets` answers; then the promises.
+-- Lines from position to position, what is printed of them, the programs' tables, the calls that `sift` makes, what `meets` answers, and the text of the rule page; then the promises.
 pub mod Leading
 pub mod Printing
 pub mod ProgramTables
 pub mod SiftingLaws
 pub mod JudgingFiles
+pub mod PageText
 pub mod Promises

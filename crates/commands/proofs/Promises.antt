@@ -3,6 +3,7 @@ use Rattle.commands.specs.Promises.{Promises}
 use Rattle.commands.proofs.Printing.{prints-answer, settled-by-buffer, judgment-settled-by-buffer}
 use Rattle.commands.proofs.SiftingLaws.{sifts-by-rule, no-calls-refused, sift-hands-back}
 use Rattle.commands.proofs.JudgingFiles.{meets-exactly, judged-texts}
+use Rattle.commands.proofs.PageText.{preview-text}
 
 pub promises : Promises
 promises = record {
@@ -14,4 +15,5 @@ promises = record {
   sift-hands-back = sift-hands-back;
   meets-exactly = meets-exactly;
   judged-texts = judged-texts;
+  preview-text = preview-text;
 }

@@ -2,14 +2,14 @@
 use mathlib.Core.Path.{_≡_}
 use mathlib.Core.Bool.{true}
 use mathlib.Core.List.{List}
-use Prim.Native.Nat.{ℕ}
-use lib.ListN.{take}
+use Prim.Native.Nat.{ℕ, _+_, _*_, _≤_}
+use lib.ListN.{length, take}
 use Rattle.reading.specs.Rule.{Rule, Bytes}
 use Rattle.reading.specs.File.{accepted, andThen, ruleOf}
 use Rattle.reading.specs.Numbered.{readingOf}
 use Rattle.reading.specs.declared.FileRead.the-variants.{Refused as NotAccepted}
 use Rattle.synthesis.specs.Monitor.{mark, most}
-use Rattle.synthesis.specs.Building.{synthesisOf, countedOf, tableAfter}
+use Rattle.synthesis.specs.Building.{synthesisOf, countedOf, tableAfter, previewOf, previewFillingOf}
 use Rattle.synthesis.specs.declared.Counted.the-variants.{Equations, Refused}
 use Rattle.running.specs.Calls.{History, noCalls, Calls}
 use Rattle.running.specs.Promises.{Sifted}
@@ -20,6 +20,7 @@ use Rattle.models.specs.declared.Judged.{Judged}
 use Rattle.models.specs.declared.Judged.the-variants.{Meets, Breaks, Refused as NotJudged}
 use Rattle.listing.specs.Text.{text}
 use Rattle.listing.specs.Lines.{refusalLine}
+use Rattle.listing.specs.Positions.{linesFrom}
 use Rattle.commands.specs.declared.EquationsResult.{EquationsResult}
 use Rattle.commands.specs.declared.SiftResult.{SiftResult}
 use Rattle.commands.specs.Printing.{textFor, judgedText, JudgesFiles, printed, Shows}
@@ -81,6 +82,20 @@ pub record JudgedTexts : Type 0 where
   pub breaks : judgedText Breaks ≡ text "breaks\n"
   pub refused : (number place : ℕ) → judgedText (NotJudged number place) ≡ refusalLine number place
 
+-- ---- the rule page
+
+-- 5. Where the rule page answers n, the text of its table is the one that `equations` prints of the file, whatever tables the two are lent: the text that
+-- is due to its filling, and what its lines are one after the other.
+pub record TextOfPage (s table : List ℕ) (n : ℕ) (printed : List ℕ) : Type 0 where
+  pub due : textFor (previewFillingOf s (length table)) (tableAfter mark (previewFillingOf s (length table)) table) ≡ printed
+  pub lines : (most : ℕ) → 34 + 256 * n ≤ most
+      → linesFrom (readingOf (ruleOf s) .rule) (tableAfter mark (previewFillingOf s (length table)) table) n most 0 ≡ printed
+
+abbrev pub PreviewText : Type 0
+PreviewText =
+    (s : List ℕ) (n : ℕ) → Bytes s → countedOf (previewOf s) ≡ Equations n → (table table′ : List ℕ) → 256 * n ≤ length table → 256 * n ≤ length table′
+    → TextOfPage s table n (textFor (synthesisOf 128 s) (tableAfter mark (synthesisOf 128 s) table′))
+
 -- ---- all of these
 
 -- The theorem `promises` has this type, so that each promise has its proof.
@@ -93,3 +108,4 @@ pub record Promises : Type 1 where
   pub sift-hands-back : SiftHandsBack
   pub meets-exactly : MeetsExactly
   pub judged-texts : JudgedTexts
+  pub preview-text : PreviewText

@@ -1,6 +1,6 @@
 -- The three demands hold, by the promises of the layers at the limit `most` and the mark `mark`.
 use Prim.Native.Nat.{ℕ, _≤_}
-use mathlib.Core.Path.{_≡_, refl}
+use mathlib.Core.Path.{_≡_, refl, sym, _∙_}
 use mathlib.Core.Logic.{inl, inr}
 use mathlib.Core.List.{List}
 use native.Mathlib.Omega.{arith}
@@ -8,10 +8,13 @@ use lib.ListN.{length}
 use Rattle.reading.proofs.Accepting.Accepted.{answers-accepted as rules-accepted}
 use Rattle.reading.proofs.Refusing.FaultsRefused as rules
 use Rattle.synthesis.specs.Monitor.{mark, most}
-use Rattle.synthesis.specs.Building.{fillingOf, shortFillingOf}
+use Rattle.synthesis.specs.Building.{fillingOf, shortFillingOf, countedOf}
+use Rattle.synthesis.specs.Promises.{SameAfterRows}
+use Rattle.synthesis.specs.declared.Counted.the-variants.{Equations}
 use Rattle.synthesis.proofs.Tables.Equations.{file-well-formed, counted-equations, reaches-equations}
 use Rattle.synthesis.proofs.Tables.Built as tables
 use Rattle.synthesis.proofs.Tables.SynthesisOutcomes.{fills-as-counted, short-fills-as-counted}
+use Rattle.synthesis.proofs.Tables.Previews.{preview-counts, preview-fills-as-counted, preview-agrees, preview-fills-accepted, preview-refused-unchanged}
 use Rattle.synthesis.proofs.Quotients.ShortFillings.{short-refuses-alike, short-refused-unchanged, short-counted-rest}
 use Rattle.synthesis.proofs.Quotients.Minimal.{shortest-monitor}
 use Rattle.synthesis.proofs.Reasons.Alone.{violates-somewhere}
@@ -30,42 +33,58 @@ use Rattle.models.proofs.Phones.PhoneCodes.{phone-codes}
 use Rattle.models.proofs.Files.Encoding.{accepts-phones, encode-bytes, answers-accepted, phone-within-limits}
 use Rattle.models.proofs.Files.FileFaults as models
 use Rattle.models.proofs.Judgments.Accepting.{accepts-exactly, short-accepts-exactly, fills-exactly, short-fills-exactly}
+use Rattle.models.proofs.Judgments.Accepting.{preview-accepts-exactly, preview-fills-exactly}
 use Rattle.models.proofs.Judgments.JudgingLaws as judging
 use Rattle.models.proofs.Judgments.TablesEnforce.{tables-enforce, short-tables-enforce, short-bisimilar}
-use Rattle.demands.specs.Outcomes.{counting, filling, shortCounting, shortFilling, shortTableFilled, running}
-use Rattle.demands.specs.Refusals.{RunRefused, short-buffer, unfit}
-use Rattle.demands.specs.Demands.{DemandOne, DemandTwo, DemandTwoShort, DemandThree}
+use Rattle.demands.specs.Outcomes.{counting, filling, previewCounting, previewFilling, previewTableFilled}
+use Rattle.demands.specs.Outcomes.{shortCounting, shortFilling, shortTableFilled, running}
+use Rattle.demands.specs.Refusals.{DeskRefused, PageRefused, RunRefused, short-buffer, unfit}
+use Rattle.demands.specs.Demands.{DemandOne, DemandTwo, DemandTwoShort, DemandTwoPreview, DemandThree}
 use Rattle.demands.proofs.Refused.{count-refused, count-short-refused, fill-refused}
+use Rattle.demands.proofs.RefusedOnPage.{count-preview-refused}
 use Rattle.demands.proofs.RefusedReasons.{explain-refused}
 use Rattle.demands.proofs.UnfitTables.{unfit-not-fit}
 use Rattle.demands.proofs.RefusedCalls.{run-refused, run-fit, judge-refused}
 
 -- ---- demand 1
 
+-- what the page fills is what the desk fills
+preview-rest : (s table : List ℕ) (n : ℕ) → countedOf (previewFilling s table) ≡ Equations n → SameAfterRows n table (previewTableFilled s table)
+preview-rest s table n e =
+    let counted : countedOf (previewCounting s) ≡ Equations n = rw (← preview-fills-as-counted s (length table) .same n e) e in
+    let agrees = preview-agrees s n counted in
+    rw (agrees .table table) (tables.counted-rest most mark s table n (sym (agrees .answer table) ∙ e))
+
 pub demand-one : DemandOne
 demand-one = record {
-  numbers = record { most-equations = refl; dropped-entry = refl };
+  numbers = record { most-equations = refl; most-on-page = refl; dropped-entry = refl };
   refuses = record {
     read-rule = rules.refuses-at-the-fault;
     count = count-refused;
     explain = λ s kept scan bytes. explain-refused s bytes kept scan;
     fill = λ s table bytes.
-        fill-refused s (counting s) (filling s table) (length table) (count-refused s bytes) (fills-as-counted most s (length table));
+        fill-refused (DeskRefused s) (counting s) (filling s table) (length table) (count-refused s bytes) (fills-as-counted most s (length table));
+    count-preview = count-preview-refused;
+    fill-preview = λ s table bytes.
+        fill-refused (PageRefused s) (previewCounting s) (previewFilling s table) (length table) (count-preview-refused s bytes)
+        (preview-fills-as-counted s (length table));
     count-short = count-short-refused;
     fill-short = λ s table bytes.
-        fill-refused s (shortCounting s) (shortFilling s table) (length table) (count-short-refused s bytes) (short-fills-as-counted most s (length table));
+        fill-refused (DeskRefused s) (shortCounting s) (shortFilling s table) (length table) (count-short-refused s bytes) (short-fills-as-counted most s (length table));
     run = run-refused;
     read-model = models.refuses-at-the-fault;
     judge = judge-refused;
   };
   unchanged = record {
     fill = tables.refused-unchanged most mark;
+    fill-preview = preview-refused-unchanged;
     fill-short = short-refused-unchanged most mark;
     run = leaving.refused-unchanged most mark;
     judge = λ s table f answer judged number place. judging.refused-unchanged most mark s f table answer judged .refused;
   };
   rest = record {
     fill = tables.counted-rest most mark;
+    fill-preview = preview-rest;
     fill-short = short-counted-rest most mark;
     run = leaving.rest-unchanged most mark;
     judge = λ s table f answer judged. judging.refused-unchanged most mark s f table answer judged .judged;
@@ -124,6 +143,16 @@ demand-two-short = record {
       (short-fills-as-counted most s (length table)) (omega (arith, tables.zero-rows n)));
   as-counted = λ s table. short-fills-as-counted most s (length table);
   with-room = λ s table. short-fills-exactly most s (length table);
+}
+
+pub demand-two-preview : DemandTwoPreview
+demand-two-preview = record {
+  accepts = preview-accepts-exactly;
+  counts = preview-counts;
+  agrees = preview-agrees;
+  fills = preview-fills-accepted;
+  as-counted = λ s table. preview-fills-as-counted s (length table);
+  with-room = λ s table. preview-fills-exactly s (length table);
 }
 
 -- ---- demand 3

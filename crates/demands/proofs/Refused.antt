@@ -25,7 +25,7 @@ use Rattle.synthesis.proofs.Quotients.ShortFillings.{short-refuses-alike}
 use Rattle.enforcement.specs.Model.{Model, Finite, Satisfies}
 use Rattle.models.proofs.Judgments.Accepting.{unrefused-satisfiable, refuses-unsatisfiable}
 use Rattle.demands.specs.Outcomes.{counting, shortCounting, RefusedIff}
-use Rattle.demands.specs.Refusals.{CountRefused, in-file, no-finite-model, too-many, FillRefused, short-table, in-rule}
+use Rattle.demands.specs.Refusals.{DeskRefused, in-file, no-finite-model, too-many, FillRefused, short-table, in-rule}
 
 -- ---- counting: the clauses of its refusals
 
@@ -37,14 +37,14 @@ module _ (s : List ℕ) (bytes : Bytes s) where
   refused-eight-iff r read = refuses-unsatisfiable most s r bytes read .no-finite
 
   -- a rule that was read
-  rule-refusal-clause : (r : Rule) → ruleOf s ≡ accepted r → (number place : ℕ) → synthesisOfRule most r ≡ refused number place → CountRefused s number place
+  rule-refusal-clause : (r : Rule) → ruleOf s ≡ accepted r → (number place : ℕ) → synthesisOfRule most r ≡ refused number place → DeskRefused s number place
   rule-refusal-clause r read number place e =
       let (w, is) = accepts-encodings s bytes r .0 read in
       let outcome : synthesisOf most s ≡ synthesisOfRule most r = synthesis-of most s r read in
-      refuse-refused (CountRefused s) (unsatisfiable r) 8 0 _ e
+      refuse-refused (DeskRefused s) (unsatisfiable r) 8 0 _ e
       (λ t. no-finite-model r w is (refused-eight-iff r read .0 (rw (outcome, t))))
       (λ f e′.
-      refuse-refused (CountRefused s) (ltb most (length (equationsOf most r))) 9 0 _ e′
+      refuse-refused (DeskRefused s) (ltb most (length (equationsOf most r))) 9 0 _ e′
       (λ t.
       let other : CountRefuses 8 0 → ⊥ = λ e″. let z : Counted.Refused 9 0 ≡ Counted.Refused 8 0 = rw (outcome, f, t) at e″ in
       let y : _≡_ {A = ℕ} 9 8 = cc in omega arith in
@@ -52,7 +52,7 @@ module _ (s : List ℕ) (bytes : Bytes s) where
       too-many r w is m finite satisfies (refuses-too-many most s r read other .0 (rw (outcome, f, t))))
       (λ f′ e″. absurd (never-refused e″)))
 
-  count-refusal-clause : (number place : ℕ) → CountRefuses number place → CountRefused s number place
+  count-refusal-clause : (number place : ℕ) → CountRefuses number place → DeskRefused s number place
   unfolding synthesisOf
   count-refusal-clause number place e =
       andThen-refused (ruleOf s) (synthesisOfRule most) (counted-refuses (synthesisOf most s) number place e)
@@ -61,7 +61,7 @@ module _ (s : List ℕ) (bytes : Bytes s) where
 
   -- ---- counting: each clause is refused
 
-  count-clause-refuses : {number place : ℕ} → CountRefused s number place → CountRefuses number place
+  count-clause-refuses : {number place : ℕ} → DeskRefused s number place → CountRefuses number place
   unfolding synthesisOf
   count-clause-refuses {number} {place} (in-file fault) =
       rw (answer-refused (ruleOf s) number place .1 (refuses-at-the-fault s bytes number place .1 fault))
@@ -70,22 +70,22 @@ module _ (s : List ℕ) (bytes : Bytes s) where
       let read = accepts-encodings s bytes r .1 (w, is) in
       refuses-too-many most s r read (λ e. refused-eight-iff r read .0 e m finite satisfies) .1 over
 
-  pub count-refused : RefusedIff (countedOf (counting s)) Counted.Refused (CountRefused s)
+  pub count-refused : RefusedIff (countedOf (counting s)) Counted.Refused (DeskRefused s)
   count-refused number place = (count-refusal-clause number place, count-clause-refuses)
 
-  pub count-short-refused : RefusedIff (countedOf (shortCounting s)) Counted.Refused (CountRefused s)
+  pub count-short-refused : RefusedIff (countedOf (shortCounting s)) Counted.Refused (DeskRefused s)
   count-short-refused number place =
       let alike = short-refuses-alike most s .refused number place in
       (λ e. count-refusal-clause number place (alike .0 e), λ h. alike .1 (count-clause-refuses h))
 
 -- ---- filling, where counting refuses by these clauses
 
-module _ (s : List ℕ) (counts filling : Outcome Synthesis) (capacity : ℕ) (refused : RefusedIff (countedOf counts) Counted.Refused (CountRefused s))
-    (as-counted : FillsAsCounted counts filling capacity) where
-  fill-refusal-clause : (number place : ℕ) → countedOf filling ≡ Counted.Refused number place → FillRefused s (countedOf counts) capacity number place
+module _ (Clause : (number place : ℕ) → Type 1) (counts filling : Outcome Synthesis) (capacity : ℕ)
+    (refused : RefusedIff (countedOf counts) Counted.Refused Clause) (as-counted : FillsAsCounted counts filling capacity) where
+  fill-refusal-clause : (number place : ℕ) → countedOf filling ≡ Counted.Refused number place → FillRefused Clause (countedOf counts) capacity number place
   fill-refusal-clause number place e = on counts refl
     where
-      fits : (y : Synthesis) → counts ≡ accepted y → Dec (256 * length (y .equations) ≤ capacity) → FillRefused s (countedOf counts) capacity number place
+      fits : (y : Synthesis) → counts ≡ accepted y → Dec (256 * length (y .equations) ≤ capacity) → FillRefused Clause (countedOf counts) capacity number place
       fits y q (yes room) =
           let z : Counted.Equations (length (y .equations)) ≡ Counted.Refused number place =
           sym (as-counted .enough (length (y .equations)) (ap countedOf q) room) ∙ e in
@@ -97,16 +97,16 @@ module _ (s : List ℕ) (counts filling : Outcome Synthesis) (capacity : ℕ) (r
           let place-is : 0 ≡ place = cc in
           rw (← number-is, ← place-is) (short-table (length (y .equations)) (ap countedOf q) less)
 
-      on : (o : Outcome Synthesis) → counts ≡ o → FillRefused s (countedOf counts) capacity number place
+      on : (o : Outcome Synthesis) → counts ≡ o → FillRefused Clause (countedOf counts) capacity number place
       on (accepted y) q = fits y q (decLe (256 * length (y .equations)) capacity)
       on (File.refused number′ place′) q =
           let same : Counted.Refused number′ place′ ≡ Counted.Refused number place =
           sym (as-counted .refused number′ place′ (ap countedOf q)) ∙ e in
           in-rule (refused number place .0 (ap countedOf q ∙ same))
 
-  fill-clause-refuses : {number place : ℕ} → FillRefused s (countedOf counts) capacity number place → countedOf filling ≡ Counted.Refused number place
+  fill-clause-refuses : {number place : ℕ} → FillRefused Clause (countedOf counts) capacity number place → countedOf filling ≡ Counted.Refused number place
   fill-clause-refuses {number} {place} (in-rule fault) = as-counted .refused number place (refused number place .1 fault)
   fill-clause-refuses (short-table n e short) = as-counted .too-short n e short
 
-  pub fill-refused : RefusedIff (countedOf filling) Counted.Refused (FillRefused s (countedOf counts) capacity)
+  pub fill-refused : RefusedIff (countedOf filling) Counted.Refused (FillRefused Clause (countedOf counts) capacity)
   fill-refused number place = (fill-refusal-clause number place, fill-clause-refuses)

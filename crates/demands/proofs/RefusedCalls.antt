@@ -25,7 +25,7 @@ use Rattle.models.specs.declared.Judged.{Judged}
 use Rattle.models.specs.declared.Judged.the-variants as Judged′
 use Rattle.models.proofs.Files.FileFaults.{model-refused, refuses-at-the-fault}
 use Rattle.demands.specs.Outcomes.{counting, filling, running, judging, RefusedIff}
-use Rattle.demands.specs.Refusals.{FillRefused, RunRefused, short-buffer, unfit, JudgeRefused, in-filling, in-model}
+use Rattle.demands.specs.Refusals.{DeskRefused, FillRefused, RunRefused, short-buffer, unfit, JudgeRefused, in-filling, in-model}
 use Rattle.demands.proofs.Refused.{count-refused, fill-refused}
 use Rattle.demands.proofs.UnfitTables.{unfit-not-fit, not-fit-unfit}
 
@@ -82,8 +82,8 @@ refusal-only-answer : (o : Outcome RuleAndModel) (answer : Judged) (number place
 refusal-only-answer o answer number place judged refuses = rw (judged-refuses o number place refuses) at judged
 
 module _ (s table f : List ℕ) (bytes : Bytes s) (bytes′ : Bytes f) where
-  filling-refused : RefusedIff (countedOf (filling s table)) Counted.Refused (FillRefused s (countedOf (counting s)) (length table))
-  filling-refused = fill-refused s (counting s) (filling s table) (length table) (count-refused s bytes) (fills-as-counted most s (length table))
+  filling-refused : RefusedIff (countedOf (filling s table)) Counted.Refused (FillRefused (DeskRefused s) (countedOf (counting s)) (length table))
+  filling-refused = fill-refused (DeskRefused s) (counting s) (filling s table) (length table) (count-refused s bytes) (fills-as-counted most s (length table))
 
   judge-refusal-clause : (number place : ℕ) → JudgedAs (judging s table f) (Judged′.Refused number place)
       → JudgeRefused s (countedOf (counting s)) (length table) f number place

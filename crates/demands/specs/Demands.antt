@@ -13,11 +13,12 @@ use Rattle.reading.specs.Numbered.{numbered, readingOf}
 use Rattle.reading.specs.declared.FileRead.the-variants as Reading
 use Rattle.synthesis.specs.Monitor.{mark, most, Monitors, lookup}
 use Rattle.synthesis.specs.Table.{WellFormedTable}
-use Rattle.synthesis.specs.Building.{equationsOf, countedOf, Fills, FillsShort}
+use Rattle.synthesis.specs.Building.{equationsOf, countedOf, Fills, FillsShort, previewLimit}
 use Rattle.synthesis.specs.Reason.{reasonOf}
 use Rattle.synthesis.specs.ReasonPromises.{Placed, Reasons}
 use Rattle.synthesis.specs.Promises.{FillsAsCounted, TableUnchanged, ReachableEquations, SameAfterRows}
 use Rattle.synthesis.specs.ShortPromises.{RefusesAlike}
+use Rattle.synthesis.specs.PreviewPromises.{SameAtDesk}
 use Rattle.synthesis.specs.declared.Counted.the-variants as Counted
 use Rattle.synthesis.specs.declared.Reason.the-variants as Reason
 use Rattle.running.specs.Running.{resultOf}
@@ -32,9 +33,9 @@ use Rattle.models.specs.Judging.{stored, modelReadingOf, JudgedAs}
 use Rattle.models.specs.Promises.{EnforcesRule, Acceptable, FillsWithRoom, JudgedExactly}
 use Rattle.models.specs.declared.Judged.{Judged}
 use Rattle.models.specs.declared.Judged.the-variants as Judged′
-use Rattle.demands.specs.Outcomes.{counting, explaining, filling, tableFilled, shortCounting, shortFilling, shortTableFilled, running, judging, tableAfterJudging}
-use Rattle.demands.specs.Outcomes.{RefusedIff, IfRefused}
-use Rattle.demands.specs.Refusals.{CountRefused, ExplainRefused, FillRefused, RunRefused, JudgeRefused}
+use Rattle.demands.specs.Outcomes.{counting, explaining, filling, tableFilled, previewCounting, previewFilling, previewTableFilled}
+use Rattle.demands.specs.Outcomes.{shortCounting, shortFilling, shortTableFilled, running, judging, tableAfterJudging, RefusedIff, IfRefused}
+use Rattle.demands.specs.Refusals.{DeskRefused, PageRefused, ExplainRefused, FillRefused, RunRefused, JudgeRefused}
 
 -- ---- demand 1
 
@@ -42,13 +43,16 @@ use Rattle.demands.specs.Refusals.{CountRefused, ExplainRefused, FillRef
 -- refuses unfit input itself, and no other, with the paper's number and place. So exactly one number and place hold of a refused call.
 pub record RefusesExactly : Type 1 where
   pub read-rule : (s : List ℕ) → Bytes s → RefusedIff (readingOf (ruleOf s) .answer) Reading.Refused (RuleFault s)
-  pub count : (s : List ℕ) → Bytes s → RefusedIff (countedOf (counting s)) Counted.Refused (CountRefused s)
+  pub count : (s : List ℕ) → Bytes s → RefusedIff (countedOf (counting s)) Counted.Refused (DeskRefused s)
   pub explain : (s kept : List ℕ) (scan : ℕ) → Bytes s → RefusedIff (reasonOf (explaining s kept scan)) Reason.Refused (ExplainRefused s kept)
   pub fill : (s table : List ℕ) → Bytes s
-      → RefusedIff (countedOf (filling s table)) Counted.Refused (FillRefused s (countedOf (counting s)) (length table))
-  pub count-short : (s : List ℕ) → Bytes s → RefusedIff (countedOf (shortCounting s)) Counted.Refused (CountRefused s)
+      → RefusedIff (countedOf (filling s table)) Counted.Refused (FillRefused (DeskRefused s) (countedOf (counting s)) (length table))
+  pub count-preview : (s : List ℕ) → Bytes s → RefusedIff (countedOf (previewCounting s)) Counted.Refused (PageRefused s)
+  pub fill-preview : (s table : List ℕ) → Bytes s
+      → RefusedIff (countedOf (previewFilling s table)) Counted.Refused (FillRefused (PageRefused s) (countedOf (previewCounting s)) (length table))
+  pub count-short : (s : List ℕ) → Bytes s → RefusedIff (countedOf (shortCounting s)) Counted.Refused (DeskRefused s)
   pub fill-short : (s table : List ℕ) → Bytes s
-      → RefusedIff (countedOf (shortFilling s table)) Counted.Refused (FillRefused s (countedOf (shortCounting s)) (length table))
+      → RefusedIff (countedOf (shortFilling s table)) Counted.Refused (FillRefused (DeskRefused s) (countedOf (shortCounting s)) (length table))
   pub run : (s : State) (c : Call) → RefusedIff (resultOf s (running s c) .checked) Checked.Refused (RunRefused s c)
   pub read-model : (f : List ℕ) → Bytes f → RefusedIff (modelReadingOf (phoneOf f) .answer) Reading.Refused (ModelFault f)
   pub judge : (s table f : List ℕ) → Bytes s → Bytes f → (answer : Judged) → JudgedAs (judging s table f) answer
@@ -57,6 +61,7 @@ pub record RefusesExactly : Type 1 where
 -- A refused call changes no lent buffer, and a refused run hands back the state that it was given and counts of 0.
 pub record LeavesUnchanged : Type 0 where
   pub fill : (s table : List ℕ) → IfRefused (countedOf (filling s table)) Counted.Refused (TableUnchanged mark table (filling s table))
+  pub fill-preview : (s table : List ℕ) → IfRefused (countedOf (previewFilling s table)) Counted.Refused (TableUnchanged mark table (previewFilling s table))
   pub fill-short : (s table : List ℕ) → IfRefused (countedOf (shortFilling s table)) Counted.Refused (TableUnchanged mark table (shortFilling s table))
   pub run : (s : State) (c : Call) → IfRefused (resultOf s (running s c) .checked) Checked.Refused (RunUnchanged s c (running s c))
   pub judge : (s table f : List ℕ) (answer : Judged) → JudgedAs (judging s table f) answer
@@ -66,15 +71,18 @@ pub record LeavesUnchanged : Type 0 where
 -- filling leaves. Counting is lent nothing.
 pub record LeavesTheRest : Type 0 where
   pub fill : (s table : List ℕ) (n : ℕ) → countedOf (filling s table) ≡ Counted.Equations n → SameAfterRows n table (tableFilled s table)
+  pub fill-preview : (s table : List ℕ) (n : ℕ) → countedOf (previewFilling s table) ≡ Counted.Equations n
+      → SameAfterRows n table (previewTableFilled s table)
   pub fill-short : (s table : List ℕ) (n : ℕ) → countedOf (shortFilling s table) ≡ Counted.Equations n
       → SameAfterRows n table (shortTableFilled s table)
   pub run : (s : State) (c : Call) → resultOf s (running s c) .checked ≡ Checked.Fit → OnlyFronts s c (running s c)
   pub judge : (s table f : List ℕ) (answer : Judged) → JudgedAs (judging s table f) answer → (answer ≡ Judged′.Meets) ⊎ (answer ≡ Judged′.Breaks)
       → tableAfterJudging s table f ≡ tableFilled s table
 
--- The numbers of the library: the most equations that a rule may have, and the entry of a code that is dropped.
+-- The numbers of the library: the most equations that a rule may have, at the desk and on the rule page, and the entry of a code that is dropped.
 pub record LibraryNumbers : Type 0 where
   pub most-equations : most ≡ 128
+  pub most-on-page : previewLimit ≡ 32
   pub dropped-entry : mark ≡ 255
 
 pub record DemandOne : Type 1 where
@@ -133,6 +141,18 @@ pub record DemandTwoShort : Type 1 where
       → (rows : ℕ) (rival : List ℕ) → WellFormedTable rows mark rows rival → Monitors r (lookup 256 mark rival) 0 → n ≤ rows
   pub as-counted : (s table : List ℕ) → FillsAsCounted (shortCounting s) (shortFilling s table) (length table)
   pub with-room : (s table : List ℕ) → Bytes s → FillsWithRoom most s (shortCounting s) (shortFilling s table) (length table)
+
+-- The same of the rule page. It shows exactly the rules that the desk would accept with a limit of 32; they are those that the desk accepts and counts up
+-- to 32, its answers and tables are the desk's, and so all that is said of these holds of them.
+pub record DemandTwoPreview : Type 1 where
+  pub accepts : (s : List ℕ) → Bytes s → ((n : ℕ) × (countedOf (previewCounting s) ≡ Counted.Equations n)) ↔ Acceptable previewLimit s
+  pub counts : (s : List ℕ) (n : ℕ) → (countedOf (previewCounting s) ≡ Counted.Equations n)
+      ↔ ((countedOf (counting s) ≡ Counted.Equations n) × (n ≤ previewLimit))
+  pub agrees : (s : List ℕ) (n : ℕ) → countedOf (previewCounting s) ≡ Counted.Equations n → SameAtDesk s n
+  pub fills : (s table : List ℕ) (n : ℕ) → Bytes s → countedOf (previewFilling s table) ≡ Counted.Equations n
+      → (r : Rule) × Fills most mark s table r n (previewTableFilled s table)
+  pub as-counted : (s table : List ℕ) → FillsAsCounted (previewCounting s) (previewFilling s table) (length table)
+  pub with-room : (s table : List ℕ) → Bytes s → FillsWithRoom previewLimit s (previewCounting s) (previewFilling s table) (length table)
 
 -- ---- demand 3
 

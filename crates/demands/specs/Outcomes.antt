@@ -1,5 +1,5 @@
--- The calls of the layers, in the very terms of their contracts: the outcome of each, and what it leaves in a table. The limit on equations is `most`
--- and the mark for dropped is `mark`.
+-- The calls of the layers, in the very terms of their contracts: the outcome of each, and what it leaves in a table. The limit on equations is `most`,
+-- on the rule page `previewLimit`, and the mark for dropped is `mark`.
 use Prim.Native.Nat.{ℕ}
 use mathlib.Core.Path.{_≡_}
 use mathlib.Core.Logic.{_↔_}
@@ -7,7 +7,7 @@ use mathlib.Core.List.{List}
 use lib.ListN.{length}
 use Rattle.reading.specs.File.{Outcome}
 use Rattle.synthesis.specs.Monitor.{mark, most}
-use Rattle.synthesis.specs.Building.{Synthesis, synthesisOf, fillingOf, tableAfter, tableLeft, shortOf, shortFillingOf}
+use Rattle.synthesis.specs.Building.{Synthesis, synthesisOf, fillingOf, tableAfter, tableLeft, shortOf, shortFillingOf, previewOf, previewFillingOf}
 use Rattle.synthesis.specs.Reason.{explanationOf}
 use Rattle.running.specs.Running.{Run}
 use Rattle.running.specs.Calls.{Call, outcomeOf}
@@ -30,6 +30,16 @@ filling s table = fillingOf most s (length table)
 
 abbrev pub tableFilled : (s table : List ℕ) → List ℕ
 tableFilled s table = tableLeft most mark s table
+
+-- counting on the page, and filling a table there
+abbrev pub previewCounting : List ℕ → Outcome Synthesis
+previewCounting s = previewOf s
+
+abbrev pub previewFilling : (s table : List ℕ) → Outcome Synthesis
+previewFilling s table = previewFillingOf s (length table)
+
+abbrev pub previewTableFilled : (s table : List ℕ) → List ℕ
+previewTableFilled s table = tableAfter mark (previewFilling s table) table
 
 -- counting for the short table, and filling it
 abbrev pub shortCounting : List ℕ → Outcome Synthesis

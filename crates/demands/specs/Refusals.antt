@@ -1,5 +1,5 @@
 -- When a call is refused, for each function that can refuse: a clause for each way, with the paper's number and place. `RuleFault` and `ModelFault` have
--- those of files. A table has 256 bytes for each equation; there are at most `most`, and `mark` stands for dropped.
+-- those of files. A table has 256 bytes for each equation; there are at most `most`, on the rule page at most `previewLimit`, and `mark` stands for dropped.
 use Prim.Native.Nat.{ℕ, _+_, _*_, _≤_, _<_}
 use mathlib.Core.Path.{_≡_}
 use mathlib.Core.Logic.{_⊎_}
@@ -8,6 +8,7 @@ use lib.ListN.{length, getD}
 use Rattle.reading.specs.Rule.{Rule, RuleWithinLimits, encode}
 use Rattle.reading.specs.Faults.{Fault as RuleFault}
 use Rattle.synthesis.specs.Monitor.{mark, most}
+use Rattle.synthesis.specs.Building.{previewLimit}
 use Rattle.synthesis.specs.Reason.{FirstViolated}
 use Rattle.synthesis.specs.Promises.{Closed}
 use Rattle.synthesis.specs.declared.Counted.{Counted}
@@ -18,29 +19,37 @@ use Rattle.enforcement.specs.Model.{Model, Finite, Satisfies}
 use Rattle.models.specs.Faults.{Fault as ModelFault}
 use Rattle.models.specs.Promises.{Acceptable}
 
--- counting the equations of a rule file
-pub data CountRefused (s : List ℕ) : (number place : ℕ) → Type 1 where
+-- counting the equations of a rule file, where a rule with over `limit` of them is refused with the number `beyond`
+pub data CountRefused (limit beyond : ℕ) (s : List ℕ) : (number place : ℕ) → Type 1 where
   -- 1 to 7: the file is no rule
-  in-file : {number place : ℕ} → RuleFault s number place → CountRefused s number place
+  in-file : {number place : ℕ} → RuleFault s number place → CountRefused limit beyond s number place
   -- 8: no finite model satisfies the rule
-  no-finite-model : (r : Rule) → RuleWithinLimits r → s ≡ encode r → ((m : Model) → Finite m → Satisfies m r → ⊥) → CountRefused s 8 0
-  -- 9: one does, and over `most` equations are reached: no list of so few is closed under the codes
+  no-finite-model : (r : Rule) → RuleWithinLimits r → s ≡ encode r → ((m : Model) → Finite m → Satisfies m r → ⊥) → CountRefused limit beyond s 8 0
+  -- 9, or what stands in its place: one does, and over `limit` equations are reached: no list of so few is closed under the codes
   too-many : (r : Rule) → RuleWithinLimits r → s ≡ encode r → (m : Model) → Finite m → Satisfies m r
-      → ((es : List ℕ) → length es ≤ most → Closed r es → ⊥) → CountRefused s 9 0
+      → ((es : List ℕ) → length es ≤ limit → Closed r es → ⊥) → CountRefused limit beyond s beyond 0
+
+-- counting at the desk
+abbrev pub DeskRefused : (s : List ℕ) → (number place : ℕ) → Type 1
+DeskRefused s = CountRefused most 9 s
+
+-- counting on the page
+abbrev pub PageRefused : (s : List ℕ) → (number place : ℕ) → Type 1
+PageRefused s = CountRefused previewLimit 18 s
 
 -- explaining a scan after these, whatever the scan is
 pub data ExplainRefused (s kept : List ℕ) : (number place : ℕ) → Type 1 where
   -- 1 to 9: counting is refused
-  in-counting : {number place : ℕ} → CountRefused s number place → ExplainRefused s kept number place
+  in-counting : {number place : ℕ} → DeskRefused s number place → ExplainRefused s kept number place
   -- 17: it isn't, and the shortest front of the kept scans that violates the rule ends with the one at this place
   violating-scan : (a : Acceptable most s) (i : ℕ) → FirstViolated (a .rule) kept i → ExplainRefused s kept 17 i
 
--- filling a table of so many bytes, the long one or the short one, where counting for it gives this answer
-pub data FillRefused (s : List ℕ) (counted : Counted) (capacity : ℕ) : (number place : ℕ) → Type 1 where
-  -- 1 to 9: counting is refused
-  in-rule : {number place : ℕ} → CountRefused s number place → FillRefused s counted capacity number place
+-- filling a table of so many bytes, where counting for it is refused by these clauses, and gives this answer
+pub data FillRefused (Counting : (number place : ℕ) → Type 1) (counted : Counted) (capacity : ℕ) : (number place : ℕ) → Type 1 where
+  -- 1 to 9, or on the page 1 to 8 and 18: counting is refused
+  in-rule : {number place : ℕ} → Counting number place → FillRefused Counting counted capacity number place
   -- 10: it isn't, and the table has fewer bytes than the rows of all that are counted
-  short-table : (n : ℕ) → counted ≡ Equations n → capacity < 256 * n → FillRefused s counted capacity 10 0
+  short-table : (n : ℕ) → counted ≡ Equations n → capacity < 256 * n → FillRefused Counting counted capacity 10 0
 
 -- what makes a table, a count and a state unfit for a run: byte 256 × k + c is the entry of equation k for the code c
 pub data Unfit (table : List ℕ) (count : ℕ) (s : State) : Type 0 where
@@ -61,7 +70,7 @@ pub data RunRefused (s : State) (c : Call) : (number place : ℕ) → Type 0 whe
 -- judging a model file under a rule file, with a table of so many bytes, where counting gives this answer
 pub data JudgeRefused (s : List ℕ) (counted : Counted) (capacity : ℕ) (f : List ℕ) : (number place : ℕ) → Type 1 where
   -- 1 to 10: filling is refused
-  in-filling : {number place : ℕ} → FillRefused s counted capacity number place → JudgeRefused s counted capacity f number place
+  in-filling : {number place : ℕ} → FillRefused (DeskRefused s) counted capacity number place → JudgeRefused s counted capacity f number place
   -- 11 to 14: it isn't, and the file is no model
   in-model : {number place : ℕ} (n : ℕ) → counted ≡ Equations n → 256 * n ≤ capacity → ModelFault f number place
       → JudgeRefused s counted capacity f number place

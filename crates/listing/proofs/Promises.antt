@@ -2,6 +2,7 @@
 use Rattle.listing.specs.Promises.{Promises}
 use Rattle.listing.proofs.AllLines.{lists-all, lists-rule}
 use Rattle.listing.proofs.AllRuns.{groups, shows-answers}
+use Rattle.listing.proofs.SameRows.{lists-by-rows, preview-listed}
 use Rattle.listing.proofs.Decimals.{spells-decimal}
 
 pub promises : Promises
@@ -10,5 +11,7 @@ promises = record {
   lists-rule = lists-rule;
   groups = groups;
   shows-answers = shows-answers;
+  lists-by-rows = lists-by-rows;
+  preview-listed = preview-listed;
   spells-decimal = spells-decimal;
 }

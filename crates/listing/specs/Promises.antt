@@ -7,11 +7,13 @@ use Rattle.reading.specs.Pattern.{extentOf}
 use Rattle.reading.specs.Rule.{Rule, RuleWithinLimits, All}
 use Rattle.reading.specs.Numbered.{numbered}
 use Rattle.reading.specs.declared.NumberedRule.{NumberedRule}
-use Rattle.synthesis.specs.Monitor.{mark, rowOf, meaning, lookup}
+use Rattle.synthesis.specs.Monitor.{mark, most, rowOf, meaning, lookup}
+use Rattle.synthesis.specs.Building.{countedOf, tableAfter, tableLeft, previewOf, previewFillingOf}
+use Rattle.synthesis.specs.declared.Counted.the-variants.{Equations}
 use Rattle.listing.specs.Text.{digit, decimal}
 use Rattle.listing.specs.Runs.{CodeRun, runs, RunTo}
 use Rattle.listing.specs.Lines.{listing}
-use Rattle.listing.specs.Positions.{extentsOf, linesFrom}
+use Rattle.listing.specs.Positions.{extentsOf, listingLineAt, linesFrom}
 
 -- 1. Read line by line from position 0 on, up to an empty line, the text is the listing; so many lines are enough. A rule is any value
 -- whose array has 32 extents;
@@ -48,7 +50,21 @@ ShowsAnswers =
     (table : List ℕ) (k : ℕ) → All (λ (r : CodeRun). (c : ℕ) → r .first ≤ c → c ≤ r .last → lookup 256 mark table k c ≡ meaning mark (r .entry))
     (runs (rowOf 256 table k))
 
--- 4. A number below 10 is one digit. Any other has the digits of n / 10, followed by the digit of n % 10.
+-- 4. A line goes by the rows that are listed, and by no other byte of the table: over tables with the same rows each position has the same line.
+abbrev pub ListsByRows : Type 0
+ListsByRows =
+    (rule : NumberedRule) (table table′ : List ℕ) (count : ℕ) → ((k : ℕ) → k < count → rowOf 256 table k ≡ rowOf 256 table′ k)
+    → (at : ℕ) → listingLineAt rule table count at ≡ listingLineAt rule table′ count at
+
+-- So where the rule page answers n, each line over the table that it fills is that over a table that the desk fills, however long the two tables are
+-- and whatever they held.
+abbrev pub PreviewListed : Type 0
+PreviewListed =
+    (s : List ℕ) (n : ℕ) → countedOf (previewOf s) ≡ Equations n → (table table′ : List ℕ) → 256 * n ≤ length table → 256 * n ≤ length table′
+    → (rule : NumberedRule) (at : ℕ)
+    → listingLineAt rule (tableAfter mark (previewFillingOf s (length table)) table) n at ≡ listingLineAt rule (tableLeft most mark s table′) n at
+
+-- 5. A number below 10 is one digit. Any other has the digits of n / 10, followed by the digit of n % 10.
 pub record SpellsDecimal (n : ℕ) : Type 0 where
   pub one : n < 10 → decimal n ≡ digit n ∷ []
   pub more : 10 ≤ n → decimal n ≡ decimal (n / 10) ++ (digit (n % 10) ∷ [])
@@ -61,4 +77,6 @@ pub record Promises : Type 0 where
   pub lists-rule : ListsRule
   pub groups : (row : List ℕ) → Groups row
   pub shows-answers : ShowsAnswers
+  pub lists-by-rows : ListsByRows
+  pub preview-listed : PreviewListed
   pub spells-decimal : (n : ℕ) → SpellsDecimal n

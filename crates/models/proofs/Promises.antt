@@ -4,7 +4,8 @@ use Rattle.models.proofs.Judgments.TablesEnforce.{tables-enforce, short
 use Rattle.models.proofs.Phones.DecidedSets.{decided-satisfies}
 use Rattle.models.proofs.Judgments.JudgingOrder.{judges-in-order}
 use Rattle.models.proofs.Judgments.JudgingLaws.{judges-exactly, refused-unchanged}
-use Rattle.models.proofs.Judgments.Accepting.{accepts-exactly, short-accepts-exactly, fills-exactly, short-fills-exactly, refuses-unsatisfiable}
+use Rattle.models.proofs.Judgments.Accepting.{accepts-exactly, short-accepts-exactly, fills-exactly, short-fills-exactly}
+use Rattle.models.proofs.Judgments.Accepting.{preview-accepts-exactly, preview-fills-exactly, refuses-unsatisfiable}
 use Rattle.models.proofs.Files.Encoding.{accepts-phones, one-phone, stores-model, answers-accepted}
 use Rattle.models.proofs.Files.FileFaults.{refuses-at-the-fault, has-one-fault}
 use Rattle.models.proofs.Files.Settled.{settled-by-first-bytes, not-by-fewer}
@@ -25,6 +26,8 @@ promises = record {
   short-accepts-exactly = short-accepts-exactly;
   fills-exactly = fills-exactly;
   short-fills-exactly = short-fills-exactly;
+  preview-accepts-exactly = preview-accepts-exactly;
+  preview-fills-exactly = preview-fills-exactly;
   refuses-unsatisfiable = refuses-unsatisfiable;
   accepts-phones = accepts-phones;
   one-phone = one-phone;

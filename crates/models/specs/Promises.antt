@@ -11,6 +11,7 @@ use Rattle.reading.specs.Promises.{OneFault}
 use Rattle.reading.specs.declared.FileRead.the-variants.{Accepted, Refused as NotAccepted}
 use Rattle.synthesis.specs.Monitor.{Monitors, lookup}
 use Rattle.synthesis.specs.Building.{Synthesis, synthesisOf, fillingOf, countedOf, tableLeft, shortOf, shortFillingOf, Fills, FillsShort}
+use Rattle.synthesis.specs.Building.{previewLimit, previewOf, previewFillingOf}
 use Rattle.synthesis.specs.Promises.{Closed}
 use Rattle.synthesis.specs.declared.Counted.the-variants.{Equations, Refused}
 use Rattle.enforcement.specs.Model.{Model, Finite, ByteCodes, Satisfies, SatisfiesDecided, Bisimilar, suppressing, monitored}
@@ -127,6 +128,13 @@ FillsExactly = (limit : ℕ) (s : List ℕ) (capacity : ℕ) → Bytes s → Fil
 abbrev pub ShortFillsExactly : Type 1
 ShortFillsExactly = (limit : ℕ) (s : List ℕ) (capacity : ℕ) → Bytes s → FillsWithRoom limit s (shortOf limit s) (shortFillingOf limit s capacity) capacity
 
+-- So it is with counting and filling on the rule page, under its own limit.
+abbrev pub PreviewAcceptsExactly : Type 1
+PreviewAcceptsExactly = (s : List ℕ) → Bytes s → ((n : ℕ) × (countedOf (previewOf s) ≡ Equations n)) ↔ Acceptable previewLimit s
+
+abbrev pub PreviewFillsExactly : Type 1
+PreviewFillsExactly = (s : List ℕ) (capacity : ℕ) → Bytes s → FillsWithRoom previewLimit s (previewOf s) (previewFillingOf s capacity) capacity
+
 -- A rule that was read is refused with 8 exactly when no model satisfies it, exactly when no finite one does, and exactly when no phone model does.
 pub record RefusedAsUnsatisfiable (limit : ℕ) (s : List ℕ) (r : Rule) : Type 1 where
   pub no-model : (countedOf (synthesisOf limit s) ≡ Refused 8 0) ↔ ((m : Model) → Satisfies m r → ⊥)
@@ -199,6 +207,8 @@ pub record Promises : Type 1 where
   pub short-accepts-exactly : ShortAcceptsExactly
   pub fills-exactly : FillsExactly
   pub short-fills-exactly : ShortFillsExactly
+  pub preview-accepts-exactly : PreviewAcceptsExactly
+  pub preview-fills-exactly : PreviewFillsExactly
   pub refuses-unsatisfiable : RefusesUnsatisfiable
   pub accepts-phones : AcceptsPhones
   pub one-phone : OnePhone

@@ -15,16 +15,19 @@ use Rattle.reading.proofs.Accepting.Accepted.{accepts-encodings}
 use Rattle.synthesis.specs.Violation.{ViolatesRule}
 use Rattle.synthesis.specs.Answering.{unsatisfiable}
 use Rattle.synthesis.specs.Building.{equationsOf, Synthesis, withEquations, synthesisOf, fillingOf, countedOf, shortOf, shortFillingOf}
+use Rattle.synthesis.specs.Building.{previewLimit, previewOf, previewFillingOf}
 use Rattle.synthesis.specs.Promises.{FillsAsCounted}
 use Rattle.synthesis.specs.declared.Counted.the-variants.{Equations, Refused}
 use Rattle.synthesis.proofs.Monitors.RuleMonitor.{unsatisfiable-iff}
 use Rattle.synthesis.proofs.Tables.SynthesisOutcomes.{synthesis-of, fills-as-counted, short-fills-as-counted}
 use Rattle.synthesis.proofs.Tables.Equations.{file-well-formed, answers-count, reaches-equations, refuses-too-many}
 use Rattle.synthesis.proofs.Tables.Built.{refuses-violated-by-empty}
+use Rattle.synthesis.proofs.Tables.Previews.{preview-within, preview-fills-as-counted}
 use Rattle.synthesis.proofs.Quotients.ShortFillings.{short-refuses-alike, short-counted-long}
 use Rattle.enforcement.specs.Model.{Model, Finite, Satisfies}
 use Rattle.models.specs.Phone.{Phone, modelOf, PhoneWithinLimits}
-use Rattle.models.specs.Promises.{Acceptable, AcceptsExactly, ShortAcceptsExactly, FillsWithRoom, FillsExactly, ShortFillsExactly, RefusesUnsatisfiable}
+use Rattle.models.specs.Promises.{Acceptable, AcceptsExactly, ShortAcceptsExactly, FillsWithRoom, FillsExactly, ShortFillsExactly}
+use Rattle.models.specs.Promises.{PreviewAcceptsExactly, PreviewFillsExactly, RefusesUnsatisfiable}
 use Rattle.enforcement.proofs.QuietModels.{empty-safe, quiet-satisfies}
 use Rattle.models.proofs.Phones.PhoneStates.{phones-finite}
 
@@ -137,6 +140,18 @@ pub short-fills-exactly : ShortFillsExactly
 short-fills-exactly limit s capacity bytes =
     filled-with-room limit s (shortOf limit s) (shortFillingOf limit s capacity) capacity (short-accepts-exactly limit s bytes)
     (short-fills-as-counted limit s capacity)
+
+pub preview-accepts-exactly : PreviewAcceptsExactly
+preview-accepts-exactly s bytes =
+    let accepts = accepts-exactly previewLimit s bytes in (
+      λ (n, e). accepts .0 (n, preview-within s n .0 e),
+      λ a. let (n, e) = accepts .1 a in (n, preview-within s n .1 e),
+    )
+
+pub preview-fills-exactly : PreviewFillsExactly
+preview-fills-exactly s capacity bytes =
+    filled-with-room previewLimit s (previewOf s) (previewFillingOf s capacity) capacity (preview-accepts-exactly s bytes)
+    (preview-fills-as-counted s capacity)
 
 pub refuses-unsatisfiable : RefusesUnsatisfiable
 refuses-unsatisfiable limit s r bytes read =

@@ -89,6 +89,13 @@ preview-accepted s y e =
     let smaller = page-accepted (synthesisOf previewLimit s) y (sym (preview-is s) ∙ e) in
     (smaller, agree s .accepts y smaller)
 
+-- the page counts what the smaller limit counts
+pub preview-within : (s : List ℕ) (n : ℕ) → (countedOf (previewOf s) ≡ Equations n) ↔ (countedOf (synthesisOf previewLimit s) ≡ Equations n)
+preview-within s n = (
+  λ e. let (y, is, n-is) = counted-accepts (previewOf s) n e in ap countedOf (preview-accepted s y is .0) ∙ ap Equations (sym n-is),
+  λ e. let (y, is, n-is) = counted-accepts (synthesisOf previewLimit s) n e in ap countedOf (preview-is s ∙ ap onPage is) ∙ ap Equations (sym n-is),
+)
+
 -- ---- what the page shows
 
 pub preview-counts : PreviewCounts
@@ -110,33 +117,34 @@ preview-counts s n = (shown, shows)
 pub preview-fills-as-counted : PreviewFillsAsCounted
 preview-fills-as-counted s capacity = filled-as-counted capacity (preview-by-count s capacity)
 
+-- what the page counts, it fills as the desk does
+pub preview-same : (s : List ℕ) (n : ℕ) → countedOf (previewOf s) ≡ Equations n → (capacity : ℕ) → previewFillingOf s capacity ≡ fillingOf most s capacity
+preview-same s n e capacity =
+    let (y, shown, n-is) = counted-accepts (previewOf s) n e in
+    rw (preview-by-count s capacity, filling-by-count most s capacity) (ap (λ (o : Outcome Synthesis). andThen o (inTable capacity)) (shown ∙ sym (preview-accepted s y shown .1)))
+
+-- a row that the desk fills is that of its equation
+desk-row : (s table : List ℕ) (y : Synthesis) → synthesisOf most s ≡ accepted y → 256 * length (y .equations) ≤ length table → (k : ℕ)
+    → k < length (y .equations)
+    → rowOf 256 (tableLeft most mark s table) k ≡ entriesOf mark (y .answer) (y .equations) (getD (y .equations) k 0) 256
+desk-row s table y is room k h =
+    rw (filling-accepts (length table) (filling-by-count most s (length table)) is room)
+    (filled-row mark (y .answer) (y .equations) 256 table room k h)
+
 pub preview-agrees : PreviewAgrees
-preview-agrees s n e = record {
-  count = preview-counts s n .0 e .0;
-  answer = λ table. ap countedOf (same (length table));
-  table = λ table. ap (λ (o : Outcome Synthesis). tableAfter mark o table) (same (length table));
-  rows = λ table table′ room room′ k h. rw (same (length table)) (row table room k h ∙ sym (row table′ room′ k h));
-}
-  where
-    y : Synthesis
-    y = counted-accepts (previewOf s) n e .0
-
-    shown : previewOf s ≡ accepted y
-    shown = counted-accepts (previewOf s) n e .1
-
-    at-desk : synthesisOf most s ≡ accepted y
-    at-desk = preview-accepted s y shown .1
-
-    same : (capacity : ℕ) → previewFillingOf s capacity ≡ fillingOf most s capacity
-    same capacity = rw (preview-by-count s capacity, filling-by-count most s capacity, shown, at-desk)
-
-    row : (table : List ℕ) → 256 * n ≤ length table → (k : ℕ) → k < n
-        → rowOf 256 (tableLeft most mark s table) k ≡ entriesOf mark (y .answer) (y .equations) (getD (y .equations) k 0) 256
-    row table room k h =
-        let n-is = counted-accepts (previewOf s) n e .2 in
-        let fits : 256 * length (y .equations) ≤ length table = omega (arith, room, n-is) in
-        rw (filling-accepts (length table) (filling-by-count most s (length table)) at-desk fits)
-        (filled-row mark (y .answer) (y .equations) 256 table fits k (omega (arith, h, n-is)))
+preview-agrees s n e =
+    let at-desk = preview-counts s n .0 e .0 in
+    let same = preview-same s n e in
+    let (y, is, n-is) = counted-accepts (synthesisOf most s) n at-desk in
+    record {
+      count = at-desk;
+      answer = λ table. ap countedOf (same (length table));
+      table = λ table. ap (λ (o : Outcome Synthesis). tableAfter mark o table) (same (length table));
+      rows = λ table table′ room room′ k h.
+          let inside : k < length (y .equations) = omega (arith, h, n-is) in
+          ap (λ (o : Outcome Synthesis). rowOf 256 (tableAfter mark o table) k) (same (length table))
+          ∙ desk-row s table y is (omega (arith, room, n-is)) k inside ∙ sym (desk-row s table′ y is (omega (arith, room′, n-is)) k inside);
+    }
 
 pub preview-fills-accepted : PreviewFillsAccepted
 preview-fills-accepted s table n bytes e =
