@@ -1,5 +1,5 @@
--- No refusal has the number 0: each is that of a fault in a file, or of a check that has its own number. The limit on equations is any, so that the rule
--- page has no other proof: its outcomes are those of its limit with 18 for 9.
+-- No refusal has the number 0: each is that of a fault in a file, or of a check that has its own number. The limit on equations is any, so that it
+-- holds on the rule page too, whose outcomes are those of its limit with 18 for 9.
 use Prim.Native.Nat.{ℕ, suc, _*_, _≤_}
 use mathlib.Core.Path.{_≡_, refl}
 use mathlib.Core.Bool.{Bool, true, false, cond}
