@@ -140,17 +140,28 @@ static const struct operation operations[] = {
     {"judge", {.judge = jarveun_judge}, {.judge = twin_judge}},
 };
 
+static const struct operation preview_operations[] = {
+    {"count_preview", {.count = jarveun_count_preview}, {.count = twin_count_preview}},
+    {"fill_preview", {.fill = jarveun_fill_preview}, {.fill = twin_fill_preview}},
+};
+
 static const struct operation short_operations[] = {
     {"count_short", {.count = jarveun_count_short}, {.count = twin_count_short}},
     {"fill_short", {.fill = jarveun_fill_short}, {.fill = twin_fill_short}},
 };
 
-enum { OPERATIONS = sizeof operations / sizeof operations[0], SHORT_OPERATIONS = sizeof short_operations / sizeof short_operations[0] };
+enum {
+    OPERATIONS = sizeof operations / sizeof operations[0],
+    PREVIEW_OPERATIONS = sizeof preview_operations / sizeof preview_operations[0],
+    SHORT_OPERATIONS = sizeof short_operations / sizeof short_operations[0],
+};
 
+/* A rule, and the answer that is due: 0, or the number of a refusal. */
 struct named_rule {
     const char *name;
     const uint8_t *bytes;
     size_t len;
+    uint8_t due;
 };
 
 /* A rule, and what becomes of it. Where a scan is to be explained, the first block of scans was kept before. */
@@ -191,11 +202,11 @@ static void contest_of_jobs(const struct operation *operation, const struct name
     struct job ours = {.function = operation->ours, .rule = rule}, twin = {.function = operation->twin, .rule = rule};
     struct entrant entrants[] = {{what, &ours, do_job, 0, 0}, {"twin", &twin, do_job, 0, 0}};
     compete(entrants, 2, rounds, JOB_CALLS, same_job);
-    if (ours.refused) {
-        fprintf(stderr, "%s: refused %u at %zu\n", what, ours.refused, ours.value);
+    fprintf(stderr, "%s: %u %zu\n", what, ours.refused, ours.value);
+    if (ours.refused != rule->due) {
+        fprintf(stderr, "%u was due\n", rule->due);
         exit(1);
     }
-    fprintf(stderr, "%s: %zu\n", what, ours.value);
     print(what, entrants, 2);
 }
 
@@ -208,12 +219,15 @@ static void contests_of_rule(const struct operation *all, size_t n, const struct
 static void contests_of_rules(size_t rounds)
 {
     uint8_t chain_bytes[CHAIN_RULE];
-    const struct named_rule paper = {"paper", paper_rule, sizeof paper_rule}, hard = {"hard", hard_rule, sizeof hard_rule},
-                            chain = {"chain", chain_bytes, CHAIN_RULE}, wheels = {"wheels", wheels_rule, sizeof wheels_rule};
+    const struct named_rule paper = {"paper", paper_rule, sizeof paper_rule, 0}, hard = {"hard", hard_rule, sizeof hard_rule, 0},
+                            page = {"page", page_rule, sizeof page_rule, 0}, over = {"over", paper_rule, sizeof paper_rule, 18},
+                            chain = {"chain", chain_bytes, CHAIN_RULE, 0}, wheels = {"wheels", wheels_rule, sizeof wheels_rule, 0};
     chain_rule(chain_bytes);
     largest_model(model);
     contests_of_rule(operations, OPERATIONS, &paper, rounds);
     contests_of_rule(operations, OPERATIONS, &hard, rounds);
+    contests_of_rule(preview_operations, PREVIEW_OPERATIONS, &page, rounds);
+    contests_of_rule(preview_operations, PREVIEW_OPERATIONS, &over, rounds);
     contests_of_rule(short_operations, SHORT_OPERATIONS, &hard, rounds);
     contests_of_rule(short_operations, SHORT_OPERATIONS, &chain, rounds);
     contests_of_rule(short_operations, SHORT_OPERATIONS, &wheels, rounds);

@@ -15,6 +15,13 @@ static const uint8_t paper_rule[] = {
     5, 1, 5, 0, 5, 0, 5, 0, 5, 0, 5, 0, 5, 0, 5, 0, 2,
 };
 
+/* The same with five: 32 equations, as many as the rule page shows. */
+static const uint8_t page_rule[] = {
+    1, 255, 0, 31, 1, 1, 5, 5,
+    6, 4, 5, 0, 7, 0,
+    5, 1, 5, 0, 5, 0, 5, 0, 5, 0, 5, 0, 2,
+};
+
 /* The hardest rule that a search at random found, but that the slots of its second pattern go round: 64 nodes, 127 equations of 9 to 46 members. All but
    one of its necessities are of any code, so that most members of an equation count under each code. */
 static const uint8_t hard_rule[] = {

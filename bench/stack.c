@@ -9,7 +9,8 @@
 
 enum { STACK = 1 << 20, PAINT = 0xa5, SCANS = 4096 };
 
-static uint8_t stack[STACK], model[LARGEST_MODEL], table[JARVEUN_TABLE], short_table[JARVEUN_TABLE], scans[SCANS], output[SCANS], verdicts[SCANS];
+static uint8_t stack[STACK], model[LARGEST_MODEL], scans[SCANS], output[SCANS], verdicts[SCANS];
+static uint8_t table[JARVEUN_TABLE], page_table[JARVEUN_PREVIEW_TABLE], short_table[JARVEUN_TABLE];
 static const uint8_t *rule;
 static size_t rule_len, equations;
 
@@ -22,6 +23,18 @@ static void count(void)
 static void fill(void)
 {
     jarveun_fill(rule, rule_len, table, sizeof table, &equations);
+}
+
+static void count_preview(void)
+{
+    size_t value;
+    jarveun_count_preview(rule, rule_len, &value);
+}
+
+static void fill_preview(void)
+{
+    size_t value;
+    jarveun_fill_preview(rule, rule_len, page_table, sizeof page_table, &value);
 }
 
 static void count_short(void)
@@ -79,6 +92,8 @@ static struct {
 } functions[] = {
     {"count", count, 0},
     {"fill", fill, 0},
+    {"count_preview", count_preview, 0},
+    {"fill_preview", fill_preview, 0},
     {"count_short", count_short, 0},
     {"fill_short", fill_short, 0},
     {"explain", explain, 0},
@@ -108,6 +123,7 @@ int main(void)
     largest_model(model);
     random_bytes(1, scans, SCANS);
     measure(hard_rule, sizeof hard_rule);
+    measure(page_rule, sizeof page_rule);
     measure(nested, MOST_NODES);
     /* One node more, where the file ends: no file has the reader go deeper. */
     nested[MOST_NODES - 1] = MAX;

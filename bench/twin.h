@@ -5,7 +5,7 @@
 #include <stddef.h>
 #include <stdint.h>
 
-enum { SLOTS = 32, CODES = 256, DROPPED = 255, MOST_EQUATIONS = 128, MOST_TABLE = CODES * MOST_EQUATIONS };
+enum { SLOTS = 32, CODES = 256, DROPPED = 255, MOST_EQUATIONS = 128, PREVIEW_MOST = 32, MOST_TABLE = CODES * MOST_EQUATIONS };
 enum { MOST_PATTERNS = 32, MOST_NODES = 64, MOST_STATES = 64, MOST_STEPS = 512 };
 enum kind { PATTERN = 1, TRUTH, FALSITY, BOTH, NECESSITY, MAX, VARIABLE };
 
@@ -26,6 +26,8 @@ uint8_t twin_read(const uint8_t *bytes, size_t len, struct rule *rule, size_t *p
 /* As the functions of jarveun.h. */
 uint8_t twin_count(const uint8_t *rule, size_t rule_len, size_t *value);
 uint8_t twin_fill(const uint8_t *rule, size_t rule_len, uint8_t *table, size_t table_len, size_t *value);
+uint8_t twin_count_preview(const uint8_t *rule, size_t rule_len, size_t *value);
+uint8_t twin_fill_preview(const uint8_t *rule, size_t rule_len, uint8_t *table, size_t table_len, size_t *value);
 uint8_t twin_count_short(const uint8_t *rule, size_t rule_len, size_t *value);
 uint8_t twin_fill_short(const uint8_t *rule, size_t rule_len, uint8_t *table, size_t table_len, size_t *value);
 uint8_t twin_explain(const uint8_t *rule, size_t rule_len, const uint8_t *kept, size_t kept_len, uint8_t scan, size_t *value);

@@ -1,5 +1,5 @@
-/* Counts the equations of a rule, fills its table and the shortest one, and explains why a scan is dropped. Sets of nodes are numbers, node k is
-   bit k. */
+/* Counts the equations of a rule and fills its table, at the desk and on the rule page; fills the shortest table, and explains why a scan is dropped.
+   Sets of nodes are numbers, node k is bit k. */
 #include "jarveun.h"
 #include "twin.h"
 
@@ -77,8 +77,8 @@ static inline size_t find(uint64_t *found, size_t n, uint64_t equation)
     return i;
 }
 
-/* Finds the equations, and says how many there are; 129 where they are over 128. There is a place more than for 128. */
-static size_t search(const struct graph *g, uint64_t *found)
+/* Finds the equations, and says how many there are; one more than `most` where they are over it. There is a place more than for `most`. */
+static size_t search(const struct graph *g, size_t most, uint64_t *found)
 {
     size_t n = 1;
     found[0] = g->first;
@@ -88,7 +88,7 @@ static size_t search(const struct graph *g, uint64_t *found)
             uint64_t next = reached(g, equation, code);
             if (next & g->falsities || find(found, n, next) < n)
                 continue;
-            if (n == MOST_EQUATIONS)
+            if (n == most)
                 return n + 1;
             n++;
         }
@@ -107,8 +107,16 @@ static void fill_rows(const struct graph *g, uint64_t *found, size_t n, uint8_t 
     }
 }
 
-/* Reads a rule and finds its equations: 0 and their count, or one of refusals 1 to 9 with its place. */
-static uint8_t plan(const uint8_t *bytes, size_t len, struct graph *g, uint64_t *found, size_t *value)
+/* The most equations that a rule may have, and the refusal of one with more. */
+struct limit {
+    size_t most;
+    uint8_t refusal;
+};
+
+static const struct limit desk = {MOST_EQUATIONS, 9}, page = {PREVIEW_MOST, 18};
+
+/* Reads a rule and finds its equations: 0 and their count, or one of refusals 1 to 8, or that of the limit, with its place. */
+static uint8_t plan(const uint8_t *bytes, size_t len, struct limit limit, struct graph *g, uint64_t *found, size_t *value)
 {
     struct rule rule;
     uint8_t refused = twin_read(bytes, len, &rule, value);
@@ -118,18 +126,28 @@ static uint8_t plan(const uint8_t *bytes, size_t len, struct graph *g, uint64_t 
     *value = 0;
     if (g->first & g->falsities)
         return 8;
-    size_t n = search(g, found);
-    if (n > MOST_EQUATIONS)
-        return 9;
+    size_t n = search(g, limit.most, found);
+    if (n > limit.most)
+        return limit.refusal;
     *value = n;
     return 0;
 }
 
-uint8_t twin_count(const uint8_t *rule, size_t rule_len, size_t *value)
+static uint8_t count_within(const uint8_t *rule, size_t rule_len, struct limit limit, size_t *value)
 {
     struct graph g;
     uint64_t found[MOST_EQUATIONS + 1];
-    return plan(rule, rule_len, &g, found, value);
+    return plan(rule, rule_len, limit, &g, found, value);
+}
+
+uint8_t twin_count(const uint8_t *rule, size_t rule_len, size_t *value)
+{
+    return count_within(rule, rule_len, desk, value);
+}
+
+uint8_t twin_count_preview(const uint8_t *rule, size_t rule_len, size_t *value)
+{
+    return count_within(rule, rule_len, page, value);
 }
 
 /* 0 where so many rows fit into a table, or refusal 10 with its place. */
@@ -141,16 +159,26 @@ static uint8_t fit(size_t table_len, size_t *value)
     return 10;
 }
 
-uint8_t twin_fill(const uint8_t *rule, size_t rule_len, uint8_t *table, size_t table_len, size_t *value)
+static uint8_t fill_within(const uint8_t *rule, size_t rule_len, struct limit limit, uint8_t *table, size_t table_len, size_t *value)
 {
     struct graph g;
     uint64_t found[MOST_EQUATIONS + 1];
-    uint8_t refused = plan(rule, rule_len, &g, found, value);
+    uint8_t refused = plan(rule, rule_len, limit, &g, found, value);
     if (!refused)
         refused = fit(table_len, value);
     if (!refused)
         fill_rows(&g, found, *value, table);
     return refused;
+}
+
+uint8_t twin_fill(const uint8_t *rule, size_t rule_len, uint8_t *table, size_t table_len, size_t *value)
+{
+    return fill_within(rule, rule_len, desk, table, table_len, value);
+}
+
+uint8_t twin_fill_preview(const uint8_t *rule, size_t rule_len, uint8_t *table, size_t table_len, size_t *value)
+{
+    return fill_within(rule, rule_len, page, table, table_len, value);
 }
 
 /* Whether equations k and l are of one class and lead to the same classes under every code. Dropped is a class of its own. */
@@ -243,7 +271,7 @@ uint8_t twin_explain(const uint8_t *rule, size_t rule_len, const uint8_t *kept, 
 {
     struct graph g;
     uint64_t found[MOST_EQUATIONS + 1];
-    uint8_t refused = plan(rule, rule_len, &g, found, value);
+    uint8_t refused = plan(rule, rule_len, desk, &g, found, value);
     if (refused)
         return refused;
     uint64_t equation = g.first;

@@ -17,6 +17,10 @@
    This filling isn't refused, and hands back the same count. jarveun_count_short and jarveun_fill_short go together in the same way. JARVEUN_TABLE
    bytes are enough for every rule.
 
+   The page on which a rule is typed shows it as it grows, up to 32 equations. There jarveun_count_preview and jarveun_fill_preview go together: count,
+   set these bytes aside, and fill. JARVEUN_PREVIEW_TABLE bytes are enough for whatever the page shows. What it shows has the same count and the same
+   table by jarveun_count and jarveun_fill.
+
    What is handed over
    - A pointer and the length after it: that many bytes are there to be read, and where the pointer isn't const, to be written.
    - No pointer is null, also where its length is 0. The pointers to size_t are aligned for it; those to bytes needn't be.
@@ -26,12 +30,14 @@
 
    What a call takes
    - No globals, heap, files or locks: calls share nothing, and may run side by side, any number of them on one table that they only read.
-   - Stack. At most 200 bytes were seen in use by a run, 43,000 by counting, 46,000 by explaining, 47,000 by filling, and 81,000 by judging and by
-     counting and filling for the short table, all but the first on rules with 64 nodes, each inside the one before; bench/stack.c measures this.
+   - Stack. At most 200 bytes were seen in use by a run, 43,000 by counting and 47,000 by filling, for the page too, 46,000 by explaining, and 81,000
+     by judging and by counting and filling for the short table, all but the first on rules with 64 nodes, each inside the one before; bench/stack.c
+     measures this.
 
    The refusals. The first to apply is answered. Each function names those that it looks for, in their order; 1 to 7 go by the records of the rule from
-   left to right, 8 comes after them and 9 after 8, and 11 to 14 go by the records of the model from left to right. A place is an offset in bytes from
-   0, in the rule, or for 11 to 14 in the model, and for 17 in the kept scans. Where none is named below, it is that of the record's first byte.
+   left to right, 8 comes after them and 9 after 8, on the page 18 in the place of 9, and 11 to 14 go by the records of the model from left to right.
+   A place is an offset in bytes from 0, in the rule, or for 11 to 14 in the model, and for 17 in the kept scans. Where none is named below, it is
+   that of the record's first byte.
     1  the rule ends before its formula is whole; at its length
     2  a record of the rule with a kind that isn't 1 to 7
     3  a byte after the whole formula, or a pattern once the formula has begun; at that byte
@@ -49,7 +55,8 @@
    15  the output or the verdicts are shorter than the scans; at 0
    16  the count isn't 1 to 128, the equation isn't under it, the table has under 256 * count bytes, or one of these bytes is neither under the
        count nor 255; at 0
-   17  the kept scans handed in violate the rule; at the first with which they do */
+   17  the kept scans handed in violate the rule; at the first with which they do
+   18  the page's rule has over 32 equations; at 0 */
 #ifndef JARVEUN_H
 #define JARVEUN_H
 
@@ -62,6 +69,9 @@ extern "C" {
 
 /* The bytes of the longest table, which has 128 rows. */
 #define JARVEUN_TABLE 32768
+
+/* The bytes of the longest table on the page, which has 32. */
+#define JARVEUN_PREVIEW_TABLE 8192
 
 /* What explaining hands back for a kept scan. A rule has at most 64 nodes, numbered from 0, so no node has this number. */
 #define JARVEUN_KEPT 64
@@ -77,6 +87,17 @@ uint8_t jarveun_count(const uint8_t *rule, size_t rule_len, size_t *value);
    dropped. The bytes after the last row are as they were.
    Refused: *value is the place, and the table is as it was. *value is never read. */
 uint8_t jarveun_fill(const uint8_t *rule, size_t rule_len, uint8_t *table, size_t table_len, size_t *value);
+
+/* Counts the equations of a rule as the page shows it. Refusals: 1 to 8, then 18.
+   0: *value is their count, 1 to 32, which jarveun_count hands back too.
+   Refused: *value is the place. *value is never read, and nothing else is written. */
+uint8_t jarveun_count_preview(const uint8_t *rule, size_t rule_len, size_t *value);
+
+/* Fills a table with a row for each of these equations. The table has at least 256 * count bytes, by the count of jarveun_count_preview. Refusals:
+   1 to 8, then 18, then 10.
+   0: *value is the count, and the table is as jarveun_fill leaves it.
+   Refused: *value is the place, and the table is as it was. *value is never read. */
+uint8_t jarveun_fill_preview(const uint8_t *rule, size_t rule_len, uint8_t *table, size_t table_len, size_t *value);
 
 /* Counts the rows of the shortest table of a rule: equations that drop alike on every list of scans are one. Refusals: 1 to 9, where 9 counts the
    equations before they are merged.

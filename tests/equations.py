@@ -7,6 +7,9 @@ from rules import Refusal, numbered, read_rule
 CODES = 256
 MOST_EQUATIONS = 128
 
+# The most that the rule page shows.
+PREVIEW_MOST = 32
+
 # A table of so many bytes has room for the rows of every rule.
 LARGEST_TABLE = CODES * MOST_EQUATIONS
 
@@ -87,21 +90,26 @@ class Equations:
         return dropped
 
 
-def rows_of(equations):
-    """The rows of a rule's equations in order, or the refusal of the rule."""
+def rows_of(equations, limit=MOST_EQUATIONS, number=9):
+    """The rows of a rule's equations in order, or the refusal of the rule: of that number where they are over the limit."""
     if equations.has_falsity(equations.first):
         return Refusal(8, 0)
-    numbers = equations.numbers(MOST_EQUATIONS)
-    if len(numbers) > MOST_EQUATIONS:
-        return Refusal(9, 0)
+    numbers = equations.numbers(limit)
+    if len(numbers) > limit:
+        return Refusal(number, 0)
     return [equations.row(equation, numbers) for equation in numbers]
 
 
 @cache
-def rows(data):
+def rows(data, limit=MOST_EQUATIONS, number=9):
     """The rows of the equations of the rule that a file holds, or the refusal of the file."""
     rule = read_rule(data)
-    return rule if isinstance(rule, Refusal) else rows_of(Equations(rule))
+    return rule if isinstance(rule, Refusal) else rows_of(Equations(rule), limit, number)
+
+
+def preview_rows(data):
+    """The rows on the rule page."""
+    return rows(data, PREVIEW_MOST, 18)
 
 
 def can_drop(table):
@@ -123,6 +131,10 @@ def fill_by(rows_of_file, data, table):
 
 def fill(data, table):
     return fill_by(rows, data, table)
+
+
+def fill_preview(data, table):
+    return fill_by(preview_rows, data, table)
 
 
 def said(counted):

@@ -3,20 +3,23 @@
 With --check nothing is written, and the files are compared with what would be.
 """
 from compare import expect
-from equations import fill, rows
+from equations import fill, fill_preview, preview_rows, rows
 from expected import is_check, settle
 from judging import judge
-from known import POOL, bytes_of, counted
+from known import ANY, ONE, POOL, bytes_of, counted
 from known_models import MEETING, PAPER
 from merging import fill_short, short_rows
 from reasons import KEPT, by_violation
 from rules import Refusal
 from running import run
 
-# A rule with an unguarded variable, one with over 128 equations, one with an ff each for codes 5 and 37, one that after either code drops 37, a model
-# that is cut short inside its first step, and the paper's scans.
+# A rule with an unguarded variable, one with over 128 equations, one with 32, which are as many as the rule page shows, and one with 33, as its first
+# doesn't come again; one with an ff each for codes 5 and 37, one that after either code drops 37, a model that is cut short inside its first step, and the
+# paper's scans.
 UNGUARDED = "6 7 0"
 MANY = counted(8)
+FULL_PAGE = counted(5)
+OVER_PAGE = FULL_PAGE.replace(ANY + ONE, ANY + ONE + "4 5 0 2 ")
 EITHER = "1 1 5 5 1 2 5 5 4 5 0 3 5 1 3"
 ALIKE = "1 1 5 5 1 2 5 5 4 5 0 5 1 3 5 1 5 1 3"
 CUT = "16 2 17 0"
@@ -35,22 +38,29 @@ UNTOUCHED = 200
 LINES = [
     # the number-pool rule has 3 equations; the one whose branches drop alike has 4, and 3 when they are merged
     "count 0 3",
+    "count_preview 0 3",
     "count_short 0 3",
     "count 0 4",
+    "count_preview 0 4",
     "count_short 0 3",
     # a refused rule, with a table of less than a row and a refused model
     "count 7 1",
+    "count_preview 7 1",
     "count_short 7 1",
     "fill 7 1 255",
+    "fill_preview 7 1 255",
     "fill_short 7 1 255",
     "judge 7 1 255",
     "count 9 0",
+    "count_preview 18 0",
     "count_short 9 0",
     "fill 9 0 255",
+    "fill_preview 18 0 255",
     "fill_short 9 0 255",
     "judge 9 0 255",
     # 767 bytes: one less than 3 rows take
     "fill 10 0 767",
+    "fill_preview 10 0 767",
     "fill_short 10 0 767",
     "fill_short 10 0 767",
     "judge 10 0 767",
@@ -66,6 +76,19 @@ LINES = [
     "fill_short 0 3 255",
     "fill_short 0 3 256",
     "fill 0 4 0",
+    # 33 equations are one too many for the page, and with no table 18 comes before 10
+    "count 0 33",
+    "count_preview 18 0",
+    "count_short 0 1",
+    "fill_preview 18 0 0",
+    "fill_preview 18 0 0",
+    # 32 equations with a byte less than their rows take; then a table with as many bytes as they take, for 33 and for 32
+    "count 0 32",
+    "count_preview 0 32",
+    "count_short 0 1",
+    "fill_preview 10 0 8191",
+    "fill_preview 18 0 8192",
+    "fill_preview 0 32 0",
     "explain 0 4",
     "explain 0 64",
     "explain 17 1",
@@ -81,6 +104,9 @@ LINES = [
     "run 0 1 5 1 37 128 5 37 5 7 7 7 0 1 0 0 0 0 7 7",
     "run 16 3 0 0 7 7 7 7 7 7 7 7 0 1 0 0 0 0 7 7",
     "run 15 2 0 0 7 7 7 7 7 7 7 7 7 7 7 7 7",
+    # a run over what the page fills
+    "fill_preview 0 3 0",
+    "run 0 1 5 1 37 128 5 37 5 7 7 7 0 1 0 0 0 0 7 7",
     "fill_short 0 3 0",
     "run 0 1 6 0 37 5 128 5 37 5 7 7 0 0 0 0 0 0 7 7",
     "run 0 1 5 1 5 128 5 37 5 7 7 7 1 0 0 0 0 0 7 7",
@@ -97,7 +123,7 @@ def result_of(answer):
 
 
 def counted_lines(rule):
-    counts = {"count": rows, "count_short": short_rows}
+    counts = {"count": rows, "count_preview": preview_rows, "count_short": short_rows}
     return [line_of(name, *result_of(rows_of_file(bytes_of(rule)))) for name, rows_of_file in counts.items()]
 
 
@@ -134,24 +160,34 @@ def untouched(size):
 def refused_lines(rule):
     """The lines of a rule that is refused."""
     table = untouched(255)
-    return counted_lines(rule) + [filled_line(by, rule, table) for by in (fill, fill_short)] + [judged_line(rule, CUT, table)]
+    return counted_lines(rule) + [filled_line(by, rule, table) for by in (fill, fill_preview, fill_short)] + [judged_line(rule, CUT, table)]
 
 
 def table_lines():
     """Fillings and judgments with tables of several sizes."""
     less, more, almost, whole = [untouched(size) for size in (767, 769, 1023, 1024)]
-    lines = [filled_line(by, rule, less) for by, rule in ((fill, POOL), (fill_short, POOL), (fill_short, ALIKE))]
+    lines = [filled_line(by, rule, less) for by, rule in ((fill, POOL), (fill_preview, POOL), (fill_short, POOL), (fill_short, ALIKE))]
     lines += [judged_line(POOL, model, less) for model in (MEETING, CUT)]
     lines += [judged_line(POOL, model, more) for model in (CUT, PAPER, MEETING)] + [filled_line(fill, POOL, more)]
     lines += [filled_line(fill, ALIKE, almost), judged_line(ALIKE, MEETING, almost), filled_line(fill_short, ALIKE, almost)]
     return lines + [filled_line(by, ALIKE, whole) for by in (fill_short, fill)]
 
 
+def preview_lines():
+    """The page on rules with more equations than it shows, and with as many."""
+    none, less, whole = [untouched(size) for size in (0, 8191, 8192)]
+    lines = counted_lines(OVER_PAGE) + [filled_line(fill_preview, rule, none) for rule in (OVER_PAGE, MANY)]
+    lines += counted_lines(FULL_PAGE) + [filled_line(fill_preview, FULL_PAGE, less)]
+    return lines + [filled_line(fill_preview, rule, whole) for rule in (OVER_PAGE, FULL_PAGE)]
+
+
 def run_lines():
-    """Runs over tables that just fit: that of the number-pool rule, and the short one of the other."""
+    """Runs over tables that just fit: that of the number-pool rule, filled by the desk and by the page, and the short one of the other."""
     table, verdicts = untouched(768), bytearray([7] * 8)
     lines = [judged_line(POOL, MEETING, table), filled_line(fill, POOL, table)]
     lines += [ran_line(table, 0, verdicts), ran_line(table, 3, verdicts), ran_line(table, 2, bytearray([7] * 5))]
+    table, verdicts = untouched(768), bytearray([7] * 8)
+    lines += [filled_line(fill_preview, POOL, table), ran_line(table, 0, verdicts)]
     table, verdicts = untouched(768), bytearray([7] * 8)
     return lines + [filled_line(fill_short, ALIKE, table)] + [ran_line(table, state, verdicts) for state in (0, 2)]
 
@@ -162,7 +198,7 @@ def all_lines():
     reasons = [explained_line(POOL, "37", 5), explained_line(POOL, "37 128", 5)]
     reasons += [explained_line(POOL, "37 5", 5), explained_line(POOL, "37 5", 128), explained_line(UNGUARDED, "37 5", 5)]
     reasons += [explained_line(EITHER, "", scan) for scan in (5, 37, 6)] + [explained_line(EITHER, "37", 5)]
-    return counts + table_lines() + reasons + run_lines()
+    return counts + table_lines() + preview_lines() + reasons + run_lines()
 
 
 def main():

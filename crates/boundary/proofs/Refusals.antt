@@ -1,24 +1,25 @@
--- No refusal has the number 0: each is that of a fault in a file, or of a check that has its own number.
+-- No refusal has the number 0: each is that of a fault in a file, or of a check that has its own number. The limit on equations is any, so that it
+-- holds on the rule page too, whose outcomes are those of its limit with 18 for 9.
 use Prim.Native.Nat.{ℕ, suc, _*_, _≤_}
 use mathlib.Core.Path.{_≡_, refl}
-use mathlib.Core.Bool.{Bool, true, false}
+use mathlib.Core.Bool.{Bool, true, false, cond}
 use mathlib.Core.List.{List, [], _∷_}
 use native.Mathlib.Omega.{arith}
-use lib.Dec.{ltb}
+use lib.Dec.{eqb, ltb}
 use lib.ListN.{length}
 use Rattle.reading.specs.Rule.{Bytes}
 use Rattle.reading.specs.File.{Outcome, accepted, refused, refuse, andThen, ruleOf}
-use Rattle.reading.specs.Faults as Rules
 use Rattle.reading.proofs.Basics.Outcomes.{never-refused}
-use Rattle.reading.proofs.Refusing.FaultsRefused.{answer-refused, refuses-at-the-fault as rule-at-the-fault}
-use Rattle.synthesis.specs.Monitor.{Answer, dropped, next, most}
+use Rattle.reading.proofs.Refusing.FaultNumbers.{rule-refused-number}
+use Rattle.synthesis.specs.Monitor.{Answer, dropped, next}
 use Rattle.synthesis.specs.Answering.{unsatisfiable, firstOf, answerOf}
 use Rattle.synthesis.specs.Building.{equationsOf, Synthesis, synthesisOfRule, synthesisOf, inTable, fillingOf, shortened, shortOf, shortFillingOf}
+use Rattle.synthesis.specs.Building.{previewLimit, onPage, previewOf, previewFillingOf}
 use Rattle.synthesis.specs.Reason.{followed, openedFalsities, openedAfter, explanationOf}
 use Rattle.models.specs.Phone.{phoneOf}
 use Rattle.models.specs.Faults as Models
 use Rattle.models.specs.Judging.{withModel, judgingOf}
-use Rattle.models.proofs.Files.FileFaults.{model-refused, refuses-at-the-fault as model-at-the-fault}
+use Rattle.models.proofs.Files.FileFaults.{model-refused, refuses-at-the-fault}
 
 abbrev pub Numbered : {A : Type 0} → Outcome A → Type 0
 Numbered o = (number place : ℕ) → o ≡ refused number place → 1 ≤ number
@@ -38,18 +39,8 @@ then-numbered (refused k q) f first second number place e = first number place c
 
 -- ---- files
 
-rule-fault : {s : List ℕ} {number place : ℕ} → Rules.Fault s number place → 1 ≤ number
-rule-fault (Rules.file-ended _) = omega arith
-rule-fault (Rules.pattern-cut _ _ _ _) = omega arith
-rule-fault (Rules.node-cut _ _ _ _) = omega arith
-rule-fault (Rules.no-kind _ _) = omega arith
-rule-fault (Rules.after-rule _ _ _) = omega arith
-rule-fault (Rules.late-pattern _ _ _) = omega arith
-rule-fault (Rules.pattern-33 _ _) = omega arith
-rule-fault (Rules.node-65 _ _) = omega arith
-rule-fault (Rules.bad-pattern _ _ _ _ _) = omega arith
-rule-fault (Rules.names-nothing _ _ _ _ _) = omega arith
-rule-fault (Rules.unguarded _ _ _ _ _ _) = omega arith
+rule-numbered : (s : List ℕ) → Bytes s → Numbered (ruleOf s)
+rule-numbered s bytes number place e = rule-refused-number s bytes number place e .0
 
 model-fault : {f : List ℕ} {number place : ℕ} → Models.Fault f number place → 1 ≤ number
 model-fault (Models.empty-file _) = omega arith
@@ -63,7 +54,7 @@ model-fault (Models.step-513 _ _) = omega arith
 
 model-numbered : (f : List ℕ) → Bytes f → Numbered (phoneOf f)
 model-numbered f bytes number place e =
-    model-fault (model-at-the-fault f bytes number place .0 (model-refused (phoneOf f) number place .0 e))
+    model-fault (refuses-at-the-fault f bytes number place .0 (model-refused (phoneOf f) number place .0 e))
 
 -- ---- the scans kept so far
 
@@ -77,44 +68,59 @@ followed-numbered answer e i (c ∷ w) = on (answer e c) refl (λ e′. followed
 
 -- ---- the outcomes
 
-module _ (s : List ℕ) (bytes : Bytes s) where
-  rule-numbered : Numbered (ruleOf s)
-  rule-numbered number place e =
-      rule-fault (rule-at-the-fault s bytes number place .0 (answer-refused (ruleOf s) number place .0 e))
-
-  pub synthesis-numbered : Numbered (synthesisOf most s)
+module _ (limit : ℕ) (s : List ℕ) (bytes : Bytes s) where
+  pub synthesis-numbered : Numbered (synthesisOf limit s)
   unfolding synthesisOf
   synthesis-numbered =
-      then-numbered (ruleOf s) (synthesisOfRule most) rule-numbered (λ r.
+      then-numbered (ruleOf s) (synthesisOfRule limit) (rule-numbered s bytes) (λ r.
       check-numbered (unsatisfiable r) 8 0 _ (omega arith)
-      (check-numbered (ltb most (length (equationsOf most r))) 9 0 _ (omega arith) (accepted-numbered _)))
+      (check-numbered (ltb limit (length (equationsOf limit r))) 9 0 _ (omega arith) (accepted-numbered _)))
 
-  pub short-numbered : Numbered (shortOf most s)
+  pub short-numbered : Numbered (shortOf limit s)
   unfolding shortOf
-  short-numbered = then-numbered (synthesisOf most s) (λ y. accepted (shortened y)) synthesis-numbered (λ y. accepted-numbered (shortened y))
+  short-numbered = then-numbered (synthesisOf limit s) (λ y. accepted (shortened y)) synthesis-numbered (λ y. accepted-numbered (shortened y))
 
   module _ (capacity : ℕ) where
     table-numbered : (y : Synthesis) → Numbered (inTable capacity y)
     table-numbered y = check-numbered (ltb capacity (256 * length (y .equations))) 10 0 (accepted y) (omega arith) (accepted-numbered y)
 
-    pub filling-numbered : Numbered (fillingOf most s capacity)
+    pub filling-numbered : Numbered (fillingOf limit s capacity)
     unfolding fillingOf
-    filling-numbered = then-numbered (synthesisOf most s) (inTable capacity) synthesis-numbered table-numbered
+    filling-numbered = then-numbered (synthesisOf limit s) (inTable capacity) synthesis-numbered table-numbered
 
-    pub short-filling-numbered : Numbered (shortFillingOf most s capacity)
+    pub short-filling-numbered : Numbered (shortFillingOf limit s capacity)
     unfolding shortFillingOf
-    short-filling-numbered = then-numbered (shortOf most s) (inTable capacity) short-numbered table-numbered
+    short-filling-numbered = then-numbered (shortOf limit s) (inTable capacity) short-numbered table-numbered
 
-    pub judging-numbered : (f : List ℕ) → Bytes f → Numbered (judgingOf most s capacity f)
+    pub judging-numbered : (f : List ℕ) → Bytes f → Numbered (judgingOf limit s capacity f)
     unfolding judgingOf
     judging-numbered f model =
-        then-numbered (fillingOf most s capacity) (withModel f) filling-numbered (λ y.
+        then-numbered (fillingOf limit s capacity) (withModel f) filling-numbered (λ y.
         then-numbered (phoneOf f) _ (model-numbered f model) (λ p. accepted-numbered _))
 
-  pub explanation-numbered : (w : List ℕ) (c : ℕ) → Numbered (explanationOf most s w c)
+  pub explanation-numbered : (w : List ℕ) (c : ℕ) → Numbered (explanationOf limit s w c)
   unfolding explanationOf
   explanation-numbered w c =
-      then-numbered (synthesisOf most s) (λ y. openedAfter (y .rule) w c) synthesis-numbered (λ y.
+      then-numbered (synthesisOf limit s) (λ y. openedAfter (y .rule) w c) synthesis-numbered (λ y.
       let r = y .rule in
       then-numbered (followed (answerOf r) (firstOf r) 0 w) (λ e. accepted (openedFalsities r e c)) (followed-numbered (answerOf r) (firstOf r) 0 w)
       (λ e. accepted-numbered (openedFalsities r e c)))
+
+-- ---- the rule page
+
+page-numbered : (o : Outcome Synthesis) → Numbered o → Numbered (onPage o)
+page-numbered (accepted y) numbered number place e = accepted-numbered y number place e
+page-numbered (refused k q) numbered number place e = on (eqb k 9) e
+  where
+    on : (b : Bool) → _≡_ {A = Outcome Synthesis} (refused (cond b 18 k) q) (refused number place) → 1 ≤ number
+    on true e = let same : 18 ≡ number = cc in omega (arith, same)
+    on false e = numbered number place e
+
+module _ (s : List ℕ) (bytes : Bytes s) where
+  pub preview-numbered : Numbered (previewOf s)
+  unfolding previewOf
+  preview-numbered = page-numbered (synthesisOf previewLimit s) (synthesis-numbered previewLimit s bytes)
+
+  pub preview-filling-numbered : (capacity : ℕ) → Numbered (previewFillingOf s capacity)
+  unfolding previewFillingOf
+  preview-filling-numbered capacity = page-numbered (fillingOf previewLimit s capacity) (filling-numbered previewLimit s bytes capacity)

@@ -25,7 +25,7 @@ use Rattle.models.specs.declared.Judged.the-variants as Judged′
 use Rattle.boundary.specs.Results.{Result, countedResult, keptValue, reasonResult, judgedResult, checkedNumber, stateOf}
 use Rattle.boundary.specs.Promises.{CountTold, TellsCounts, TellsReason, TellsJudgment, TellsRun}
 use Rattle.boundary.proofs.Refusals.{Numbered, synthesis-numbered, short-numbered, filling-numbered, short-filling-numbered}
-use Rattle.boundary.proofs.Refusals.{judging-numbered, explanation-numbered}
+use Rattle.boundary.proofs.Refusals.{judging-numbered, explanation-numbered, preview-numbered, preview-filling-numbered}
 use Rattle.boundary.proofs.KeptValue.{kept-is-no-node}
 
 -- answers that can be read back have the same result only where they are the same
@@ -67,10 +67,12 @@ count-told o numbered = record {
 
 pub tells-counts : TellsCounts
 tells-counts s capacity bytes = record {
-  counting = count-told _ (synthesis-numbered s bytes);
-  filling = count-told _ (filling-numbered s bytes capacity);
-  short-counting = count-told _ (short-numbered s bytes);
-  short-filling = count-told _ (short-filling-numbered s bytes capacity);
+  counting = count-told _ (synthesis-numbered most s bytes);
+  filling = count-told _ (filling-numbered most s bytes capacity);
+  preview-counting = count-told _ (preview-numbered s bytes);
+  preview-filling = count-told _ (preview-filling-numbered s bytes capacity);
+  short-counting = count-told _ (short-numbered most s bytes);
+  short-filling = count-told _ (short-filling-numbered most s bytes capacity);
 }
 
 -- ---- explaining
@@ -96,7 +98,7 @@ reason-back (refused number place) numbered inside = refusal-back saidReason Rea
 
 pub tells-reason : TellsReason
 tells-reason s kept scan bytes =
-    let back = reason-back (explanationOf most s kept scan) (explanation-numbered s bytes kept scan) (λ m. kept-is-no-node s kept scan m bytes) in
+    let back = reason-back (explanationOf most s kept scan) (explanation-numbered most s bytes kept scan) (λ m. kept-is-no-node s kept scan m bytes) in
     record {
       kept = told-apart reasonResult reasonBack back refl;
       node = λ m inside. told-apart reasonResult reasonBack back (node-back m inside);
@@ -118,7 +120,7 @@ judged-back (refused number place) numbered answer is = rw is (refusal-back said
 
 pub tells-judgment : TellsJudgment
 tells-judgment s f capacity answer bytes model judged =
-    let back = judged-back _ (judging-numbered s bytes capacity f model) answer judged in
+    let back = judged-back _ (judging-numbered most s bytes capacity f model) answer judged in
     record {
       meets = told-apart judgedResult judgedBack back refl;
       breaks = told-apart judgedResult judgedBack back refl;

@@ -7,7 +7,7 @@ use mathlib.Core.List.{List}
 use Rattle.reading.specs.Rule.{Bytes}
 use Rattle.reading.specs.File.{Outcome}
 use Rattle.synthesis.specs.Monitor.{mark, most}
-use Rattle.synthesis.specs.Building.{Synthesis, synthesisOf, fillingOf, shortOf, shortFillingOf, countedOf}
+use Rattle.synthesis.specs.Building.{Synthesis, synthesisOf, fillingOf, previewOf, previewFillingOf, shortOf, shortFillingOf, countedOf}
 use Rattle.synthesis.specs.Reason.{explanationOf, reasonOf}
 use Rattle.synthesis.specs.declared.Counted.the-variants as Counted
 use Rattle.synthesis.specs.declared.Reason.{Reason}
@@ -40,6 +40,8 @@ pub record CountTold (outcome : Outcome Synthesis) : Type 0 where
 pub record CountsTold (s : List ℕ) (capacity : ℕ) : Type 0 where
   pub counting : CountTold (synthesisOf most s)
   pub filling : CountTold (fillingOf most s capacity)
+  pub preview-counting : CountTold (previewOf s)
+  pub preview-filling : CountTold (previewFillingOf s capacity)
   pub short-counting : CountTold (shortOf most s)
   pub short-filling : CountTold (shortFillingOf most s capacity)
 

@@ -9,7 +9,7 @@ use synthesis::Reason;
 ghost use mathlib.Core.Path.{_≡_};
 ghost use lib.ListN.{length};
 ghost use Rattle.synthesis.specs.Monitor.{mark, most};
-ghost use Rattle.synthesis.specs.Building.{synthesisOf, fillingOf, shortOf, shortFillingOf, countedOf, tableAfter};
+ghost use Rattle.synthesis.specs.Building.{synthesisOf, fillingOf, previewOf, previewFillingOf, shortOf, shortFillingOf, countedOf, tableAfter};
 ghost use Rattle.synthesis.specs.Reason.{explanationOf, reasonOf};
 ghost use Rattle.running.specs.Running.{runOf, outputAfter, verdictsAfter};
 ghost use Rattle.models.specs.Judging.{judgingOf, JudgedAs, tableJudged};
@@ -52,6 +52,25 @@ pub extern "C" fn jarveun_fill(rule: &[u8], table: &mut [u8], value: &mut usize)
     ensures { λ _. ⌜ now (table .exit) ≡ tableAfter mark (fillingOf most (now (rule .entry)) (length (now (table .entry)))) (now (table .entry)) ⌝ }
 {
     hand_back(synthesis::fill(rule, table), value)
+}
+
+// Counts the equations of a rule as the rule page shows it.
+#[no_mangle]
+pub extern "C" fn jarveun_count_preview(rule: &[u8], value: &mut usize) -> u8
+    ensures { λ r. ⌜ r ≡ countedResult (countedOf (previewOf (now (rule .entry)))) .number ⌝ }
+    ensures { λ _. ⌜ now (value .exit) ≡ countedResult (countedOf (previewOf (now (rule .entry)))) .value ⌝ }
+{
+    hand_back(synthesis::count_preview(rule), value)
+}
+
+// Fills a table with their rows.
+#[no_mangle]
+pub extern "C" fn jarveun_fill_preview(rule: &[u8], table: &mut [u8], value: &mut usize) -> u8
+    ensures { λ r. ⌜ r ≡ countedResult (countedOf (previewFillingOf (now (rule .entry)) (length (now (table .entry))))) .number ⌝ }
+    ensures { λ _. ⌜ now (value .exit) ≡ countedResult (countedOf (previewFillingOf (now (rule .entry)) (length (now (table .entry))))) .value ⌝ }
+    ensures { λ _. ⌜ now (table .exit) ≡ tableAfter mark (previewFillingOf (now (rule .entry)) (length (now (table .entry)))) (now (table .entry)) ⌝ }
+{
+    hand_back(synthesis::fill_preview(rule, table), value)
 }
 
 // Counts the rows of a rule's short table.

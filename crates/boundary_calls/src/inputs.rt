@@ -64,6 +64,72 @@ pub const MANY: [u8; 33] = [
     2,
 ];
 
+// The same with m = 5: 32 equations, as many as the rule page shows.
+pub const FULL_PAGE: [u8; 27] = [
+    1,
+    255,
+    0,
+    31,
+    1,
+    1,
+    5,
+    5,
+    6,
+    4,
+    5,
+    0,
+    7,
+    0,
+    5,
+    1,
+    5,
+    0,
+    5,
+    0,
+    5,
+    0,
+    5,
+    0,
+    5,
+    0,
+    2,
+];
+
+// Both "after any code, tt" and that formula: the first equation doesn't come again, so there are 33.
+pub const OVER_PAGE: [u8; 31] = [
+    1,
+    255,
+    0,
+    31,
+    1,
+    1,
+    5,
+    5,
+    4,
+    5,
+    0,
+    2,
+    6,
+    4,
+    5,
+    0,
+    7,
+    0,
+    5,
+    1,
+    5,
+    0,
+    5,
+    0,
+    5,
+    0,
+    5,
+    0,
+    5,
+    0,
+    2,
+];
+
 pub const BREAKS: [u8; 13] = [16, 3, 17, 0, 37, 1, 18, 1, 2, 17, 2, 5, 0];
 
 pub const MEETS: [u8; 17] = [16, 3, 17, 0, 37, 1, 18, 1, 2, 17, 2, 128, 0, 17, 0, 5, 2];

@@ -7,9 +7,11 @@ use inputs::BREAKS;
 use inputs::CANCELLED;
 use inputs::CUT;
 use inputs::EITHER;
+use inputs::FULL_PAGE;
 use inputs::MANY;
 use inputs::MEETS;
 use inputs::NOTHING;
+use inputs::OVER_PAGE;
 use inputs::POOL;
 use inputs::SCANS;
 use inputs::SYNCED;
@@ -80,6 +82,12 @@ fn count(rule: &[u8]) {
     print_result(b"count", number, value);
 }
 
+fn count_preview(rule: &[u8]) {
+    let mut value = 99;
+    let number = boundary::jarveun_count_preview(rule, &mut value);
+    print_result(b"count_preview", number, value);
+}
+
 fn count_short(rule: &[u8]) {
     let mut value = 99;
     let number = boundary::jarveun_count_short(rule, &mut value);
@@ -91,6 +99,13 @@ fn fill(rule: &[u8], table: &mut [u8]) -> usize {
     let mut value = 99;
     let number = boundary::jarveun_fill(rule, table, &mut value);
     print_filled(b"fill", number, value, table);
+    value
+}
+
+fn fill_preview(rule: &[u8], table: &mut [u8]) -> usize {
+    let mut value = 99;
+    let number = boundary::jarveun_fill_preview(rule, table, &mut value);
+    print_filled(b"fill_preview", number, value, table);
     value
 }
 
@@ -139,16 +154,18 @@ fn run(table: &[u8], count: usize, from: usize, verdicts: &mut [u8]) {
     io::write_all(STDOUT_FILENO, b"\n");
 }
 
-fn count_both(rule: &[u8]) {
+fn count_all(rule: &[u8]) {
     count(rule);
+    count_preview(rule);
     count_short(rule);
 }
 
 // A rule that is refused, with a table of less than a row, and with a model that would be refused too.
 fn refuse(rule: &[u8]) {
-    count_both(rule);
+    count_all(rule);
     let mut table = [UNTOUCHED; 255];
     fill(rule, &mut table);
+    fill_preview(rule, &mut table);
     fill_short(rule, &mut table);
     judge(rule, &CUT, &mut table);
 }
@@ -157,6 +174,7 @@ fn refuse(rule: &[u8]) {
 fn fill_less_than_three() {
     let mut table = [UNTOUCHED; 767];
     fill(&POOL, &mut table);
+    fill_preview(&POOL, &mut table);
     fill_short(&POOL, &mut table);
     fill_short(&ALIKE, &mut table);
     judge(&POOL, &MEETS, &mut table);
@@ -187,6 +205,28 @@ fn fill_four() {
     fill(&ALIKE, &mut table);
 }
 
+// Two rules with more equations than the page shows; the desk counts the first. No table is lent.
+fn preview_too_many() {
+    count_all(&OVER_PAGE);
+    let mut table = [UNTOUCHED; 0];
+    fill_preview(&OVER_PAGE, &mut table);
+    fill_preview(&MANY, &mut table);
+}
+
+// As many as it shows, with a byte less than their rows take.
+fn preview_less_than_all() {
+    count_all(&FULL_PAGE);
+    let mut table = [UNTOUCHED; 8191];
+    fill_preview(&FULL_PAGE, &mut table);
+}
+
+// With as much as they take, which helps no rule with more.
+fn preview_all() {
+    let mut table = [UNTOUCHED; 8192];
+    fill_preview(&OVER_PAGE, &mut table);
+    fill_preview(&FULL_PAGE, &mut table);
+}
+
 // Asks for the reasons of scans.
 fn explain_all() {
     explain(&POOL, &CANCELLED, 5);
@@ -212,6 +252,14 @@ fn run_long() {
     run(&table, count, 2, &mut few);
 }
 
+// The same with the page's rows.
+fn run_preview() {
+    let mut table = [UNTOUCHED; 768];
+    let count = fill_preview(&POOL, &mut table);
+    let mut verdicts = [7u8; 8];
+    run(&table, count, 0, &mut verdicts);
+}
+
 // The same with short rows.
 fn run_short() {
     let mut table = [UNTOUCHED; 768];
@@ -222,15 +270,19 @@ fn run_short() {
 }
 
 fn main() {
-    count_both(&POOL);
-    count_both(&ALIKE);
+    count_all(&POOL);
+    count_all(&ALIKE);
     refuse(&UNGUARDED);
     refuse(&MANY);
     fill_less_than_three();
     fill_more_than_three();
     fill_less_than_four();
     fill_four();
+    preview_too_many();
+    preview_less_than_all();
+    preview_all();
     explain_all();
     run_long();
+    run_preview();
     run_short();
 }
