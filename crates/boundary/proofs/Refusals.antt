@@ -2,10 +2,10 @@
 -- holds on the rule page too, whose outcomes are those of its limit with 18 for 9.
 use Prim.Native.Nat.{ℕ, suc, _*_, _≤_}
 use mathlib.Core.Path.{_≡_, refl}
-use mathlib.Core.Bool.{Bool, true, false, cond}
+use mathlib.Core.Bool.{Bool, true, false}
 use mathlib.Core.List.{List, [], _∷_}
 use native.Mathlib.Omega.{arith}
-use lib.Dec.{eqb, ltb}
+use lib.Dec.{ltb}
 use lib.ListN.{length}
 use Rattle.reading.specs.Rule.{Bytes}
 use Rattle.reading.specs.File.{Outcome, accepted, refused, refuse, andThen, ruleOf}
@@ -15,6 +15,7 @@ use Rattle.synthesis.specs.Monitor.{Answer, dropped, next}
 use Rattle.synthesis.specs.Answering.{unsatisfiable, firstOf, answerOf}
 use Rattle.synthesis.specs.Building.{equationsOf, Synthesis, synthesisOfRule, synthesisOf, inTable, fillingOf, shortened, shortOf, shortFillingOf}
 use Rattle.synthesis.specs.Building.{previewLimit, onPage, previewOf, previewFillingOf}
+use Rattle.synthesis.proofs.Tables.Previews.{page-refused}
 use Rattle.synthesis.specs.Reason.{followed, openedFalsities, openedAfter, explanationOf}
 use Rattle.models.specs.Phone.{phoneOf}
 use Rattle.models.specs.Faults as Models
@@ -109,12 +110,8 @@ module _ (limit : ℕ) (s : List ℕ) (bytes : Bytes s) where
 -- ---- the rule page
 
 page-numbered : (o : Outcome Synthesis) → Numbered o → Numbered (onPage o)
-page-numbered (accepted y) numbered number place e = accepted-numbered y number place e
-page-numbered (refused k q) numbered number place e = on (eqb k 9) e
-  where
-    on : (b : Bool) → _≡_ {A = Outcome Synthesis} (refused (cond b 18 k) q) (refused number place) → 1 ≤ number
-    on true e = let same : 18 ≡ number = cc in omega (arith, same)
-    on false e = numbered number place e
+page-numbered o numbered number place e =
+    page-refused o number place e (λ nine is. omega (arith, is)) (λ other same. numbered number place same)
 
 module _ (s : List ℕ) (bytes : Bytes s) where
   pub preview-numbered : Numbered (previewOf s)
