@@ -3,7 +3,8 @@ from itertools import product
 
 import known
 import known_equations
-from equations import MOST_EQUATIONS, rows
+import known_page
+from equations import MOST_EQUATIONS, PAGE, rows
 from rules import Refusal, read_rule
 from shapes import ANY, BOTH, FALSITY, MAX, TRUTH, after, pattern, variable
 from shapes import random_patterns, telling_patterns
@@ -125,11 +126,23 @@ def padded(rule, most):
     return [file for file in longer if not isinstance(read_rule(file), Refusal)]
 
 
+def padded_counters(random, count, most):
+    """Of so many rules, taken at random, those with over five eighths of the most equations, padded."""
+    rules = []
+    for rule in drawn(random, counters, count):
+        table = rows(rule)
+        if not isinstance(table, Refusal) and 8 * len(table) > 5 * most:
+            rules += padded(rule, most)
+    return rules
+
+
 def limit_rules(random):
     """Rules with about as many equations as there may be."""
     rules = [known.bytes_of(known_equations.late(n)) for n in range(20, 29)]
-    for rule in drawn(random, counters, 250):
-        table = rows(rule)
-        if not isinstance(table, Refusal) and len(table) > 80:
-            rules += padded(rule, MOST_EQUATIONS)
-    return rules
+    return rules + padded_counters(random, 250, MOST_EQUATIONS)
+
+
+def page_rules(random):
+    """Rules with about as many as the rule page shows."""
+    rules = [known.bytes_of(known_page.late(n)) for n in range(5, 11)]
+    return rules + padded_counters(random, 120, PAGE.most)

@@ -1,14 +1,12 @@
 """The equations of a rule, their table and their listing, by the paper's "Equations"."""
 from functools import cache
 from itertools import groupby
+from typing import NamedTuple
 
 from rules import Refusal, numbered, read_rule
 
 CODES = 256
 MOST_EQUATIONS = 128
-
-# The most that the rule page shows.
-PREVIEW_MOST = 32
 
 # A table of so many bytes has room for the rows of every rule.
 LARGEST_TABLE = CODES * MOST_EQUATIONS
@@ -16,6 +14,18 @@ LARGEST_TABLE = CODES * MOST_EQUATIONS
 # What an equation answers to a code that it drops, in place of the next equation, and how the table has it.
 DROPPED = None
 DROPPED_ENTRY = 255
+
+
+class Limit(NamedTuple):
+    """The most equations that a rule may have, and the number of its refusal where it has more."""
+
+    most: int
+    number: int
+
+
+# The limit of the desk, and that of the rule page.
+DESK = Limit(MOST_EQUATIONS, 9)
+PAGE = Limit(32, 18)
 
 
 class Equations:
@@ -90,26 +100,25 @@ class Equations:
         return dropped
 
 
-def rows_of(equations, limit=MOST_EQUATIONS, number=9):
-    """The rows of a rule's equations in order, or the refusal of the rule: of that number where they are over the limit."""
+def rows_of(equations, limit=DESK):
+    """The rows of a rule's equations in order, or the refusal of the rule."""
     if equations.has_falsity(equations.first):
         return Refusal(8, 0)
-    numbers = equations.numbers(limit)
-    if len(numbers) > limit:
-        return Refusal(number, 0)
+    numbers = equations.numbers(limit.most)
+    if len(numbers) > limit.most:
+        return Refusal(limit.number, 0)
     return [equations.row(equation, numbers) for equation in numbers]
 
 
 @cache
-def rows(data, limit=MOST_EQUATIONS, number=9):
+def rows_within(limit, data):
     """The rows of the equations of the rule that a file holds, or the refusal of the file."""
     rule = read_rule(data)
-    return rule if isinstance(rule, Refusal) else rows_of(Equations(rule), limit, number)
+    return rule if isinstance(rule, Refusal) else rows_of(Equations(rule), limit)
 
 
-def preview_rows(data):
-    """The rows on the rule page."""
-    return rows(data, PREVIEW_MOST, 18)
+def rows(data, limit=DESK):
+    return rows_within(limit, data)
 
 
 def can_drop(table):
@@ -117,9 +126,8 @@ def can_drop(table):
     return any(DROPPED_ENTRY in entries for entries in table)
 
 
-def fill_by(rows_of_file, data, table):
-    """The rows that a rule file has by this function, or the refusal of filling. The lent table gets them in place."""
-    counted = rows_of_file(data)
+def fill_with(counted, table):
+    """The rows that were counted, or the refusal of filling. The lent table gets them in place."""
     if isinstance(counted, Refusal):
         return counted
     if len(table) < CODES * len(counted):
@@ -129,12 +137,8 @@ def fill_by(rows_of_file, data, table):
     return counted
 
 
-def fill(data, table):
-    return fill_by(rows, data, table)
-
-
-def fill_preview(data, table):
-    return fill_by(preview_rows, data, table)
+def fill(data, table, limit=DESK):
+    return fill_with(rows(data, limit), table)
 
 
 def said(counted):

@@ -158,14 +158,15 @@ LISTINGS += [
 SETS = [(POOL, [{1}, set(), {3, 5}]), (BRANCHES, [{1, 4}, set(), {2, 5}]), (REQUESTS, [{2, 5}, set(), {3, 6}])]
 
 
-def late(n):
+def late(n, firsts=(1, 2, 3), seconds=(1, 2)):
     """A rule of 101 + n equations, n over 4, the last of which are found one by one: n necessities of any code, and
     beside them parts that end after five codes. They tell which of three patterns cover the first code, in 8 ways,
     and which of two cover the second, in 4. So there are 1, 8, 32, 32 and 32 equations for 0 to 4 codes, then one
-    for each necessity of any code that is left, and the empty set."""
-    by_first = "".join(f"5 {number} " + "5 0 " * 4 + "2 " for number in (1, 2, 3))
-    by_second = "".join(f"5 0 5 {number} " + "5 0 " * 3 + "2 " for number in (1, 2))
-    return ANY + "1 15 0 31 1 51 0 31 1 85 0 31 " + "4 " * 5 + by_first + by_second + "5 0 " * n + "2"
+    for each necessity of any code that is left, and the empty set. With fewer of the patterns there are fewer ways."""
+    by_first = "".join(f"5 {number} " + "5 0 " * 4 + "2 " for number in firsts)
+    by_second = "".join(f"5 0 5 {number} " + "5 0 " * 3 + "2 " for number in seconds)
+    boths = "4 " * (len(firsts) + len(seconds))
+    return ANY + "1 15 0 31 1 51 0 31 1 85 0 31 " + boths + by_first + by_second + "5 0 " * n + "2"
 
 
 # What filling answers with a table of so many bytes: each equation takes 256.

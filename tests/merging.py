@@ -3,7 +3,7 @@ from collections import defaultdict
 from functools import cache
 from itertools import combinations
 
-from equations import DROPPED_ENTRY, fill_by, rows
+from equations import DROPPED_ENTRY, fill_with, rows
 from rules import Refusal
 
 
@@ -53,4 +53,4 @@ def short_rows(data):
 
 def fill_short(data, table):
     """As `fill`, with the rows of the shortest table."""
-    return fill_by(short_rows, data, table)
+    return fill_with(short_rows(data), table)

@@ -4,9 +4,10 @@ from random import Random
 import cases
 import known
 import known_equations
+import known_page
 import known_short
-from equations import CODES, LARGEST_TABLE, rows
-from equation_shapes import counters, drawn, families, limit_rules, pattern_rules, small_rules, tangled
+from equations import CODES, DESK, LARGEST_TABLE, PAGE, Limit, rows
+from equation_shapes import counters, drawn, families, limit_rules, page_rules, pattern_rules, small_rules, tangled
 from merging import short_rows
 from merging_shapes import merging_rules
 from rules import Refusal
@@ -22,6 +23,13 @@ ROW_SIZES = [1, 32512, 32769, 33023, 33024, 39935, 39936, 65535, 65536]
 LEAST = 5
 SORTS = [f"{number} before 10" for number in range(1, 10)]
 SORTS += ["10 for both tables", "10 for the long table alone", "rows that just fit", "a byte too few"]
+SORTS += ["18 before 10", "18 where the desk counts", "18 where the desk has 9"]
+SORTS += ["10 on the page", "page rows that just fit", "a byte too few on the page"]
+
+# At both limits: one equation fewer than there may be, the most, or one too many.
+PAGE_EDGES = range(PAGE.most - 1, PAGE.most + 2)
+EDGES = [*PAGE_EDGES, *range(DESK.most - 1, DESK.most + 2)]
+SORTS += [f"{count} equations" for count in EDGES]
 
 # The program takes no longer file.
 MOST_BYTES = 1024
@@ -48,10 +56,12 @@ def files():
     return list(dict.fromkeys(typed_files() + rule_files(Random(2)) + some_read))
 
 
-def with_merging():
-    """These files and more, which are for the short tables."""
-    typed = [file for file, *answer in known_short.listings() + known_short.fillings()]
-    return list(dict.fromkeys(files() + typed + merging_rules(Random("merging"))))
+def every_file():
+    """These files and more, which are for the short tables and for the rule page."""
+    typed = known_short.listings() + known_short.fillings() + known_page.listings() + known_page.fillings()
+    more = [file for file, *answer in typed if len(file) <= MOST_BYTES]
+    more += merging_rules(Random("merging")) + page_rules(Random("page"))
+    return list(dict.fromkeys(files() + more))
 
 
 def fitting_sizes(file):
@@ -69,19 +79,32 @@ def all_sizes(file):
     return sorted({*SIZES, *(size + more for size in fitting_sizes(file) for more in (-1, 0, 1))})
 
 
+def count_of(file):
+    """How many equations there are, up to one more than the desk's limit. A file that is refused or has more counts as 0."""
+    counted = rows(file, Limit(DESK.most + 1, DESK.number))
+    return 0 if isinstance(counted, Refusal) else len(counted)
+
+
+def page_sizes(file):
+    """No bytes, as many as the rows take, and one byte less."""
+    return [0, CODES * count_of(file) - 1, CODES * count_of(file)]
+
+
 def with_sizes(every):
-    """Each file with a table of one size, those that were typed with theirs, and some files with tables of many sizes. No
-    case comes twice."""
+    """Each file with a table of one size, those that were typed with theirs, and some files with tables of many sizes, or
+    with a few where they are at the page's limit. No case comes twice."""
     sized = [(own_size(number, file), file) for number, file in enumerate(every)]
-    sized += [(size, file) for file, size, answer in known_equations.fillings() + known_short.fillings()]
+    sized += [(size, file) for file, size, answer in known_equations.fillings() + known_short.fillings() + known_page.fillings()]
     listings = known_equations.listings() + known_short.listings()
     listed = [file for file, *answer in listings if len(file) <= MOST_BYTES]
     sized += [(size, file) for file in listed + every[::25] for size in all_sizes(file)]
+    at_limit = [file for file in every if count_of(file) in PAGE_EDGES]
+    sized += [(size, file) for file in at_limit[::4] for size in page_sizes(file)]
     return list(dict.fromkeys(sized + [(size, file) for file in listed[::5] for size in ROW_SIZES]))
 
 
-def sorts_of(size, file):
-    """What a case tells of the order of refusals and of what 10 goes by, as SORTS has it."""
+def table_sorts_of(size, file):
+    """What a case tells of the order of refusals and of what 10 goes by, for the long and the short table."""
     fitting = fitting_sizes(file)
     if not fitting:
         yield from [f"{rows(file).number} before 10"] * (size < CODES)
@@ -91,3 +114,21 @@ def sorts_of(size, file):
         yield "10 for the long table alone"
     yield from ["rows that just fit"] * (size in fitting)
     yield from ["a byte too few"] * (size + 1 in fitting)
+
+
+def page_sorts_of(size, file):
+    """The same of the rule page. Where it refuses with 18, there are at least 33 rows."""
+    shown = rows(file, PAGE)
+    if not isinstance(shown, Refusal):
+        yield from ["10 on the page"] * (size < CODES * len(shown))
+        yield from ["page rows that just fit"] * (size == CODES * len(shown))
+        yield from ["a byte too few on the page"] * (size + 1 == CODES * len(shown))
+    elif shown.number == PAGE.number:
+        yield "18 where the desk has 9" if isinstance(rows(file), Refusal) else "18 where the desk counts"
+        yield from ["18 before 10"] * (size < CODES * (PAGE.most + 1))
+
+
+def sorts_of(size, file):
+    """What a case tells, as SORTS has it."""
+    edges = [f"{count_of(file)} equations"] * (count_of(file) in EDGES)
+    return [*table_sorts_of(size, file), *page_sorts_of(size, file), *edges]

@@ -3,7 +3,7 @@
 With --check nothing is written, and the files are compared with what would be.
 """
 from compare import expect
-from equations import fill, fill_preview, preview_rows, rows
+from equations import PAGE, fill, rows
 from expected import is_check, settle
 from judging import judge
 from known import ANY, ONE, POOL, bytes_of, counted
@@ -123,8 +123,12 @@ def result_of(answer):
 
 
 def counted_lines(rule):
-    counts = {"count": rows, "count_preview": preview_rows, "count_short": short_rows}
+    counts = {"count": rows, "count_preview": lambda data: rows(data, PAGE), "count_short": short_rows}
     return [line_of(name, *result_of(rows_of_file(bytes_of(rule)))) for name, rows_of_file in counts.items()]
+
+
+def fill_preview(data, table):
+    return fill(data, table, PAGE)
 
 
 def filled_line(by, rule, table):

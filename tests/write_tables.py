@@ -5,11 +5,12 @@ Each case on the standard input of `tables` is a table's size and a file's lengt
 and then the rule file. Each case has one line on its standard output. With --check nothing is written, and the files
 are compared with what would be.
 """
+import compare_page
 import compare_short
 import known_programs
 import table_cases
 from compare import check, expect
-from equations import fill, listing, row, rows, said, text_of
+from equations import PAGE, fill, listing, row, rows, said, text_of
 from expected import digest, fresh_table, is_check, settle, three_bytes, told
 from merging import fill_short, short_rows
 from rules import Refusal
@@ -23,32 +24,35 @@ def summary(content):
     return f"{len(content)} {digest(content)}"
 
 
-def filled_words(data, table, counted):
-    """What filling answers and leaves in the table, and what is listed of it."""
-    return [said(counted), "table", str(digest(table)), "listing", summary(text_of(data, counted).encode())]
+def answer_words(data, counted, filled, table):
+    """What counting answers, what filling answers, as a number or a refusal, and leaves in the table, and what is listed of it."""
+    answer = said(filled) if isinstance(filled, Refusal) else str(len(filled))
+    return [said(counted), answer, str(digest(table)), summary(text_of(data, filled).encode())]
 
 
-def row_words(table, counted):
+def row_words(table, filled):
     """The rows that were filled, and some others that are asked for one by one. Of these the empty ones are left out."""
-    count = 0 if isinstance(counted, Refusal) else len(counted)
+    count = 0 if isinstance(filled, Refusal) else len(filled)
     handed = b"".join(row(table, number) for number in range(count))
     others = [(number, row(table, number)) for number in [count] + ROWS]
     return ["rows", summary(handed)] + [f"{number} {summary(entries)}" for number, entries in others if entries]
 
 
 def line_of(case, size, data):
-    table, short_table = fresh_table(size, case), fresh_table(size, case)
-    filled, filled_short = fill(data, table), fill_short(data, short_table)
-    words = [said(rows(data)), *filled_words(data, table, filled), *row_words(table, filled)]
-    return " ".join(words + ["short", said(short_rows(data)), *filled_words(data, short_table, filled_short)])
+    table, page_table, short_table = (fresh_table(size, case) for _ in range(3))
+    filled, filled_page, filled_short = fill(data, table), fill(data, page_table, PAGE), fill_short(data, short_table)
+    words = answer_words(data, rows(data), filled, table) + row_words(table, filled)
+    words += ["page", *answer_words(data, rows(data, PAGE), filled_page, page_table)]
+    return " ".join(words + ["short", *answer_words(data, short_rows(data), filled_short, short_table)])
 
 
 def main():
     checks = is_check(__doc__)
-    files = table_cases.with_merging()
+    files = table_cases.every_file()
     rules, lists = check(files)
     tally = compare_short.check(files)
     cases = table_cases.with_sizes(files)
+    compare_page.check(cases)
     tally.update(sort for case in cases for sort in table_cases.sorts_of(*case))
     expect(all(tally[sort] >= table_cases.LEAST for sort in table_cases.SORTS), told(tally))
     lines = [line_of(case, size, data) for case, (size, data) in enumerate(cases)]

@@ -1,5 +1,5 @@
-// Reads rule files from standard input, counts the equations of each and fills a table, the same for the short table, and prints a line for each file with
-// what is said of it, left in the tables and listed of them.
+// Reads rule files from standard input, counts the equations of each and fills a table, the same on the rule page and for the short table, and prints a line
+// for each file with what is said of it, left in the tables and listed of them.
 // A case is a table's size and a file's length, each as three bytes, highest first, and then the rule file. The input ends after the last.
 use libc::STDIN_FILENO;
 use libc::STDOUT_FILENO;
@@ -13,6 +13,7 @@ use testing::filled_count;
 use testing::prepare;
 use testing::print_counted;
 use testing::print_field;
+use testing::print_refusal;
 use testing::read_size;
 ghost use Prim.Native.Nat.{_≤_};
 ghost use Rattle.listing.specs.Positions.{Within};
@@ -125,29 +126,46 @@ fn print_rows(table: &[u8], n: usize) {
     print_row(table, usize::MAX);
 }
 
-// What filling answers and leaves in the table, and what is listed of it.
-fn print_filled(answer: Counted, file: &[u8], table: &[u8]) {
-    print_counted(answer);
-    io::write_all(STDOUT_FILENO, b" table");
+// What filling answers: the number of equations by itself, or a refusal.
+fn print_filled(filled: Counted) {
+    match filled {
+        Counted::Equations(n) => {
+            print_field(n as u64);
+        }
+        Counted::Refused(number, place) => {
+            io::write_all(STDOUT_FILENO, b" ");
+            print_refusal(number, place);
+        }
+    }
+}
+
+// What counting answers, what filling answers and leaves in the table, and what is listed of it.
+fn print_answers(counted: Counted, filled: Counted, file: &[u8], table: &[u8]) {
+    print_counted(counted);
+    print_filled(filled);
     print_field(digest(0, table));
-    io::write_all(STDOUT_FILENO, b" listing");
-    print_summary(text_summary(answer, file, table));
+    print_summary(text_summary(filled, file, table));
 }
 
 fn answer_long(rule: &[u8], table: &mut [u8]) {
-    print_counted(synthesis::count(rule));
-    io::write_all(STDOUT_FILENO, b" ");
+    let counted = synthesis::count(rule);
     let filled = synthesis::fill(rule, table);
-    print_filled(filled, rule, table);
+    print_answers(counted, filled, rule, table);
     print_rows(table, filled_count(filled));
+}
+
+fn answer_page(rule: &[u8], table: &mut [u8]) {
+    io::write_all(STDOUT_FILENO, b" page ");
+    let counted = synthesis::count_preview(rule);
+    let filled = synthesis::fill_preview(rule, table);
+    print_answers(counted, filled, rule, table);
 }
 
 fn answer_short(rule: &[u8], table: &mut [u8]) {
     io::write_all(STDOUT_FILENO, b" short ");
-    print_counted(synthesis::count_short(rule));
-    io::write_all(STDOUT_FILENO, b" ");
+    let counted = synthesis::count_short(rule);
     let filled = synthesis::fill_short(rule, table);
-    print_filled(filled, rule, table);
+    print_answers(counted, filled, rule, table);
     io::write_all(STDOUT_FILENO, b"\n");
 }
 
@@ -159,6 +177,8 @@ fn answer_file(space: &mut [u8], table: &mut [u8], case: u64) -> bool {
     }
     prepare(table, case, 7, 250);
     answer_long(space, table);
+    prepare(table, case, 7, 250);
+    answer_page(space, table);
     prepare(table, case, 7, 250);
     answer_short(space, table);
     true
