@@ -2,6 +2,7 @@
 pub mod FileAnswers
 pub mod RunAnswers
 pub mod Listed
+pub mod Enumerated
 pub mod ModelAnswers
 pub mod SmallFiles
 pub mod NumberPool
