@@ -1,4 +1,4 @@
--- What the examples share, then the paper's rules and files, then its models, and last the refusals.
+-- What the examples share, then the paper's rules and files, then its models, then the refusals, and last the paper's families.
 pub mod FileAnswers
 pub mod RunAnswers
 pub mod Listed
@@ -23,4 +23,7 @@ pub mod SlotExamples
 pub mod FullModel
 pub mod RefusalExamples
 pub mod TableExamples
+pub mod Chains
+pub mod Windows
+pub mod FamilyExamples
 pub mod Promises

@@ -12,6 +12,7 @@ use Rattle.examples.proofs.RoundExample.{round-example}
 use Rattle.examples.proofs.SlotExamples.{slot-examples}
 use Rattle.examples.proofs.RefusalExamples.{refusal-examples}
 use Rattle.examples.proofs.TableExamples.{table-examples}
+use Rattle.examples.proofs.FamilyExamples.{family-examples}
 
 pub promises : Promises
 promises = record {
@@ -27,4 +28,5 @@ promises = record {
   slot-examples = slot-examples;
   refusal-examples = refusal-examples;
   table-examples = table-examples;
+  family-examples = family-examples;
 }

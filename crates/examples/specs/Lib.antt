@@ -11,4 +11,5 @@ pub mod RoundExample
 pub mod SlotExamples
 pub mod RefusalExamples
 pub mod TableExamples
+pub mod FamilyExamples
 pub mod Promises
