@@ -1,4 +1,4 @@
--- What the examples share, then the paper's rules and files, then its models, then the refusals, and last the paper's families.
+-- What the examples share, then the paper's rules and files, then its models, then the refusals, and last the paper's families and the rule page.
 pub mod FileAnswers
 pub mod RunAnswers
 pub mod Listed
@@ -26,4 +26,5 @@ pub mod TableExamples
 pub mod Chains
 pub mod Windows
 pub mod FamilyExamples
+pub mod PreviewExamples
 pub mod Promises

@@ -13,6 +13,7 @@ use Rattle.examples.proofs.SlotExamples.{slot-examples}
 use Rattle.examples.proofs.RefusalExamples.{refusal-examples}
 use Rattle.examples.proofs.TableExamples.{table-examples}
 use Rattle.examples.proofs.FamilyExamples.{family-examples}
+use Rattle.examples.proofs.PreviewExamples.{preview-examples}
 
 pub promises : Promises
 promises = record {
@@ -29,4 +30,5 @@ promises = record {
   refusal-examples = refusal-examples;
   table-examples = table-examples;
   family-examples = family-examples;
+  preview-examples = preview-examples;
 }

@@ -12,4 +12,5 @@ pub mod SlotExamples
 pub mod RefusalExamples
 pub mod TableExamples
 pub mod FamilyExamples
+pub mod PreviewExamples
 pub mod Promises

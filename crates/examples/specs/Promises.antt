@@ -15,6 +15,7 @@ use Rattle.examples.specs.SlotExamples.{SlotExamples}
 use Rattle.examples.specs.RefusalExamples.{RefusalExamples}
 use Rattle.examples.specs.TableExamples.{TableExamples}
 use Rattle.examples.specs.FamilyExamples.{FamilyExamples}
+use Rattle.examples.specs.PreviewExamples.{PreviewExamples}
 
 pub record Promises : Type 1 where
   pub paper-examples : PaperExamples
@@ -30,3 +31,4 @@ pub record Promises : Type 1 where
   pub refusal-examples : RefusalExamples
   pub table-examples : TableExamples
   pub family-examples : FamilyExamples
+  pub preview-examples : PreviewExamples
