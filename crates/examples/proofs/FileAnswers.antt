@@ -15,7 +15,7 @@ use Rattle.synthesis.specs.Building.{equationsOf, withEquations, synthesisOf, f
 use Rattle.synthesis.specs.declared.Counted.{Counted}
 use Rattle.synthesis.specs.declared.Counted.the-variants.{Equations, Refused}
 use Rattle.synthesis.proofs.Tables.FilledTables.{filled-row}
-use Rattle.synthesis.proofs.Tables.SynthesisOutcomes.{accepts-with-equations, refuses-eight, counted-accepts, accepts-as}
+use Rattle.synthesis.proofs.Tables.SynthesisOutcomes.{accepts-with-equations, refuses-eight, refuses-nine, counted-accepts, accepts-as}
 use Rattle.synthesis.proofs.Tables.SynthesisOutcomes.{filling-by-count, filling-accepts, fills-as-counted}
 use Rattle.examples.specs.Examples.{CountedAs, Refuses, ReadAs}
 
@@ -32,6 +32,9 @@ module _ (s : List ℕ) where
   module _ (r : Rule) (read : ruleOf s ≡ accepted r) where
     pub reads-unsatisfiable : unsatisfiable r ≡ true → ReadAs s r (Refused 8 0)
     reads-unsatisfiable h = record { reading = read; answers = answers (Refused 8 0) (rw (refuses-eight most s r read h)) }
+
+    pub reads-too-many : unsatisfiable r ≡ false → most < length (equationsOf most r) → ReadAs s r (Refused 9 0)
+    reads-too-many h over = record { reading = read; answers = answers (Refused 9 0) (rw (refuses-nine most s r read h over)) }
 
     module _ (satisfiable : unsatisfiable r ≡ false) (l : List ℕ) (equations : equationsOf most r ≡ l) (few : length l ≤ most) where
       synthesis : synthesisOf most s ≡ accepted (withEquations most r)

@@ -1,7 +1,8 @@
--- What the examples share, then the paper's rules and files, then its models, and last the refusals.
+-- What the examples share, then the paper's rules and files, then its models, then the refusals, and last the paper's families and the rule page.
 pub mod FileAnswers
 pub mod RunAnswers
 pub mod Listed
+pub mod Enumerated
 pub mod ModelAnswers
 pub mod SmallFiles
 pub mod NumberPool
@@ -22,4 +23,8 @@ pub mod SlotExamples
 pub mod FullModel
 pub mod RefusalExamples
 pub mod TableExamples
+pub mod Chains
+pub mod Windows
+pub mod FamilyExamples
+pub mod PreviewExamples
 pub mod Promises

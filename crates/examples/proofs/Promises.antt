@@ -12,6 +12,8 @@ use Rattle.examples.proofs.RoundExample.{round-example}
 use Rattle.examples.proofs.SlotExamples.{slot-examples}
 use Rattle.examples.proofs.RefusalExamples.{refusal-examples}
 use Rattle.examples.proofs.TableExamples.{table-examples}
+use Rattle.examples.proofs.FamilyExamples.{family-examples}
+use Rattle.examples.proofs.PreviewExamples.{preview-examples}
 
 pub promises : Promises
 promises = record {
@@ -27,4 +29,6 @@ promises = record {
   slot-examples = slot-examples;
   refusal-examples = refusal-examples;
   table-examples = table-examples;
+  family-examples = family-examples;
+  preview-examples = preview-examples;
 }

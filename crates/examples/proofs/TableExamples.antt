@@ -29,7 +29,7 @@ refused-bare s number place e = record {
 }
 
 -- what is counted as n equations needs 256 × n bytes
-needs : {counting : Outcome Synthesis} {filling : ℕ → Outcome Synthesis} → ((capacity : ℕ) → FillsAsCounted counting (filling capacity) capacity)
+pub needs : {counting : Outcome Synthesis} {filling : ℕ → Outcome Synthesis} → ((capacity : ℕ) → FillsAsCounted counting (filling capacity) capacity)
     → (n : ℕ) → countedOf counting ≡ Equations n → Needs filling (256 * n) n
 needs counts n e = record { fits = counts (256 * n) .enough n e (omega arith); too-short = λ capacity. counts capacity .too-short n e }
 

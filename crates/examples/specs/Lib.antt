@@ -11,4 +11,6 @@ pub mod RoundExample
 pub mod SlotExamples
 pub mod RefusalExamples
 pub mod TableExamples
+pub mod FamilyExamples
+pub mod PreviewExamples
 pub mod Promises

@@ -14,6 +14,8 @@ use Rattle.examples.specs.RoundExample.{RoundExample}
 use Rattle.examples.specs.SlotExamples.{SlotExamples}
 use Rattle.examples.specs.RefusalExamples.{RefusalExamples}
 use Rattle.examples.specs.TableExamples.{TableExamples}
+use Rattle.examples.specs.FamilyExamples.{FamilyExamples}
+use Rattle.examples.specs.PreviewExamples.{PreviewExamples}
 
 pub record Promises : Type 1 where
   pub paper-examples : PaperExamples
@@ -28,3 +30,5 @@ pub record Promises : Type 1 where
   pub slot-examples : SlotExamples
   pub refusal-examples : RefusalExamples
   pub table-examples : TableExamples
+  pub family-examples : FamilyExamples
+  pub preview-examples : PreviewExamples
