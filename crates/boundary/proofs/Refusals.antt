@@ -15,7 +15,7 @@ use Rattle.synthesis.specs.Monitor.{Answer, dropped, next}
 use Rattle.synthesis.specs.Answering.{unsatisfiable, firstOf, answerOf}
 use Rattle.synthesis.specs.Building.{equationsOf, Synthesis, synthesisOfRule, synthesisOf, inTable, fillingOf, shortened, shortOf, shortFillingOf}
 use Rattle.synthesis.specs.Building.{previewLimit, onPage, previewOf, previewFillingOf}
-use Rattle.synthesis.proofs.Tables.Previews.{page-refused}
+use Rattle.synthesis.proofs.Tables.Pages.{page-refused}
 use Rattle.synthesis.specs.Reason.{followed, openedFalsities, openedAfter, explanationOf}
 use Rattle.models.specs.Phone.{phoneOf}
 use Rattle.models.specs.Faults as Models

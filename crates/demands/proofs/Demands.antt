@@ -14,7 +14,8 @@ use Rattle.synthesis.specs.declared.Counted.the-variants.{Equations}
 use Rattle.synthesis.proofs.Tables.Equations.{file-well-formed, counted-equations, reaches-equations}
 use Rattle.synthesis.proofs.Tables.Built as tables
 use Rattle.synthesis.proofs.Tables.SynthesisOutcomes.{fills-as-counted, short-fills-as-counted}
-use Rattle.synthesis.proofs.Tables.Previews.{preview-counts, preview-fills-as-counted, preview-agrees, preview-fills-accepted, preview-refused-unchanged}
+use Rattle.synthesis.proofs.Tables.Previews.{preview-counts, preview-fills-as-counted, preview-agrees, preview-fills-accepted}
+use Rattle.synthesis.proofs.Tables.PreviewRefusals.{preview-refused-unchanged}
 use Rattle.synthesis.proofs.Quotients.ShortFillings.{short-refuses-alike, short-refused-unchanged, short-counted-rest}
 use Rattle.synthesis.proofs.Quotients.Minimal.{shortest-monitor}
 use Rattle.synthesis.proofs.Reasons.Alone.{violates-somewhere}

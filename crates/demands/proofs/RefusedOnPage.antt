@@ -1,7 +1,7 @@
 -- What counting on the rule page refuses. 18 is promised for itself; every other refusal is the desk's, and the clause that the desk has for it is the
 -- page's too.
 use Prim.Native.Nat.{ℕ}
-use mathlib.Core.Path.{_≡_, refl, sym, _∙_}
+use mathlib.Core.Path.{_≡_, refl}
 use mathlib.Core.Bool.{Bool, true, false}
 use mathlib.Core.List.{List, []}
 use native.Mathlib.Omega.{arith}
@@ -18,7 +18,7 @@ use Rattle.synthesis.specs.Building.{countedOf}
 use Rattle.synthesis.specs.PreviewPromises.{PreviewRefusals}
 use Rattle.synthesis.specs.declared.Counted.the-variants.{Refused}
 use Rattle.synthesis.proofs.Tables.Built.{refuses-violated-by-empty}
-use Rattle.synthesis.proofs.Tables.Previews.{preview-refuses-too-many, preview-refuses}
+use Rattle.synthesis.proofs.Tables.PreviewRefusals.{preview-refuses-too-many, preview-refuses}
 use Rattle.enforcement.specs.Model.{Model, Finite, Satisfies}
 use Rattle.models.proofs.Judgments.Accepting.{unrefused-satisfiable, refuses-unsatisfiable}
 use Rattle.demands.specs.Outcomes.{counting, previewCounting, RefusedIff}

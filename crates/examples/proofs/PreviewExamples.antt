@@ -9,7 +9,8 @@ use Rattle.synthesis.specs.Building.{synthesisOf, countedOf, previewLimit, prev
 use Rattle.synthesis.specs.declared.Counted.{Counted}
 use Rattle.synthesis.specs.declared.Counted.the-variants.{Equations, Refused}
 use Rattle.synthesis.proofs.Tables.SynthesisOutcomes.{fills-as-counted}
-use Rattle.synthesis.proofs.Tables.Previews.{preview-counts, preview-fills-as-counted, preview-agrees, preview-refuses, desk-shows-more}
+use Rattle.synthesis.proofs.Tables.Previews.{preview-counts, preview-fills-as-counted, preview-agrees}
+use Rattle.synthesis.proofs.Tables.PreviewRefusals.{preview-refuses, desk-shows-more}
 use Rattle.examples.specs.Examples.{poolFile, PoolTable}
 use Rattle.examples.specs.FamilyExamples.{chainFile, windowFile}
 use Rattle.examples.specs.PreviewExamples.{ShownOnPage, RefusedOnPage, ShownAtDeskOnly, PreviewExamples}

@@ -4,14 +4,14 @@ use Prim.Native.Nat.{ℕ, zero, suc, _+_, _*_, _<_}
 use mathlib.Core.Path.{_≡_, refl}
 use mathlib.Core.Bool.{Bool, true, false, cond}
 use mathlib.Core.List.{List}
-use lib.Dec.{eqb, ltb}
+use lib.Dec.{ltb}
 use lib.ListN.{drop}
 use borrow.Author.Tests.{ltb-true}
 use Rattle.reading.specs.declared.NumberedRule.{NumberedRule}
 use Rattle.synthesis.specs.Monitor.{rowOf}
 use Rattle.synthesis.proofs.Tables.Previews.{preview-agrees}
 use Rattle.listing.specs.Runs.{runsFrom}
-use Rattle.listing.specs.Positions.{noLine, runLineAt, rowLineAt, listingLineAt, textOf, linesFrom}
+use Rattle.listing.specs.Positions.{noLine, runLineAt, rowLineAt, listingLineAt, linesFrom}
 use Rattle.listing.specs.Promises.{ListsByRows, PreviewListed}
 
 module _ (table table′ : List ℕ) (count : ℕ) (same : (k : ℕ) → k < count → rowOf 256 table k ≡ rowOf 256 table′ k) where

@@ -7,4 +7,6 @@ pub mod SynthesisOutcomes
 pub mod Limits
 pub mod Equations
 pub mod Built
+pub mod Pages
 pub mod Previews
+pub mod PreviewRefusals

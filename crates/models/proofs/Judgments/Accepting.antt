@@ -22,7 +22,8 @@ use Rattle.synthesis.proofs.Monitors.RuleMonitor.{unsatisfiable-iff}
 use Rattle.synthesis.proofs.Tables.SynthesisOutcomes.{synthesis-of, fills-as-counted, short-fills-as-counted}
 use Rattle.synthesis.proofs.Tables.Equations.{file-well-formed, answers-count, reaches-equations, refuses-too-many}
 use Rattle.synthesis.proofs.Tables.Built.{refuses-violated-by-empty}
-use Rattle.synthesis.proofs.Tables.Previews.{preview-within, preview-fills-as-counted}
+use Rattle.synthesis.proofs.Tables.Pages.{preview-within}
+use Rattle.synthesis.proofs.Tables.Previews.{preview-fills-as-counted}
 use Rattle.synthesis.proofs.Quotients.ShortFillings.{short-refuses-alike, short-counted-long}
 use Rattle.enforcement.specs.Model.{Model, Finite, Satisfies}
 use Rattle.models.specs.Phone.{Phone, modelOf, PhoneWithinLimits}

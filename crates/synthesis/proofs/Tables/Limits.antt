@@ -1,8 +1,7 @@
 -- Two limits on equations. Once there are no more equations than expansions, a further expansion finds nothing, so the equations that are within a limit
 -- are those of every larger one. A smaller limit is therefore one more check after a larger one.
-use Prim.Native.Nat.{ℕ, zero, suc, _+_, _-_, _≤_, _<_}
+use Prim.Native.Nat.{ℕ, zero, suc, _+_, _-_, _≤_}
 use mathlib.Core.Path.{_≡_, refl, sym, _∙_, ap}
-use mathlib.Core.Logic.{_↔_}
 use mathlib.Core.Bool.{Bool, true, false}
 use mathlib.Core.List.{List}
 use native.Mathlib.Decide.{decLe}
@@ -16,9 +15,9 @@ use Rattle.reading.proofs.Basics.Outcomes.{never-refused, refuse-accepted, refu
 use Rattle.synthesis.specs.Monitor.{Answer}
 use Rattle.synthesis.specs.Answering.{firstOf, answerOf, unsatisfiable}
 use Rattle.synthesis.specs.Search.{found}
-use Rattle.synthesis.specs.Building.{equationsOf, Synthesis, withEquations, withinLimit, synthesisOfRule, synthesisOf, inTable, fillingOf}
+use Rattle.synthesis.specs.Building.{equationsOf, Synthesis, withEquations, withinLimit, synthesisOfRule, synthesisOf}
 use Rattle.synthesis.specs.PreviewPromises.{AgreeOn, LimitsAgree}
-use Rattle.synthesis.proofs.Numberings.Finding.{Grows, grows-length, grows-refl, grows-trans, expanded-grows, expanded-none}
+use Rattle.synthesis.proofs.Numberings.Finding.{grows-length, expanded-grows, expanded-none}
 use Rattle.synthesis.proofs.Tables.SynthesisOutcomes.{filling-by-count}
 
 -- ---- more expansions
