@@ -58,7 +58,7 @@ module _ (s : List ℕ) (n : ℕ) (bytes : Bytes s) (e : countedOf (previewOf s)
       let page : textFor (previewFillingOf s (length table)) t ≡ textFor (accepted y) t =
       ap (λ (o : Outcome Synthesis). textFor o t) (preview-same s n e (length table) ∙ filled y is n-is (length table) room) in
       let listed : textFor (accepted y) t ≡ listing (map extentOf (y .rule .patterns)) n t = rw n-is in
-      record { due = page ∙ listed ∙ alike (34 + 256 * n) (omega arith) .1 ∙ text; lines = λ most enough. alike most enough .0 ∙ text }
+      record { due = page ∙ listed ∙ alike (34 + 256 * n) (omega arith) .1 ∙ text; line-by-line = λ lines enough. alike lines enough .0 ∙ text }
 
 pub preview-text : PreviewText
 preview-text s n bytes e table table′ room room′ =

@@ -86,10 +86,10 @@ pub record JudgedTexts : Type 0 where
 
 -- 5. Where the rule page answers n, the text of its table is the one that `equations` prints of the file, whatever tables the two are lent: the text that
 -- is due to its filling, and what its lines are one after the other.
-pub record TextOfPage (s table : List ℕ) (n : ℕ) (printed : List ℕ) : Type 0 where
-  pub due : textFor (previewFillingOf s (length table)) (tableAfter mark (previewFillingOf s (length table)) table) ≡ printed
-  pub lines : (most : ℕ) → 34 + 256 * n ≤ most
-      → linesFrom (readingOf (ruleOf s) .rule) (tableAfter mark (previewFillingOf s (length table)) table) n most 0 ≡ printed
+pub record TextOfPage (s table : List ℕ) (n : ℕ) (expected : List ℕ) : Type 0 where
+  pub due : textFor (previewFillingOf s (length table)) (tableAfter mark (previewFillingOf s (length table)) table) ≡ expected
+  pub line-by-line : (lines : ℕ) → 34 + 256 * n ≤ lines
+      → linesFrom (readingOf (ruleOf s) .rule) (tableAfter mark (previewFillingOf s (length table)) table) n lines 0 ≡ expected
 
 abbrev pub PreviewText : Type 0
 PreviewText =

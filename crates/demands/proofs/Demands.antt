@@ -54,7 +54,7 @@ preview-rest : (s table : List ℕ) (n : ℕ) → countedOf (previewFilling s ta
 preview-rest s table n e =
     let counted : countedOf (previewCounting s) ≡ Equations n = rw (← preview-fills-as-counted s (length table) .same n e) e in
     let agrees = preview-agrees s n counted in
-    rw (agrees .table table) (tables.counted-rest most mark s table n (sym (agrees .answer table) ∙ e))
+    rw (agrees .table table) (tables.counted-rest most mark s table n (sym (agrees .answer (length table)) ∙ e))
 
 pub demand-one : DemandOne
 demand-one = record {

@@ -25,58 +25,62 @@ use Rattle.synthesis.proofs.Quotients.ShortFillings.{short-refuses-alike}
 use Rattle.enforcement.specs.Model.{Model, Finite, Satisfies}
 use Rattle.models.proofs.Judgments.Accepting.{unrefused-satisfiable, refuses-unsatisfiable}
 use Rattle.demands.specs.Outcomes.{counting, shortCounting, RefusedIff}
-use Rattle.demands.specs.Refusals.{DeskRefused, in-file, no-finite-model, too-many, FillRefused, short-table, in-rule}
+use Rattle.demands.specs.Refusals.{CountRefused, DeskRefused, in-file, no-finite-model, too-many, FillRefused, short-table, in-rule}
 
 -- ---- counting: the clauses of its refusals
 
-module _ (s : List ℕ) (bytes : Bytes s) where
+module _ (limit : ℕ) (s : List ℕ) (bytes : Bytes s) where
   abbrev CountRefuses : ℕ → ℕ → Type 0
-  CountRefuses number place = countedOf (synthesisOf most s) ≡ Counted.Refused number place
+  CountRefuses number place = countedOf (synthesisOf limit s) ≡ Counted.Refused number place
 
   refused-eight-iff : (r : Rule) → ruleOf s ≡ accepted r → CountRefuses 8 0 ↔ ((m : Model) → Finite m → Satisfies m r → ⊥)
-  refused-eight-iff r read = refuses-unsatisfiable most s r bytes read .no-finite
+  refused-eight-iff r read = refuses-unsatisfiable limit s r bytes read .no-finite
 
   -- a rule that was read
-  rule-refusal-clause : (r : Rule) → ruleOf s ≡ accepted r → (number place : ℕ) → synthesisOfRule most r ≡ refused number place → DeskRefused s number place
+  rule-refusal-clause : (r : Rule) → ruleOf s ≡ accepted r → (number place : ℕ) → synthesisOfRule limit r ≡ refused number place → CountRefused limit 9 s number place
   rule-refusal-clause r read number place e =
       let (w, is) = accepts-encodings s bytes r .0 read in
-      let outcome : synthesisOf most s ≡ synthesisOfRule most r = synthesis-of most s r read in
-      refuse-refused (DeskRefused s) (unsatisfiable r) 8 0 _ e
+      let outcome : synthesisOf limit s ≡ synthesisOfRule limit r = synthesis-of limit s r read in
+      refuse-refused (CountRefused limit 9 s) (unsatisfiable r) 8 0 _ e
       (λ t. no-finite-model r w is (refused-eight-iff r read .0 (rw (outcome, t))))
       (λ f e′.
-      refuse-refused (DeskRefused s) (ltb most (length (equationsOf most r))) 9 0 _ e′
+      refuse-refused (CountRefused limit 9 s) (ltb limit (length (equationsOf limit r))) 9 0 _ e′
       (λ t.
       let other : CountRefuses 8 0 → ⊥ = λ e″. let z : Counted.Refused 9 0 ≡ Counted.Refused 8 0 = rw (outcome, f, t) at e″ in
       let y : _≡_ {A = ℕ} 9 8 = cc in omega arith in
-      let (m, finite, satisfies) = unrefused-satisfiable most s bytes r read other in
-      too-many r w is m finite satisfies (refuses-too-many most s r read other .0 (rw (outcome, f, t))))
+      let (m, finite, satisfies) = unrefused-satisfiable limit s bytes r read other in
+      too-many r w is m finite satisfies (refuses-too-many limit s r read other .0 (rw (outcome, f, t))))
       (λ f′ e″. absurd (never-refused e″)))
 
-  count-refusal-clause : (number place : ℕ) → CountRefuses number place → DeskRefused s number place
+  count-refusal-clause : (number place : ℕ) → CountRefuses number place → CountRefused limit 9 s number place
   unfolding synthesisOf
   count-refusal-clause number place e =
-      andThen-refused (ruleOf s) (synthesisOfRule most) (counted-refuses (synthesisOf most s) number place e)
+      andThen-refused (ruleOf s) (synthesisOfRule limit) (counted-refuses (synthesisOf limit s) number place e)
       (λ e′. in-file (refuses-at-the-fault s bytes number place .0 (answer-refused (ruleOf s) number place .0 e′)))
       (λ r read e′. rule-refusal-clause r read number place e′)
 
   -- ---- counting: each clause is refused
 
-  count-clause-refuses : {number place : ℕ} → DeskRefused s number place → CountRefuses number place
+  count-clause-refuses : {number place : ℕ} → CountRefused limit 9 s number place → CountRefuses number place
   unfolding synthesisOf
   count-clause-refuses {number} {place} (in-file fault) =
       rw (answer-refused (ruleOf s) number place .1 (refuses-at-the-fault s bytes number place .1 fault))
   count-clause-refuses (no-finite-model r w is none) = refused-eight-iff r (accepts-encodings s bytes r .1 (w, is)) .1 none
   count-clause-refuses (too-many r w is m finite satisfies over) =
       let read = accepts-encodings s bytes r .1 (w, is) in
-      refuses-too-many most s r read (λ e. refused-eight-iff r read .0 e m finite satisfies) .1 over
+      refuses-too-many limit s r read (λ e. refused-eight-iff r read .0 e m finite satisfies) .1 over
 
+  pub count-refused-within : RefusedIff (countedOf (synthesisOf limit s)) Counted.Refused (CountRefused limit 9 s)
+  count-refused-within number place = (count-refusal-clause number place, count-clause-refuses)
+
+module _ (s : List ℕ) (bytes : Bytes s) where
   pub count-refused : RefusedIff (countedOf (counting s)) Counted.Refused (DeskRefused s)
-  count-refused number place = (count-refusal-clause number place, count-clause-refuses)
+  count-refused = count-refused-within most s bytes
 
   pub count-short-refused : RefusedIff (countedOf (shortCounting s)) Counted.Refused (DeskRefused s)
   count-short-refused number place =
       let alike = short-refuses-alike most s .refused number place in
-      (λ e. count-refusal-clause number place (alike .0 e), λ h. alike .1 (count-clause-refuses h))
+      (λ e. count-refused number place .0 (alike .0 e), λ h. alike .1 (count-refused number place .1 h))
 
 -- ---- filling, where counting refuses by these clauses
 

@@ -1,77 +1,60 @@
--- What counting on the rule page refuses. 18 is promised for itself; every other refusal is the desk's, and the clause that the desk has for it is the
--- page's too.
+-- What counting on the rule page refuses: what its limit refuses, with 18 for 9. 9 is no fault of a file, so it is the clause of too many equations.
 use Prim.Native.Nat.{ℕ}
-use mathlib.Core.Path.{_≡_, refl}
-use mathlib.Core.Bool.{Bool, true, false}
-use mathlib.Core.List.{List, []}
+use mathlib.Core.Path.{_≡_, refl, sym, _∙_, ap}
+use mathlib.Core.List.{List}
 use native.Mathlib.Omega.{arith}
-use lib.Dec.{eqb}
-use borrow.Author.Tests.{eqb-true, eqb-false}
-use Rattle.reading.specs.Rule.{Rule, Bytes}
-use Rattle.reading.specs.File.{accepted, ruleOf}
-use Rattle.reading.proofs.Accepting.Accepted.{accepts-encodings}
+use Rattle.reading.specs.Rule.{Bytes}
+use Rattle.reading.specs.File.{refused, ruleOf}
 use Rattle.reading.proofs.Refusing.FaultsRefused.{answer-refused, refuses-at-the-fault}
 use Rattle.reading.proofs.Refusing.FaultNumbers.{rule-refused-number}
-use Rattle.synthesis.specs.Violation.{ViolatesRule}
-use Rattle.synthesis.specs.Monitor.{most}
-use Rattle.synthesis.specs.Building.{countedOf}
-use Rattle.synthesis.specs.PreviewPromises.{PreviewRefusals}
+use Rattle.synthesis.specs.Building.{synthesisOf, countedOf, previewLimit, previewOf}
 use Rattle.synthesis.specs.declared.Counted.the-variants.{Refused}
-use Rattle.synthesis.proofs.Tables.Built.{refuses-violated-by-empty}
-use Rattle.synthesis.proofs.Tables.PreviewRefusals.{preview-refuses-too-many, preview-refuses}
-use Rattle.enforcement.specs.Model.{Model, Finite, Satisfies}
-use Rattle.models.proofs.Judgments.Accepting.{unrefused-satisfiable, refuses-unsatisfiable}
-use Rattle.demands.specs.Outcomes.{counting, previewCounting, RefusedIff}
-use Rattle.demands.specs.Refusals.{DeskRefused, PageRefused, in-file, no-finite-model, too-many}
-use Rattle.demands.proofs.Refused.{count-refused}
+use Rattle.synthesis.proofs.Tables.SynthesisOutcomes.{counted-refuses}
+use Rattle.synthesis.proofs.Tables.Pages.{page-refused, page-other, preview-is}
+use Rattle.demands.specs.Outcomes.{previewCounting, RefusedIff}
+use Rattle.demands.specs.Refusals.{CountRefused, PageRefused, in-file, no-finite-model, too-many}
+use Rattle.demands.proofs.Refused.{count-refused-within}
 
 module _ (s : List ℕ) (bytes : Bytes s) where
-  refusals : PreviewRefusals s
-  refusals = preview-refuses s
+  within : RefusedIff (countedOf (synthesisOf previewLimit s)) Refused (CountRefused previewLimit 9 s)
+  within = count-refused-within previewLimit s bytes
 
-  -- the empty list violates a rule exactly where no finite model satisfies it: both are 8
-  eight-violated : (r : Rule) → ruleOf s ≡ accepted r → countedOf (counting s) ≡ Refused 8 0 → ViolatesRule r []
-  eight-violated r read = refuses-violated-by-empty most s bytes r read .0
-
-  satisfied-hopeful : (r : Rule) → ruleOf s ≡ accepted r → (m : Model) → Finite m → Satisfies m r → ViolatesRule r [] → ⊥
-  satisfied-hopeful r read m finite satisfies v =
-      refuses-unsatisfiable most s r bytes read .no-finite .0 (refuses-violated-by-empty most s bytes r read .1 v) m finite satisfies
+  no-fault : (number place : ℕ) → ruleOf s ≡ refused number place → number ≡ 9 → ⊥
+  no-fault number place read nine = omega (arith, nine, rule-refused-number s bytes number place read .1)
 
   -- ---- each refusal has its clause
 
-  desk-clause : {number place : ℕ} → (number ≡ 9 → ⊥) → DeskRefused s number place → PageRefused s number place
-  desk-clause other (in-file fault) = in-file fault
-  desk-clause other (no-finite-model r w is none) = no-finite-model r w is none
-  desk-clause other (too-many r w is m finite satisfies over) = absurd (other refl)
+  nine-clause : {number place : ℕ} → number ≡ 9 → CountRefused previewLimit 9 s number place → PageRefused s 18 place
+  nine-clause {number} {place} nine (in-file fault) =
+      absurd (no-fault number place (answer-refused (ruleOf s) number place .1 (refuses-at-the-fault s bytes number place .1 fault)) nine)
+  nine-clause nine (no-finite-model r w is none) = absurd (omega (arith, nine))
+  nine-clause nine (too-many r w is m finite satisfies over) = too-many r w is m finite satisfies over
+
+  other-clause : {number place : ℕ} → (number ≡ 9 → ⊥) → CountRefused previewLimit 9 s number place → PageRefused s number place
+  other-clause other (in-file fault) = in-file fault
+  other-clause other (no-finite-model r w is none) = no-finite-model r w is none
+  other-clause other (too-many r w is m finite satisfies over) = absurd (other refl)
 
   refusal-clause : (number place : ℕ) → countedOf (previewCounting s) ≡ Refused number place → PageRefused s number place
-  refusal-clause number place e = on (eqb number 18) refl
-    where
-      eighteen : countedOf (previewCounting s) ≡ Refused 18 place → PageRefused s 18 place
-      eighteen e′ =
-          let (place-is, r, read, hopeful, over) = preview-refuses-too-many s place bytes .0 e′ in
-          let (w, is) = accepts-encodings s bytes r .0 read in
-          let (m, finite, satisfies) = unrefused-satisfiable most s bytes r read (λ eight. hopeful (eight-violated r read eight)) in
-          rw place-is (too-many r w is m finite satisfies over)
-
-      on : (b : Bool) → eqb number 18 ≡ b → PageRefused s number place
-      on true t = let is = eqb-true number 18 t in rw is (eighteen (rw is at e))
-      on false f =
-          let at-desk = refusals .counting .others number place (eqb-false number 18 f) e in
-          desk-clause (λ nine. refusals .counting .never-nine place (rw nine at e)) (count-refused s bytes number place .0 at-desk)
+  refusal-clause number place e =
+      page-refused (synthesisOf previewLimit s) number place (sym (preview-is s) ∙ counted-refuses (previewOf s) number place e)
+      (λ nine is. rw is (nine-clause refl (within 9 place .0 (ap countedOf nine))))
+      (λ other same. other-clause other (within number place .0 (ap countedOf same)))
 
   -- ---- each clause is refused
 
+  other-refused : (number place : ℕ) → (number ≡ 9 → ⊥) → countedOf (synthesisOf previewLimit s) ≡ Refused number place
+      → countedOf (previewCounting s) ≡ Refused number place
+  other-refused number place other e =
+      rw (preview-is s) (ap countedOf (page-other (synthesisOf previewLimit s) number place other (counted-refuses (synthesisOf previewLimit s) number place e)))
+
   clause-refuses : {number place : ℕ} → PageRefused s number place → countedOf (previewCounting s) ≡ Refused number place
   clause-refuses {number} {place} (in-file fault) =
-      let read = answer-refused (ruleOf s) number place .1 (refuses-at-the-fault s bytes number place .1 fault) in
-      refusals .other-at-desk number place (λ nine. omega (arith, nine, rule-refused-number s bytes number place read .1))
-      (count-refused s bytes number place .1 (in-file fault))
-  clause-refuses (no-finite-model r w is none) =
-      refusals .other-at-desk 8 0 (λ nine. omega (arith, nine)) (count-refused s bytes 8 0 .1 (no-finite-model r w is none))
+      other-refused number place (no-fault number place (answer-refused (ruleOf s) number place .1 (refuses-at-the-fault s bytes number place .1 fault)))
+      (within number place .1 (in-file fault))
+  clause-refuses (no-finite-model r w is none) = other-refused 8 0 (λ nine. omega (arith, nine)) (within 8 0 .1 (no-finite-model r w is none))
   clause-refuses (too-many r w is m finite satisfies over) =
-      let read = accepts-encodings s bytes r .1 (w, is) in
-      preview-refuses-too-many s 0 bytes .1 (refl, r, read, satisfied-hopeful r read m finite satisfies, over)
+      rw (preview-is s, counted-refuses (synthesisOf previewLimit s) 9 0 (within 9 0 .1 (too-many r w is m finite satisfies over)))
 
   pub count-preview-refused : RefusedIff (countedOf (previewCounting s)) Refused (PageRefused s)
   count-preview-refused number place = (refusal-clause number place, clause-refuses)

@@ -14,7 +14,7 @@ use Rattle.synthesis.specs.Table.{entriesOf}
 use Rattle.synthesis.specs.Building.{equationsOf, withEquations, synthesisOf, fillingOf, countedOf, tableLeft, Fills}
 use Rattle.synthesis.specs.declared.Counted.{Counted}
 use Rattle.synthesis.specs.declared.Counted.the-variants.{Equations, Refused}
-use Rattle.synthesis.proofs.Tables.FilledTables.{filled-row}
+use Rattle.synthesis.proofs.Tables.Built.{counted-row}
 use Rattle.synthesis.proofs.Tables.SynthesisOutcomes.{accepts-with-equations, refuses-eight, refuses-nine, counted-accepts, accepts-as}
 use Rattle.synthesis.proofs.Tables.SynthesisOutcomes.{filling-by-count, filling-accepts, fills-as-counted}
 use Rattle.examples.specs.Examples.{CountedAs, Refuses, ReadAs}
@@ -45,9 +45,7 @@ module _ (s : List ℕ) where
 
       pub row-left : (table : List ℕ) → 256 * length l ≤ length table → (k : ℕ) → k < length l
           → rowOf 256 (tableLeft most mark s table) k ≡ entriesOf mark (answerOf r) l (getD l k 0) 256
-      row-left table room k h =
-          rw (filling-accepts (length table) (filling-by-count most s (length table)) synthesis (rw equations room), equations)
-          (filled-row mark (answerOf r) l 256 table room k h)
+      row-left table room k h = rw equations at (counted-row most mark s table (withEquations most r) synthesis (rw equations room) k (rw equations h))
 
 -- ---- a file that is read and counted
 

@@ -19,14 +19,14 @@ use Rattle.listing.specs.Positions.{extentsOf, listingLineAt, linesFrom}
 -- whose array has 32 extents;
 abbrev pub ListsAll : Type 0
 ListsAll =
-    (rule : NumberedRule) (table : List ℕ) (count most : ℕ) → length (rule .extents) ≡ 32 → 34 + 256 * count ≤ most
-    → linesFrom rule table count most 0 ≡ listing (extentsOf rule) count table
+    (rule : NumberedRule) (table : List ℕ) (count lines : ℕ) → length (rule .extents) ≡ 32 → 34 + 256 * count ≤ lines
+    → linesFrom rule table count lines 0 ≡ listing (extentsOf rule) count table
 
 -- in particular of a rule that was read.
 abbrev pub ListsRule : Type 0
 ListsRule =
-    (r : Rule) (table : List ℕ) (count most : ℕ) → RuleWithinLimits r → 34 + 256 * count ≤ most
-    → linesFrom (numbered r) table count most 0 ≡ listing (map extentOf (r .patterns)) count table
+    (r : Rule) (table : List ℕ) (count lines : ℕ) → RuleWithinLimits r → 34 + 256 * count ≤ lines
+    → linesFrom (numbered r) table count lines 0 ≡ listing (map extentOf (r .patterns)) count table
 
 -- 2. Each run is a longest run of codes with one entry: no code before it or after it can join it.
 pub record Longest (row : List ℕ) (r : CodeRun) : Type 0 where

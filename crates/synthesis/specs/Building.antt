@@ -78,6 +78,7 @@ previewLimit = 32
 abbrev pub pageNumber : ℕ → ℕ
 pageNumber number = cond (eqb number 9) 18 number
 
+-- An outcome as the page has it: what is accepted stays, and a refusal has the number of the page.
 abbrev pub onPage : Outcome Synthesis → Outcome Synthesis
 onPage (accepted y) = accepted y
 onPage (refused number place) = refused (pageNumber number) place

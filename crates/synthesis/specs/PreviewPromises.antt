@@ -1,5 +1,5 @@
--- What this crate promises of the rule page, as statements over the definitions; proofs/ has a theorem of each of these types. They hold the page against
--- the desk in the terms of the contracts of `count_preview`, `fill_preview`, `count` and `fill`, and rest on one result over any two limits.
+-- What this crate promises of the rule page, as statements over the definitions; proofs/ has a theorem of each of these types. The first is over any two
+-- limits. The others are in the terms of the contracts of `count_preview`, `fill_preview`, `count` and `fill`; those that name the desk rest on the first.
 use Prim.Native.Nat.{ℕ, _*_, _≤_, _<_}
 use mathlib.Core.Path.{_≡_}
 use mathlib.Core.Logic.{_↔_}
@@ -17,13 +17,14 @@ use Rattle.synthesis.specs.declared.Counted.the-variants.{Equations, Ref
 -- ---- any two limits
 
 -- 1. The shared result, for any file. Under the smaller limit it has the outcome that it has under the larger, and then 9 where its equations are over
--- the smaller. So what the smaller accepts the larger accepts, with the same rule, equations and answers; a refusal other than 9 is the same under both;
--- and 9 under the larger is 9 under the smaller. A table too is filled alike, or refused alike, where the smaller accepts the file.
+-- the smaller. So what the smaller accepts the larger accepts, with the same rule, equations and answers; each refusal
+-- of the larger is one of the smaller, 9 too; and each of the smaller but 9 is one of the larger. A table too is filled alike, or refused alike, where the
+-- smaller accepts the file.
 pub record AgreeOn (limit limit′ : ℕ) (s : List ℕ) : Type 0 where
   pub by-limit : synthesisOf limit s ≡ andThen (synthesisOf limit′ s) (withinLimit limit)
   pub accepts : (y : Synthesis) → synthesisOf limit s ≡ accepted y → synthesisOf limit′ s ≡ accepted y
-  pub refuses : (number place : ℕ) → (number ≡ 9 → ⊥) → (synthesisOf limit s ≡ refused number place) ↔ (synthesisOf limit′ s ≡ refused number place)
-  pub too-many : (place : ℕ) → synthesisOf limit′ s ≡ refused 9 place → synthesisOf limit s ≡ refused 9 place
+  pub others : (number place : ℕ) → (number ≡ 9 → ⊥) → synthesisOf limit s ≡ refused number place → synthesisOf limit′ s ≡ refused number place
+  pub refuses : (number place : ℕ) → synthesisOf limit′ s ≡ refused number place → synthesisOf limit s ≡ refused number place
   pub fills : (y : Synthesis) → synthesisOf limit s ≡ accepted y → (capacity : ℕ) → fillingOf limit s capacity ≡ fillingOf limit′ s capacity
 
 abbrev pub LimitsAgree : Type 0
@@ -43,8 +44,8 @@ PreviewFillsAsCounted = (s : List ℕ) (capacity : ℕ) → FillsAsCounted (prev
 -- the same rows from the two, however long they are and whatever they held.
 pub record SameAtDesk (s : List ℕ) (n : ℕ) : Type 0 where
   pub count : countedOf (synthesisOf most s) ≡ Equations n
-  pub answer : (table : List ℕ) → countedOf (previewFillingOf s (length table)) ≡ countedOf (fillingOf most s (length table))
-  pub table : (table : List ℕ) → tableAfter mark (previewFillingOf s (length table)) table ≡ tableLeft most mark s table
+  pub answer : (capacity : ℕ) → countedOf (previewFillingOf s capacity) ≡ countedOf (fillingOf most s capacity)
+  pub table : (before : List ℕ) → tableAfter mark (previewFillingOf s (length before)) before ≡ tableLeft most mark s before
   pub rows : (table table′ : List ℕ) → 256 * n ≤ length table → 256 * n ≤ length table′ → (k : ℕ) → k < n
       → rowOf 256 (tableAfter mark (previewFillingOf s (length table)) table) k ≡ rowOf 256 (tableLeft most mark s table′) k
 
@@ -59,26 +60,33 @@ PreviewFillsAccepted =
 
 -- ---- what the page refuses
 
--- 3. The page answers 18 exactly where the file is a rule, the empty list doesn't violate it, and too many equations are reached: no list of at most 32
--- sets that has the first equation is closed under its codes. The place is 0.
+-- The file is a rule, the empty list doesn't violate it, and over `limit` equations are reached: no list of so few sets that has the first equation is closed
+-- under the codes.
+pub record OverLimit (limit : ℕ) (s : List ℕ) : Type 0 where
+  pub rule : Rule
+  pub is : ruleOf s ≡ accepted rule
+  pub not-by-empty : ViolatesRule rule [] → ⊥
+  pub none-closed : (es : List ℕ) → length es ≤ limit → Closed rule es → ⊥
+
+-- 3. Counting on the page answers 18 exactly there, at place 0; and so does filling, since it is refused where counting is, and else with 10 alone.
 abbrev pub PreviewRefusesTooMany : Type 0
 PreviewRefusesTooMany =
-    (s : List ℕ) (place : ℕ) → Bytes s
-    → (countedOf (previewOf s) ≡ Refused 18 place)
-    ↔ ((place ≡ 0) × (r : Rule) × (ruleOf s ≡ accepted r) × (ViolatesRule r [] → ⊥) × ((es : List ℕ) → length es ≤ previewLimit → Closed r es → ⊥))
+    (s : List ℕ) (place : ℕ) → Bytes s → (countedOf (previewOf s) ≡ Refused 18 place) ↔ ((place ≡ 0) × OverLimit previewLimit s)
 
--- It never answers 9, in counting or in filling, and a refusal other than 18 is the desk's too, with the same place.
+-- The page never answers 9, in counting or in filling, and a refusal other than 18 is the desk's too, with the same place.
 pub record RefusesAsDesk (page desk : Outcome Synthesis) : Type 0 where
   pub never-nine : (place : ℕ) → countedOf page ≡ Refused 9 place → ⊥
   pub others : (number place : ℕ) → (number ≡ 18 → ⊥) → countedOf page ≡ Refused number place → countedOf desk ≡ Refused number place
 
--- In counting, the desk's refusals are the page's, with 18 for 9.
+-- In counting, the desk's refusals are the page's as well, with 18 for 9. In filling, a refusal other than 18 leaves the table that the desk leaves.
 pub record PreviewRefusals (s : List ℕ) : Type 0 where
   pub counting : RefusesAsDesk (previewOf s) (synthesisOf most s)
-  pub filling : (capacity : ℕ) → RefusesAsDesk (previewFillingOf s capacity) (fillingOf most s capacity)
   pub nine-at-desk : (place : ℕ) → countedOf (synthesisOf most s) ≡ Refused 9 place → countedOf (previewOf s) ≡ Refused 18 place
   pub other-at-desk : (number place : ℕ) → (number ≡ 9 → ⊥) → countedOf (synthesisOf most s) ≡ Refused number place
       → countedOf (previewOf s) ≡ Refused number place
+  pub filling : (capacity : ℕ) → RefusesAsDesk (previewFillingOf s capacity) (fillingOf most s capacity)
+  pub table : (before : List ℕ) (number place : ℕ) → (number ≡ 18 → ⊥) → countedOf (previewFillingOf s (length before)) ≡ Refused number place
+      → tableAfter mark (previewFillingOf s (length before)) before ≡ tableLeft most mark s before
 
 abbrev pub PreviewRefuses : Type 0
 PreviewRefuses = (s : List ℕ) → PreviewRefusals s

@@ -25,7 +25,7 @@ pub const DROPPED: u8 = 255;
 pub const MOST: usize = 128;
 
 // The most that the rule page shows.
-pub const PREVIEW_MOST: usize = 32;
+const PREVIEW_LIMIT: usize = 32;
 
 // The bytes of the rows of a rule with the most equations.
 const LONGEST: usize = 256 * MOST;
@@ -170,7 +170,7 @@ fn on_page(counted: Counted) -> Counted
 pub fn count_preview(rule: &[u8]) -> Counted
     ensures { λ r. ⌜ r ≡ countedOf (previewOf (now (rule .entry))) ⌝ }
 {
-    on_page(count_within(rule, PREVIEW_MOST))
+    on_page(count_within(rule, PREVIEW_LIMIT))
 }
 
 // Fills a table with their rows, and answers how many there are. It is refused as counting on the page is, and then with 10 where the rows don't fit. A
@@ -179,7 +179,7 @@ pub fn fill_preview(rule: &[u8], table: &mut [u8]) -> Counted
     ensures { λ r. ⌜ r ≡ countedOf (previewFillingOf (now (rule .entry)) (length (now (table .entry)))) ⌝ }
     ensures { λ _. ⌜ now (table .exit) ≡ tableAfter mark (previewFillingOf (now (rule .entry)) (length (now (table .entry)))) (now (table .entry)) ⌝ }
 {
-    on_page(fill_within(rule, PREVIEW_MOST, table))
+    on_page(fill_within(rule, PREVIEW_LIMIT, table))
 }
 
 // Answers how many equations the short table of the rule of a file has, one for each class of equations that drop alike, or a refusal of 1 to 9.

@@ -11,12 +11,12 @@ use Rattle.reading.specs.Rule.{Rule, RuleWithinLimits, encode, Bytes}
 use Rattle.reading.specs.File.{Outcome, accepted, ruleOf}
 use Rattle.reading.proofs.Accepting.Encoding.{encoding-is-bytes}
 use Rattle.reading.proofs.Accepting.Accepted.{accepts-encodings}
-use Rattle.synthesis.specs.Monitor.{kept, verdicts, ended, Monitors, lookup}
+use Rattle.synthesis.specs.Monitor.{kept, verdicts, ended, Monitors, rowOf, lookup}
 use Rattle.synthesis.proofs.Monitors.Renaming.{Renames, renamed-runs, renamed-monitors}
 use Rattle.synthesis.specs.Opening.{Answers}
 use Rattle.synthesis.specs.Answering.{firstOf, answerOf, unsatisfiable}
 use Rattle.synthesis.specs.Search.{indexOf}
-use Rattle.synthesis.specs.Table.{filled, WellFormedTable}
+use Rattle.synthesis.specs.Table.{entriesOf, filled, WellFormedTable}
 use Rattle.synthesis.specs.Building.{equationsOf, Synthesis, withEquations, synthesisOf, fillingOf, countedOf, tableAfter, tableLeft}
 use Rattle.synthesis.specs.Building.{numberedAnswer, FillsBy, Fills}
 use Rattle.synthesis.specs.declared.Counted.the-variants.{Equations, Refused}
@@ -26,8 +26,9 @@ use Rattle.synthesis.proofs.Unfolding.AnsweringLaws.{answers-as-defined
 use Rattle.synthesis.proofs.Monitors.RuleMonitor.{rule-monitors, unsatisfiable-iff}
 use Rattle.synthesis.proofs.Numberings.Indices.{Member}
 use Rattle.synthesis.proofs.Monitors.MonitorLaws.{drops-violations}
+use Rattle.synthesis.proofs.Tables.FilledTables.{filled-row}
 use Rattle.synthesis.proofs.Tables.TableMonitors.{table-numbered, table-renames, table-answers, filled-well-formed, filled-same-after}
-use Rattle.synthesis.proofs.Tables.SynthesisOutcomes.{synthesis-accepts, refused-eight, refuses-eight, filling-by-count, filling-accepted, fills-as-counted}
+use Rattle.synthesis.proofs.Tables.SynthesisOutcomes.{synthesis-accepts, refused-eight, refuses-eight, filling-by-count, filling-accepts, filling-accepted, fills-as-counted}
 use Rattle.synthesis.proofs.Tables.SynthesisOutcomes.{counted-accepts, counted-refuses, accepts-as}
 use Rattle.synthesis.proofs.Tables.Equations.{file-well-formed, first-index, first-member, equations-closed}
 
@@ -130,6 +131,14 @@ module _ (limit mark : ℕ) (s table : List ℕ) (n : ℕ) (e : countedOf (filli
   counted-rest =
       let y = counted-accepts (fillingOf limit s (length table)) n e in
       rw (y .2) (built-rest limit mark s table (y .0) (y .1))
+
+-- a row of what was counted, where the table has room, is that of its equation
+pub counted-row : (limit mark : ℕ) (s table : List ℕ) (y : Synthesis) → synthesisOf limit s ≡ accepted y → 256 * length (y .equations) ≤ length table
+    → (k : ℕ) → k < length (y .equations)
+    → rowOf 256 (tableLeft limit mark s table) k ≡ entriesOf mark (y .answer) (y .equations) (getD (y .equations) k 0) 256
+counted-row limit mark s table y is room k h =
+    rw (filling-accepts (length table) (filling-by-count limit s (length table)) is room)
+    (filled-row mark (y .answer) (y .equations) 256 table room k h)
 
 -- ---- what fills a table
 

@@ -45,7 +45,7 @@ module _ (codes : ℕ) (answer : ℕ → ℕ → Answer ℕ) (first : ℕ) where
 -- ---- a rule
 
 module _ (limit limit′ : ℕ) (h : limit ≤ limit′) (r : Rule) where
-  pub equations-no-fewer : length (equationsOf limit r) ≤ length (equationsOf limit′ r)
+  equations-no-fewer : length (equationsOf limit r) ≤ length (equationsOf limit′ r)
   unfolding equationsOf
   equations-no-fewer =
       let z : limit′ ≡ limit′ - limit + limit = omega arith in
@@ -92,21 +92,18 @@ module _ (limit limit′ : ℕ) (s : List ℕ) (h : limit ≤ limit′) where
       is ∙ refuse-accepted (ltb limit (length (z .equations))) 9 0 (accepted z) within .1
 
   -- what isn't accepted is refused by the larger limit, or else with 9
-  refuses-smaller : (number place : ℕ) → (number ≡ 9 → ⊥) → synthesisOf limit s ≡ refused number place → synthesisOf limit′ s ≡ refused number place
-  refuses-smaller number place other e =
+  others : (number place : ℕ) → (number ≡ 9 → ⊥) → synthesisOf limit s ≡ refused number place → synthesisOf limit′ s ≡ refused number place
+  others number place other e =
       andThen-refused (synthesisOf limit′ s) (withinLimit limit) (sym by-limit ∙ e) (λ is. is) λ y is within.
       refuse-refused (λ k p. k ≡ number → synthesisOf limit′ s ≡ refused number place) (ltb limit (length (y .equations))) 9 0 (accepted y) within
       (λ t is-nine. absurd (other (sym is-nine))) (λ f e′. absurd (never-refused e′)) refl
-
-  refuses-larger : (number place : ℕ) → synthesisOf limit′ s ≡ refused number place → synthesisOf limit s ≡ refused number place
-  refuses-larger number place e = rw (by-limit, e)
 
   agree-on : AgreeOn limit limit′ s
   agree-on = record {
     by-limit = by-limit;
     accepts = accepts;
-    refuses = λ number place other. (refuses-smaller number place other, refuses-larger number place);
-    too-many = refuses-larger 9;
+    others = others;
+    refuses = λ number place e. rw (by-limit, e);
     fills = λ y e capacity. rw (filling-by-count limit s capacity, filling-by-count limit′ s capacity, e, accepts y e);
   }
 

@@ -25,7 +25,7 @@ page-accepted (accepted z) y e = e
 page-accepted (refused number place) y e = absurd (never-accepted e)
 
 -- a refusal is 18 for 9, or is the same
-pub page-refused : {P : Type 0} (o : Outcome Synthesis) (number place : ℕ) → onPage o ≡ refused number place
+pub page-refused {ℓ} : {P : Type ℓ} (o : Outcome Synthesis) (number place : ℕ) → onPage o ≡ refused number place
     → (o ≡ refused 9 place → number ≡ 18 → P) → ((number ≡ 9 → ⊥) → o ≡ refused number place → P) → P
 page-refused (accepted y) number place e nine other = absurd (never-refused e)
 page-refused {P} (refused k q) number place e nine other = on (eqb k 9) refl

@@ -3,7 +3,7 @@
 use Prim.Native.Nat.{ℕ, _*_, _≤_, _<_}
 use mathlib.Core.Path.{_≡_, refl, sym, _∙_, ap}
 use mathlib.Core.Logic.{_↔_}
-use mathlib.Core.List.{List, []}
+use mathlib.Core.List.{List}
 use native.Mathlib.Omega.{arith}
 use lib.Dec.{ltb}
 use lib.ListN.{length}
@@ -12,13 +12,11 @@ use Rattle.reading.specs.Rule.{Rule, Bytes}
 use Rattle.reading.specs.File.{Outcome, accepted, refused, andThen, ruleOf}
 use Rattle.reading.proofs.Basics.Outcomes.{never-refused, refuse-refused, andThen-refused}
 use Rattle.reading.proofs.Refusing.FaultNumbers.{rule-refused-number}
-use Rattle.synthesis.specs.Violation.{ViolatesRule}
 use Rattle.synthesis.specs.Monitor.{mark, most}
 use Rattle.synthesis.specs.Answering.{unsatisfiable}
 use Rattle.synthesis.specs.Building.{equationsOf, Synthesis, withinLimit, synthesisOfRule, synthesisOf, inTable, fillingOf, countedOf}
 use Rattle.synthesis.specs.Building.{previewLimit, onPage, previewOf, previewFillingOf}
-use Rattle.synthesis.specs.Promises.{Closed}
-use Rattle.synthesis.specs.PreviewPromises.{PreviewRefusesTooMany, PreviewRefuses, PreviewRefusedUnchanged, MoreAtDesk, DeskShowsMore}
+use Rattle.synthesis.specs.PreviewPromises.{OverLimit, PreviewRefusesTooMany, PreviewRefuses, PreviewRefusedUnchanged, MoreAtDesk, DeskShowsMore}
 use Rattle.synthesis.specs.declared.Counted.the-variants.{Equations, Refused}
 use Rattle.synthesis.proofs.Tables.SynthesisOutcomes.{counted-accepts, counted-refuses, filling-by-count, filling-refuses, filling-accepted}
 use Rattle.synthesis.proofs.Tables.Equations.{refuses-too-many}
@@ -42,41 +40,39 @@ beyond-eight limit s bytes number place e over =
     Beyond : (number place : ℕ) → Type 0
     Beyond number place = 8 < number → (number ≡ 9) × (place ≡ 0) × (r : Rule) × (ruleOf s ≡ accepted r)
 
--- a rule with too many equations for the page
-abbrev TooMany : (s : List ℕ) → (place : ℕ) → Type 0
-TooMany s place =
-    (place ≡ 0) × (r : Rule) × (ruleOf s ≡ accepted r) × (ViolatesRule r [] → ⊥) × ((es : List ℕ) → length es ≤ previewLimit → Closed r es → ⊥)
-
--- the smaller limit refuses it with 9, and no other
-too-many : (s : List ℕ) (place : ℕ) → Bytes s → (synthesisOf previewLimit s ≡ refused 9 place) ↔ TooMany s place
-too-many s place bytes = (refused-nine, refuses-nine)
+-- a limit refuses with 9 exactly what is over it
+nine-over-limit : (limit : ℕ) (s : List ℕ) (place : ℕ) → Bytes s → (synthesisOf limit s ≡ refused 9 place) ↔ ((place ≡ 0) × OverLimit limit s)
+nine-over-limit limit s place bytes = (refused-nine, refuses-nine)
   where
-    refused-nine : synthesisOf previewLimit s ≡ refused 9 place → TooMany s place
+    refused-nine : synthesisOf limit s ≡ refused 9 place → (place ≡ 0) × OverLimit limit s
     refused-nine e =
-        let (_, place-is, r, read) = beyond-eight previewLimit s bytes 9 place e (omega arith) in
-        let nine : countedOf (synthesisOf previewLimit s) ≡ Refused 9 0 = ap countedOf e ∙ ap (Refused 9) place-is in
-        let not-eight : countedOf (synthesisOf previewLimit s) ≡ Refused 8 0 → ⊥ =
+        let (_, place-is, r, read) = beyond-eight limit s bytes 9 place e (omega arith) in
+        let nine : countedOf (synthesisOf limit s) ≡ Refused 9 0 = ap countedOf e ∙ ap (Refused 9) place-is in
+        let not-eight : countedOf (synthesisOf limit s) ≡ Refused 8 0 → ⊥ =
         λ eight. let z : Refused 9 0 ≡ Refused 8 0 = sym nine ∙ eight in let w : _≡_ {A = ℕ} 9 8 = cc in omega arith in (
           place-is,
-          r,
-          read,
-          λ v. not-eight (refuses-violated-by-empty previewLimit s bytes r read .1 v),
-          refuses-too-many previewLimit s r read not-eight .0 nine,
+          record {
+            rule = r;
+            is = read;
+            not-by-empty = λ v. not-eight (refuses-violated-by-empty limit s bytes r read .1 v);
+            none-closed = refuses-too-many limit s r read not-eight .0 nine;
+          },
         )
 
-    refuses-nine : TooMany s place → synthesisOf previewLimit s ≡ refused 9 place
-    refuses-nine (place-is, r, read, hopeful, none) =
-        counted-refuses (synthesisOf previewLimit s) 9 0
-        (refuses-too-many previewLimit s r read (λ eight. hopeful (refuses-violated-by-empty previewLimit s bytes r read .0 eight)) .1 none)
+    refuses-nine : (place ≡ 0) × OverLimit limit s → synthesisOf limit s ≡ refused 9 place
+    refuses-nine (place-is, over) =
+        counted-refuses (synthesisOf limit s) 9 0
+        (refuses-too-many limit s (over .rule) (over .is)
+        (λ eight. over .not-by-empty (refuses-violated-by-empty limit s bytes (over .rule) (over .is) .0 eight)) .1 (over .none-closed))
         ∙ ap (refused 9) (sym place-is)
 
 pub preview-refuses-too-many : PreviewRefusesTooMany
 preview-refuses-too-many s place bytes = (
   λ e.
       page-refused (synthesisOf previewLimit s) 18 place (sym (preview-is s) ∙ counted-refuses (previewOf s) 18 place e)
-      (λ nine is. too-many s place bytes .0 nine)
+      (λ nine is. nine-over-limit previewLimit s place bytes .0 nine)
       (λ other is. absurd (omega (arith, beyond-eight previewLimit s bytes 18 place is (omega arith) .0))),
-  λ h. rw (preview-is s, too-many s place bytes .1 h),
+  λ h. rw (preview-is s, nine-over-limit previewLimit s place bytes .1 h),
 )
 
 -- ---- the page's refusals at the desk
@@ -96,25 +92,33 @@ filling-others : (s : List ℕ) (capacity number place : ℕ) → (number ≡ 9 
     → fillingOf most s capacity ≡ refused number place
 filling-others s capacity number place other e =
     andThen-refused (synthesisOf previewLimit s) (inTable capacity) (sym (filling-by-count previewLimit s capacity) ∙ e)
-    (λ is. filling-refuses capacity (filling-by-count most s capacity) (page-agrees s .refuses number place other .0 is))
+    (λ is. filling-refuses capacity (filling-by-count most s capacity) (page-agrees s .others number place other is))
     (λ y is fits. sym (page-agrees s .fills y is capacity) ∙ e)
+
+filling-refused : (s : List ℕ) (capacity number place : ℕ) → (number ≡ 18 → ⊥)
+    → countedOf (onPage (fillingOf previewLimit s capacity)) ≡ Refused number place → countedOf (fillingOf most s capacity) ≡ Refused number place
+filling-refused s capacity number place not-18 e =
+    others (fillingOf previewLimit s capacity) number place not-18 e (λ other is. ap countedOf (filling-others s capacity number place other is))
 
 pub preview-refuses : PreviewRefuses
 preview-refuses s = record {
   counting = rw (preview-is s) (record {
     never-nine = never-nine (synthesisOf previewLimit s);
     others = λ number place not-18 e.
-        others (synthesisOf previewLimit s) number place not-18 e (λ other is. ap countedOf (page-agrees s .refuses number place other .0 is));
+        others (synthesisOf previewLimit s) number place not-18 e (λ other is. ap countedOf (page-agrees s .others number place other is));
   });
+  nine-at-desk = λ place e. rw (preview-is s, page-agrees s .refuses 9 place (counted-refuses (synthesisOf most s) 9 place e));
+  other-at-desk = λ number place other e.
+      let smaller = page-agrees s .refuses number place (counted-refuses (synthesisOf most s) number place e) in
+      rw (preview-is s) (ap countedOf (page-other (synthesisOf previewLimit s) number place other smaller));
   filling = λ capacity. rw (preview-filling-is s capacity) (record {
     never-nine = never-nine (fillingOf previewLimit s capacity);
-    others = λ number place not-18 e.
-        others (fillingOf previewLimit s capacity) number place not-18 e (λ other is. ap countedOf (filling-others s capacity number place other is));
+    others = filling-refused s capacity;
   });
-  nine-at-desk = λ place e. rw (preview-is s, page-agrees s .too-many place (counted-refuses (synthesisOf most s) 9 place e));
-  other-at-desk = λ number place other e.
-      let smaller = page-agrees s .refuses number place other .1 (counted-refuses (synthesisOf most s) number place e) in
-      rw (preview-is s) (ap countedOf (page-other (synthesisOf previewLimit s) number place other smaller));
+  table = λ before number place not-18 e.
+      let at-desk = filling-refused s (length before) number place not-18 (rw (preview-filling-is s (length before)) at e) in
+      outcome-unchanged mark before (previewFillingOf s (length before)) number place e .table
+      ∙ sym (outcome-unchanged mark before (fillingOf most s (length before)) number place at-desk .table);
 }
 
 pub preview-refused-unchanged : PreviewRefusedUnchanged

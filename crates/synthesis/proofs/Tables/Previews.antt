@@ -1,21 +1,19 @@
 -- What the rule page shows. It accepts what the smaller limit accepts, and so does the desk, with the same synthesis; so the counts are the same, and a
 -- table is filled with the same rows.
-use Prim.Native.Nat.{ℕ, _*_, _≤_, _<_}
+use Prim.Native.Nat.{ℕ, _≤_, _<_}
 use mathlib.Core.Path.{_≡_, sym, _∙_, ap}
 use mathlib.Core.List.{List}
 use native.Mathlib.Omega.{arith}
-use lib.ListN.{length, getD}
+use lib.ListN.{length}
 use borrow.Author.Tests.{le-ltb}
-use Rattle.reading.specs.File.{Outcome, accepted, andThen}
+use Rattle.reading.specs.File.{Outcome, andThen}
 use Rattle.synthesis.specs.Monitor.{mark, most, rowOf}
-use Rattle.synthesis.specs.Table.{entriesOf}
-use Rattle.synthesis.specs.Building.{Synthesis, synthesisOf, inTable, fillingOf, countedOf, tableAfter, tableLeft}
+use Rattle.synthesis.specs.Building.{Synthesis, synthesisOf, inTable, fillingOf, countedOf, tableAfter}
 use Rattle.synthesis.specs.Building.{previewLimit, previewOf, previewFillingOf}
 use Rattle.synthesis.specs.PreviewPromises.{PreviewCounts, PreviewFillsAsCounted, PreviewAgrees, PreviewFillsAccepted}
 use Rattle.synthesis.specs.declared.Counted.the-variants.{Equations}
-use Rattle.synthesis.proofs.Tables.FilledTables.{filled-row}
-use Rattle.synthesis.proofs.Tables.SynthesisOutcomes.{synthesis-accepts, counted-accepts, filling-by-count, filling-accepts, filled-as-counted}
-use Rattle.synthesis.proofs.Tables.Built.{fills-accepted}
+use Rattle.synthesis.proofs.Tables.SynthesisOutcomes.{synthesis-accepts, counted-accepts, filling-by-count, filled-as-counted}
+use Rattle.synthesis.proofs.Tables.Built.{counted-row, fills-accepted}
 use Rattle.synthesis.proofs.Tables.Pages.{page-agrees, preview-is, preview-by-count, preview-accepted}
 
 pub preview-counts : PreviewCounts
@@ -43,14 +41,6 @@ preview-same s n e capacity =
     let (y, shown, n-is) = counted-accepts (previewOf s) n e in
     rw (preview-by-count s capacity, filling-by-count most s capacity) (ap (λ (o : Outcome Synthesis). andThen o (inTable capacity)) (shown ∙ sym (preview-accepted s y shown .1)))
 
--- a row that the desk fills is that of its equation
-desk-row : (s table : List ℕ) (y : Synthesis) → synthesisOf most s ≡ accepted y → 256 * length (y .equations) ≤ length table → (k : ℕ)
-    → k < length (y .equations)
-    → rowOf 256 (tableLeft most mark s table) k ≡ entriesOf mark (y .answer) (y .equations) (getD (y .equations) k 0) 256
-desk-row s table y is room k h =
-    rw (filling-accepts (length table) (filling-by-count most s (length table)) is room)
-    (filled-row mark (y .answer) (y .equations) 256 table room k h)
-
 pub preview-agrees : PreviewAgrees
 preview-agrees s n e =
     let at-desk = preview-counts s n .0 e .0 in
@@ -58,17 +48,17 @@ preview-agrees s n e =
     let (y, is, n-is) = counted-accepts (synthesisOf most s) n at-desk in
     record {
       count = at-desk;
-      answer = λ table. ap countedOf (same (length table));
-      table = λ table. ap (λ (o : Outcome Synthesis). tableAfter mark o table) (same (length table));
+      answer = λ capacity. ap countedOf (same capacity);
+      table = λ before. ap (λ (o : Outcome Synthesis). tableAfter mark o before) (same (length before));
       rows = λ table table′ room room′ k h.
           let inside : k < length (y .equations) = omega (arith, h, n-is) in
           ap (λ (o : Outcome Synthesis). rowOf 256 (tableAfter mark o table) k) (same (length table))
-          ∙ desk-row s table y is (omega (arith, room, n-is)) k inside ∙ sym (desk-row s table′ y is (omega (arith, room′, n-is)) k inside);
+          ∙ counted-row most mark s table y is (omega (arith, room, n-is)) k inside ∙ sym (counted-row most mark s table′ y is (omega (arith, room′, n-is)) k inside);
     }
 
 pub preview-fills-accepted : PreviewFillsAccepted
 preview-fills-accepted s table n bytes e =
     let counted : countedOf (previewOf s) ≡ Equations n = rw (← preview-fills-as-counted s (length table) .same n e) e in
     let agrees = preview-agrees s n counted in
-    let (r, fills) = fills-accepted most mark s table n (omega arith) bytes (sym (agrees .answer table) ∙ e) in
+    let (r, fills) = fills-accepted most mark s table n (omega arith) bytes (sym (agrees .answer (length table)) ∙ e) in
     (r, rw (agrees .table table) fills)
