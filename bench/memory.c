@@ -128,26 +128,28 @@ struct function {
     uint8_t (*judge)(const uint8_t *, size_t, const uint8_t *, size_t, uint8_t *, size_t, size_t *);
 };
 
+/* With a table of so many bytes, which the header says are enough. */
 struct operation {
     const char *name;
+    size_t table_len;
     struct function ours, twin;
 };
 
 static const struct operation operations[] = {
-    {"count", {.count = jarveun_count}, {.count = twin_count}},
-    {"fill", {.fill = jarveun_fill}, {.fill = twin_fill}},
-    {"explain", {.explain = jarveun_explain}, {.explain = twin_explain}},
-    {"judge", {.judge = jarveun_judge}, {.judge = twin_judge}},
+    {"count", 0, {.count = jarveun_count}, {.count = twin_count}},
+    {"fill", JARVEUN_TABLE, {.fill = jarveun_fill}, {.fill = twin_fill}},
+    {"explain", 0, {.explain = jarveun_explain}, {.explain = twin_explain}},
+    {"judge", JARVEUN_TABLE, {.judge = jarveun_judge}, {.judge = twin_judge}},
 };
 
 static const struct operation preview_operations[] = {
-    {"count_preview", {.count = jarveun_count_preview}, {.count = twin_count_preview}},
-    {"fill_preview", {.fill = jarveun_fill_preview}, {.fill = twin_fill_preview}},
+    {"count_preview", 0, {.count = jarveun_count_preview}, {.count = twin_count_preview}},
+    {"fill_preview", JARVEUN_PREVIEW_TABLE, {.fill = jarveun_fill_preview}, {.fill = twin_fill_preview}},
 };
 
 static const struct operation short_operations[] = {
-    {"count_short", {.count = jarveun_count_short}, {.count = twin_count_short}},
-    {"fill_short", {.fill = jarveun_fill_short}, {.fill = twin_fill_short}},
+    {"count_short", 0, {.count = jarveun_count_short}, {.count = twin_count_short}},
+    {"fill_short", JARVEUN_TABLE, {.fill = jarveun_fill_short}, {.fill = twin_fill_short}},
 };
 
 enum {
@@ -168,7 +170,7 @@ struct named_rule {
 struct job {
     struct function function;
     const struct named_rule *rule;
-    size_t value;
+    size_t table_len, value;
     uint8_t refused, table[MOST_TABLE];
 };
 
@@ -182,11 +184,11 @@ static void do_job(void *work)
     if (j->function.count)
         j->refused = j->function.count(rule, len, &j->value);
     else if (j->function.fill)
-        j->refused = j->function.fill(rule, len, j->table, MOST_TABLE, &j->value);
+        j->refused = j->function.fill(rule, len, j->table, j->table_len, &j->value);
     else if (j->function.explain)
         j->refused = j->function.explain(rule, len, scans, BLOCK, scans[BLOCK], &j->value);
     else
-        j->refused = j->function.judge(rule, len, model, LARGEST_MODEL, j->table, MOST_TABLE, &j->value);
+        j->refused = j->function.judge(rule, len, model, LARGEST_MODEL, j->table, j->table_len, &j->value);
 }
 
 static int same_job(const void *a, const void *b)
@@ -199,7 +201,8 @@ static void contest_of_jobs(const struct operation *operation, const struct name
 {
     char what[80];
     snprintf(what, sizeof what, "%s %s", operation->name, rule->name);
-    struct job ours = {.function = operation->ours, .rule = rule}, twin = {.function = operation->twin, .rule = rule};
+    struct job ours = {.function = operation->ours, .rule = rule, .table_len = operation->table_len}, twin = ours;
+    twin.function = operation->twin;
     struct entrant entrants[] = {{what, &ours, do_job, 0, 0}, {"twin", &twin, do_job, 0, 0}};
     compete(entrants, 2, rounds, JOB_CALLS, same_job);
     fprintf(stderr, "%s: %u %zu\n", what, ours.refused, ours.value);
