@@ -1,7 +1,7 @@
 -- `jarveun_fill` meets its contract: its two numbers are those of what `fill` answers.
 use borrow.Author.Needs.{needs}
 use Rattle.boundary.specs.Results.{countedResult}
-use Rattle.boundary.proofs.SameResults.{passed-on}
+use Rattle.boundary.proofs.SameResults.{passed-on-filled}
 use Rattle.boundary.proofs.jarveun_fill.Statement.{statement}
 use Rattle.boundary.proofs.jarveun_fill.Tie as tie
 
@@ -15,10 +15,7 @@ same-length : tie.Need-same-length
 same-length c = search needs
 
 returns : tie.Need-returns
-returns c =
-    let filled = c .before .before .before .before .fill .ensures in
-    let same = passed-on countedResult (c .hand-back .ensures) (filled .0) in
-    (same .0, (same .1, filled .1))
+returns c = passed-on-filled countedResult (c .hand-back .ensures) (c .before .before .before .before .fill .ensures)
 
 pub jarveun-fill-spec : {M : Type 1} → statement M
 jarveun-fill-spec = tie.close (tie.spec fill-requires hand-back-requires same-length returns)

@@ -1,7 +1,7 @@
 -- `jarveun_fill_preview` meets its contract: its two numbers are those of what `fill_preview` answers.
 use borrow.Author.Needs.{needs}
 use Rattle.boundary.specs.Results.{countedResult}
-use Rattle.boundary.proofs.SameResults.{passed-on}
+use Rattle.boundary.proofs.SameResults.{passed-on-filled}
 use Rattle.boundary.proofs.jarveun_fill_preview.Statement.{statement}
 use Rattle.boundary.proofs.jarveun_fill_preview.Tie as tie
 
@@ -15,10 +15,7 @@ same-length : tie.Need-same-length
 same-length c = search needs
 
 returns : tie.Need-returns
-returns c =
-    let filled = c .before .before .before .before .fill-preview .ensures in
-    let same = passed-on countedResult (c .hand-back .ensures) (filled .0) in
-    (same .0, (same .1, filled .1))
+returns c = passed-on-filled countedResult (c .hand-back .ensures) (c .before .before .before .before .fill-preview .ensures)
 
 pub jarveun-fill-preview-spec : {M : Type 1} → statement M
 jarveun-fill-preview-spec = tie.close (tie.spec fill-preview-requires hand-back-requires same-length returns)
