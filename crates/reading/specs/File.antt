@@ -70,10 +70,9 @@ patternAt s at =
     let first = getD s (at + 2) 0 in
     let last = getD s (at + 3) 0 in
     refuse (leb (length s) (at + 3)) 1 (length s)
-    (refuse (eqb mask 0) 5 at
     (refuse (ltb 31 first) 5 at
     (refuse (ltb 31 last) 5 at
-    (accepted (record { mask = mask; first = first; last = last })))))
+    (accepted (record { mask = mask; first = first; last = last }))))
 
 abbrev pub isPattern : List ℕ → (at : ℕ) → Bool
 isPattern s at = ltb at (length s) && eqb (getD s at 0) patternKind

@@ -7,6 +7,7 @@ use Rattle.reading.specs.Rule.{Formula, truth, falsity, both, necessity,
 use Rattle.reading.specs.File.{Outcome, accepted, refused}
 use Rattle.reading.specs.Nodes.{EnclosingMax, preorder}
 use Rattle.reading.specs.declared.Pattern.{Pattern}
+use Rattle.reading.specs.declared.Lowest.the-variants.{Absent}
 use Rattle.reading.specs.declared.Extent.{Extent}
 use Rattle.reading.specs.declared.NumberedRule.{NumberedRule}
 use Rattle.reading.specs.declared.FileRead.the-variants.{Accepted, Refused}
@@ -40,11 +41,12 @@ args = preorder numberOf argument
 abbrev pub padded : {A : Type 0} → ℕ → A → List A → List A
 padded n x l = l ++ replicate (n - length l) x
 
+-- what fills up the patterns of a rule: a pattern of no kind, and its extent
 abbrev pub noPattern : Pattern
 noPattern = record { mask = 0; first = 0; last = 0 }
 
 abbrev pub noExtent : Extent
-noExtent = record { lowest = 0; count = 0 }
+noExtent = record { lowest = Absent; count = 0 }
 
 abbrev pub numbered : Rule → NumberedRule
 numbered r = record {

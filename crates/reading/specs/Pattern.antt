@@ -1,10 +1,12 @@
--- Scans and patterns. A scan is its code, made of its kind, 0 to 7, and its slot, 0 to 31. A pattern is a set of codes: the mask says for each
--- kind whether it belongs, first and last name the slots. `Pattern` and `Extent` are the structs of src/lib.rt.
+-- Scans and patterns. A scan is its code, made of its kind, 0 to 7, and its slot, 0 to 31. A pattern is a set of codes, maybe of none: the mask says for
+-- each kind whether it belongs, first and last name the slots. `Pattern`, `Lowest` and `Extent` are those of src/lib.rt.
 use Prim.Native.Nat.{ℕ, _+_, _-_, _*_, _/_, _%_, zero, suc, _^_, _≤_, _<_}
 use mathlib.Core.Path.{_≡_}
 use mathlib.Core.Bool.{Bool, cond, not, _&&_, _||_}
-use lib.Dec.{leb, eqb}
+use lib.Dec.{ltb, leb, eqb}
 use Rattle.reading.specs.declared.Pattern.{Pattern}
+use Rattle.reading.specs.declared.Lowest.{Lowest}
+use Rattle.reading.specs.declared.Lowest.the-variants.{Code, Absent}
 use Rattle.reading.specs.declared.Extent.{Extent}
 
 -- ---- codes
@@ -75,9 +77,13 @@ unfoldable pub countBelow : ℕ → (ℕ → Bool) → ℕ
 countBelow zero holds = zero
 countBelow (suc n) holds = countBelow n holds + cond (holds n) 1 0
 
--- the lowest of the 256 codes that a pattern covers, and how many it covers
+-- the lowest of the 256 codes that a pattern covers; absent where it covers none
+abbrev pub lowestOf : Pattern → Lowest
+lowestOf p = let low = least 256 (covers p) in cond (ltb low 256) (Code low) Absent
+
+-- the lowest code that a pattern covers, and how many it covers
 abbrev pub extentOf : Pattern → Extent
-extentOf p = record { lowest = least 256 (covers p); count = countBelow 256 (covers p) }
+extentOf p = record { lowest = lowestOf p; count = countBelow 256 (covers p) }
 
 -- Where both are slots, the lowest of those that first and last name, and how many these are.
 abbrev pub lowestSlot : (first last : ℕ) → ℕ
@@ -86,9 +92,8 @@ lowestSlot first last = cond (leb first last) first 0
 abbrev pub slotWidth : (first last : ℕ) → ℕ
 slotWidth first last = cond (leb first last) (last - first + 1) (32 - first + last + 1)
 
--- what refusal 5 lets through; a mask is a byte
+-- what refusal 5 lets through; a mask is any byte
 pub record WellFormedPattern (p : Pattern) : Type 0 where
-  pub some-kind : 0 < p .mask
   pub byte : p .mask ≤ 255
   pub first-slot : p .first ≤ 31
   pub last-slot : p .last ≤ 31

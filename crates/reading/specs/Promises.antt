@@ -2,7 +2,7 @@
 use Prim.Native.Nat.{ℕ, suc, _+_, _-_, _*_, _/_, _%_, _^_, _≤_, _<_, min}
 use mathlib.Core.Path.{_≡_}
 use mathlib.Core.Logic.{_↔_, _⊎_}
-use mathlib.Core.Bool.{Bool, true}
+use mathlib.Core.Bool.{Bool, true, false}
 use mathlib.Core.List.{List, [], map}
 use lib.ListN.{length, getD, take}
 use lib.Count.{ones, trailingZeros}
@@ -15,6 +15,7 @@ use Rattle.reading.specs.Faults.{Fault, Unfinished, KindAt, IsPattern}
 use Rattle.reading.specs.Numbered.{kind, argument, numberOf, numbered, noPattern, noExtent, readingOf}
 use Rattle.reading.specs.Nodes.{EnclosingMax, Node, guardsAt, Resolves}
 use Rattle.reading.specs.declared.Pattern.{Pattern}
+use Rattle.reading.specs.declared.Lowest.the-variants.{Code, Absent}
 use Rattle.reading.specs.declared.FileRead.{FileRead}
 use Rattle.reading.specs.declared.FileRead.the-variants.{Accepted, Refused}
 
@@ -45,12 +46,12 @@ pub record OneFault (answer : FileRead) (Holds : (number place : ℕ) → Type 0
 abbrev pub HasOneFault : Type 0
 HasOneFault = (s : List ℕ) → Bytes s → OneFault (readingOf (ruleOf s) .answer) (Fault s)
 
--- 5 in words: where a pattern may come next and a whole record of one stands, the file is refused with 5 there exactly where that record has no kind, or
--- a slot over 31.
+-- 5 in words: where a pattern may come next and a whole record of one stands, the file is refused with 5 there exactly where that record has a slot over
+-- 31, whatever its mask.
 abbrev pub RefusesPattern : Type 0
 RefusesPattern =
     (s : List ℕ) → Bytes s → (at n : ℕ) → Unfinished s at n 0 → KindAt s at IsPattern → n < 32 → at + 4 ≤ length s
-    → (readingOf (ruleOf s) .answer ≡ Refused 5 at) ↔ ((getD s (at + 1) 0 ≡ 0) ⊎ ((31 < getD s (at + 2) 0) ⊎ (31 < getD s (at + 3) 0)))
+    → (readingOf (ruleOf s) .answer ≡ Refused 5 at) ↔ ((31 < getD s (at + 2) 0) ⊎ (31 < getD s (at + 3) 0))
 
 -- 2. The numbered nodes are those of the tree: each number below the size names one node, and the kind and the argument that stand at
 -- that number say its formula, its parts by their numbers, and the max of a variable. Each node is well formed where it stands.
@@ -105,13 +106,15 @@ pub record GoesRound (p : Pattern) : Type 0 where
   pub to-last : (p .first + (slotWidth (p .first) (p .last) - 1)) % 32 ≡ p .last
   pub once : (0 < slotWidth (p .first) (p .last)) × (slotWidth (p .first) (p .last) ≤ 32)
 
--- Of a well-formed pattern: its lowest code is the least that it covers, and has slot 0 where the pattern goes round; the trailing zeros of the mask and
--- the lowest slot give it, and the ones of the mask times the slot width give its count. (That the count is how many codes it covers is its definition.)
+-- Of a well-formed pattern: the lowest code is the least that it covers. It is absent exactly where the mask is 0, which is where no code is covered. It has
+-- slot 0 where the pattern goes round; the trailing zeros of a mask that isn't 0 and the lowest slot give it, and the ones of any mask times the slot width
+-- give the count. (That the count is how many codes it covers is its definition.)
 pub record MeasuresPattern (p : Pattern) : Type 0 where
-  pub covered : covers p (extentOf p .lowest) ≡ true
-  pub least : (code : ℕ) → covers p code ≡ true → extentOf p .lowest ≤ code
-  pub round-lowest : p .last < p .first → slotOf (extentOf p .lowest) ≡ 0
-  pub by-zeros : extentOf p .lowest ≡ trailingZeros 8 (p .mask) * 32 + lowestSlot (p .first) (p .last)
+  pub lowest : (low : ℕ) → (extentOf p .lowest ≡ Code low) ↔ ((covers p low ≡ true) × ((code : ℕ) → covers p code ≡ true → low ≤ code))
+  pub absent : (extentOf p .lowest ≡ Absent) ↔ (p .mask ≡ 0)
+  pub empty : (p .mask ≡ 0) ↔ ((code : ℕ) → covers p code ≡ false)
+  pub round-lowest : (low : ℕ) → extentOf p .lowest ≡ Code low → p .last < p .first → slotOf low ≡ 0
+  pub by-zeros : 0 < p .mask → extentOf p .lowest ≡ Code (trailingZeros 8 (p .mask) * 32 + lowestSlot (p .first) (p .last))
   pub by-ones : extentOf p .count ≡ ones (p .mask) * slotWidth (p .first) (p .last)
 
 -- 6. Words as sets of slots. `slots_under` and `slot_set` ensure `IsSlotSet`, the one of the slots under a width and the other of those that first and
@@ -136,10 +139,10 @@ pub record MeasuresSlots (holds : ℕ → Bool) (word : ℕ) : Type 0 where
   pub by-ones : ones word ≡ countBelow 32 holds
 
 -- So the set of a pattern's first and last slot tells what it covers: the codes of its kinds with the members of the set. Of a well-formed pattern, the
--- trailing zeros of the mask and of the set give the lowest code, and the ones of the two give the count.
+-- trailing zeros of the mask and of the set give the lowest code, if there is a kind, and the ones of the two give the count.
 pub record ToldBySet (p : Pattern) (word : ℕ) : Type 0 where
   pub covered : (code : ℕ) → (covers p code ≡ true) ↔ ((bit (kindOf code) (p .mask) ≡ 1) × (bit (slotOf code) word ≡ 1))
-  pub lowest : WellFormedPattern p → extentOf p .lowest ≡ trailingZeros 8 (p .mask) * 32 + trailingZeros 32 word
+  pub lowest : WellFormedPattern p → 0 < p .mask → extentOf p .lowest ≡ Code (trailingZeros 8 (p .mask) * 32 + trailingZeros 32 word)
   pub count : WellFormedPattern p → extentOf p .count ≡ ones (p .mask) * ones word
 
 -- ---- all of these

@@ -9,16 +9,22 @@ ghost use Rattle.reading.specs.Pattern.{covers};
 ghost use Rattle.reading.specs.File.{ruleOf};
 ghost use Rattle.reading.specs.Numbered.{readingOf, blank};
 
-// A pattern as it is written: a bit for each kind, and the slots from first to last, round past 31 to 0 where first is over last.
+// A pattern as it is written: a bit for each kind, and the slots from first to last, round past 31 to 0 where first is over last. A mask of 0 has no kind.
 pub struct Pattern {
     pub mask: u8,
     pub first: u8,
     pub last: u8,
 }
 
+// The lowest code that a pattern covers; a pattern that covers none has no lowest code.
+pub enum Lowest {
+    Code(u8),
+    Absent,
+}
+
 // The lowest code that a pattern covers, and how many it covers.
 pub struct Extent {
-    pub lowest: u8,
+    pub lowest: Lowest,
     pub count: u16,
 }
 
@@ -67,7 +73,7 @@ fn blank_rule() -> NumberedRule
         last: 0,
     };
     let extent = Extent {
-        lowest: 0,
+        lowest: Lowest::Absent,
         count: 0,
     };
     let patterns = [pattern; 32];

@@ -1,6 +1,7 @@
 // Pattern records: reading one, its lowest code and count, and all that a file begins with.
 use crate::Extent;
 use crate::FileRead;
+use crate::Lowest;
 use crate::Pattern;
 use crate::blank_rule;
 use crate::kinds::PATTERN;
@@ -27,16 +28,23 @@ pub(crate) struct Head {
     pub(crate) extents: [Extent; 32],
 }
 
-// The lowest code and the count of codes of a pattern: by the trailing zeros of the mask and of the set of slots, and by their ones.
+// The lowest code and the count of codes of a pattern: by the trailing zeros of the mask and of the set of slots, and by their ones. One of no kind covers
+// no code.
 fn extent(p: Pattern) -> Extent
     requires { ⌜ WellFormedPattern p ⌝ }
     ensures { λ r. ⌜ r ≡ extentOf p ⌝ }
 {
+    if p.mask == 0 {
+        return Extent {
+            lowest: Lowest::Absent,
+            count: 0,
+        };
+    }
     let slots = slot_set(p.first, p.last);
     let lowest = u8::trailing_zeros(p.mask) * 32 + u32::trailing_zeros(slots);
     let count = u8::count_ones(p.mask) * u32::count_ones(slots);
     Extent {
-        lowest: lowest as u8,
+        lowest: Lowest::Code(lowest as u8),
         count: count as u16,
     }
 }
@@ -55,9 +63,6 @@ fn read_pattern(bytes: &[u8], at: usize, left: usize) -> PatternRead
     let mask = bytes[at + 1];
     let first = bytes[at + 2];
     let last = bytes[at + 3];
-    if mask == 0 {
-        return PatternRead::Refused(5, at);
-    }
     if 31 < first {
         return PatternRead::Refused(5, at);
     }
