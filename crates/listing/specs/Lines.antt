@@ -4,7 +4,7 @@ use mathlib.Core.Bool.{Bool, true, false}
 use mathlib.Core.List.{List, [], _∷_, _++_}
 use lib.ListN.{length}
 use Rattle.reading.specs.declared.Lowest.{Lowest}
-use Rattle.reading.specs.declared.Lowest.the-variants.{Code, Absent}
+use Rattle.reading.specs.declared.Lowest.the-variants.{Absent, Code}
 use Rattle.reading.specs.declared.Extent.{Extent}
 use Rattle.synthesis.specs.Monitor.{mark, Answer, cases, rowOf, meaning}
 use Rattle.listing.specs.Text.{text, decimal}
@@ -33,10 +33,10 @@ judgmentLine false = line (text "breaks" ∷ [])
 abbrev pub patternsLine : (count : ℕ) → List ℕ
 patternsLine count = line (text "patterns" ∷ decimal count ∷ [])
 
--- a lowest code: its number, or "none" where it is absent
+-- a lowest code: "none" where it is absent, and else its number
 abbrev pub lowestText : Lowest → List ℕ
-lowestText (Code code) = decimal code
 lowestText Absent = text "none"
+lowestText (Code code) = decimal code
 
 abbrev pub patternLine : (number : ℕ) → Extent → List ℕ
 patternLine i e = line (text "p" ∷ decimal i ∷ lowestText (e .lowest) ∷ decimal (e .count) ∷ [])

@@ -4,7 +4,7 @@ use reading::Lowest;
 use synthesis::DROPPED;
 ghost use mathlib.Core.Path.{_≡_};
 ghost use mathlib.Core.List.{[], _∷_, _++_};
-ghost use Prim.Native.Nat.{suc};
+ghost use Prim.Native.Nat.{suc, _≤_};
 ghost use lib.ListN.{length};
 ghost use Rattle.synthesis.specs.Monitor.{mark, meaning};
 ghost use Rattle.listing.specs.Text.{text, decimal};
@@ -70,10 +70,11 @@ impl Line {
     pub(crate) fn lowest(self, lowest: Lowest) -> Self
         requires { ⌜ Room self 5 ⌝ }
         ensures { λ r. ⌜ Adds self (text " " ++ lowestText lowest) r ⌝ }
+        ensures { λ r. ⌜ length (lowestText lowest) ≤ 4 ⌝ }
     {
         match lowest {
-            Lowest::Code(code) => self.field(code as usize),
             Lowest::Absent => self.word(b" none"),
+            Lowest::Code(code) => self.field(code as usize),
         }
     }
 
