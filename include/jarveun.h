@@ -42,7 +42,7 @@
     2  a record of the rule with a kind that isn't 1 to 7
     3  a byte after the whole formula, or a pattern once the formula has begun; at that byte
     4  a 33rd pattern or a 65th node
-    5  a pattern with no kind, or with a slot over 31
+    5  a pattern with a slot over 31
     6  a pattern number or a depth that names nothing
     7  a variable with no necessity between it and its max
     8  opening the formula gives ff at once: no model satisfies the rule; at 0

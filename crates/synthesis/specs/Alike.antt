@@ -8,21 +8,21 @@ use Rattle.reading.specs.Nodes.{EnclosingMax, Node}
 use Rattle.synthesis.specs.Violation.{coveredBy}
 
 -- a pattern is empty: it covers no code
-abbrev pub Empty : (covered : (pattern code : ℕ) → Bool) → (pattern : ℕ) → Type 0
-Empty covered p = (c : ℕ) → covered p c ≡ false
+abbrev pub CoversNone : (covered : (pattern code : ℕ) → Bool) → (pattern : ℕ) → Type 0
+CoversNone covered p = (c : ℕ) → covered p c ≡ false
 
 -- Two formulas, each with what its patterns cover, have the same shape, and at each necessity the two patterns cover the same codes; but after two empty
 -- patterns anything may stand.
 pub data AlikeButAfterEmpty (covered covered′ : (pattern code : ℕ) → Bool) : Formula → Formula → Type 0 where
-  truths : AlikeButAfterEmpty covered covered′ truth truth
-  falsities : AlikeButAfterEmpty covered covered′ falsity falsity
-  boths : {f g f′ g′ : Formula} → AlikeButAfterEmpty covered covered′ f f′ → AlikeButAfterEmpty covered covered′ g g′
+  same-truth : AlikeButAfterEmpty covered covered′ truth truth
+  same-falsity : AlikeButAfterEmpty covered covered′ falsity falsity
+  same-both : {f g f′ g′ : Formula} → AlikeButAfterEmpty covered covered′ f f′ → AlikeButAfterEmpty covered covered′ g g′
       → AlikeButAfterEmpty covered covered′ (both f g) (both f′ g′)
-  necessities : {p p′ : ℕ} {f f′ : Formula} → ((c : ℕ) → covered p c ≡ covered′ p′ c) → AlikeButAfterEmpty covered covered′ f f′
+  same-necessity : {p p′ : ℕ} {f f′ : Formula} → ((c : ℕ) → covered p c ≡ covered′ p′ c) → AlikeButAfterEmpty covered covered′ f f′
       → AlikeButAfterEmpty covered covered′ (necessity p f) (necessity p′ f′)
-  maxes : {f f′ : Formula} → AlikeButAfterEmpty covered covered′ f f′ → AlikeButAfterEmpty covered covered′ (max f) (max f′)
-  variables : {d : ℕ} → AlikeButAfterEmpty covered covered′ (variable d) (variable d)
-  after-empty : {p p′ : ℕ} {f f′ : Formula} → Empty covered p → Empty covered′ p′
+  same-max : {f f′ : Formula} → AlikeButAfterEmpty covered covered′ f f′ → AlikeButAfterEmpty covered covered′ (max f) (max f′)
+  same-variable : {d : ℕ} → AlikeButAfterEmpty covered covered′ (variable d) (variable d)
+  after-empty : {p p′ : ℕ} {f f′ : Formula} → CoversNone covered p → CoversNone covered′ p′
       → AlikeButAfterEmpty covered covered′ (necessity p f) (necessity p′ f′)
 
 abbrev pub RulesAlike : Rule → Rule → Type 0
@@ -35,6 +35,6 @@ pub record AfterEmpty (r : Rule) (m : ℕ) : Type 0 where
   pub pattern : ℕ
   pub formula : Formula
   pub node : Node (r .formula) k ms (necessity pattern formula)
-  pub empty : Empty (coveredBy (r .patterns)) pattern
+  pub empty : CoversNone (coveredBy (r .patterns)) pattern
   pub after : k < m
   pub inside : m < k + suc (size formula)

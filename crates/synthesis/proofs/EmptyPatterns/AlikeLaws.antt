@@ -9,28 +9,28 @@ use native.Mathlib.Omega.{arith}
 use lib.ListN.{drop}
 use Rattle.reading.specs.Rule.{Formula, truth, falsity, both, necessity, max, variable}
 use Rattle.synthesis.specs.Violation.{Violates, by-falsity, by-first, by-second, by-code, by-body, by-variable}
-use Rattle.synthesis.specs.Alike.{AlikeButAfterEmpty, truths, falsities, boths, necessities, maxes, variables, after-empty}
+use Rattle.synthesis.specs.Alike.{AlikeButAfterEmpty, same-truth, same-falsity, same-both, same-necessity, same-max, same-variable, after-empty}
 use Rattle.synthesis.specs.AlikePromises.{ViolatedAlike}
 
 -- ---- the relation
 
 -- each formula is alike to itself
 pub alike-same : (covered : (pattern code : ℕ) → Bool) (f : Formula) → AlikeButAfterEmpty covered covered f f
-alike-same covered truth = truths
-alike-same covered falsity = falsities
-alike-same covered (both f g) = boths (alike-same covered f) (alike-same covered g)
-alike-same covered (necessity p f) = necessities (λ c. refl) (alike-same covered f)
-alike-same covered (max f) = maxes (alike-same covered f)
-alike-same covered (variable d) = variables
+alike-same covered truth = same-truth
+alike-same covered falsity = same-falsity
+alike-same covered (both f g) = same-both (alike-same covered f) (alike-same covered g)
+alike-same covered (necessity p f) = same-necessity (λ c. refl) (alike-same covered f)
+alike-same covered (max f) = same-max (alike-same covered f)
+alike-same covered (variable d) = same-variable
 
 pub alike-back : {covered covered′ : (pattern code : ℕ) → Bool} {f f′ : Formula}
     → AlikeButAfterEmpty covered covered′ f f′ → AlikeButAfterEmpty covered′ covered f′ f
-alike-back truths = truths
-alike-back falsities = falsities
-alike-back (boths a b) = boths (alike-back a) (alike-back b)
-alike-back (necessities same a) = necessities (λ c. sym (same c)) (alike-back a)
-alike-back (maxes a) = maxes (alike-back a)
-alike-back variables = variables
+alike-back same-truth = same-truth
+alike-back same-falsity = same-falsity
+alike-back (same-both a b) = same-both (alike-back a) (alike-back b)
+alike-back (same-necessity same a) = same-necessity (λ c. sym (same c)) (alike-back a)
+alike-back (same-max a) = same-max (alike-back a)
+alike-back same-variable = same-variable
 alike-back (after-empty none none′) = after-empty none′ none
 
 -- ---- violation
@@ -64,13 +64,13 @@ module _ (covered covered′ : (pattern code : ℕ) → Bool) where
 
   pub alike-violates : {bodies bodies′ : List Formula} {f f′ : Formula} {w : List ℕ} → Violates covered bodies f w
       → AlikeButAfterEmpty covered covered′ f f′ → BodiesAlike bodies bodies′ → Violates covered′ bodies′ f′ w
-  alike-violates by-falsity falsities around = by-falsity
-  alike-violates (by-first v) (boths a b) around = by-first (alike-violates v a around)
-  alike-violates (by-second v) (boths a b) around = by-second (alike-violates v b around)
-  alike-violates (by-code {c = c} h v) (necessities same a) around = by-code (sym (same c) ∙ h) (alike-violates v a around)
+  alike-violates by-falsity same-falsity around = by-falsity
+  alike-violates (by-first v) (same-both a b) around = by-first (alike-violates v a around)
+  alike-violates (by-second v) (same-both a b) around = by-second (alike-violates v b around)
+  alike-violates (by-code {c = c} h v) (same-necessity same a) around = by-code (sym (same c) ∙ h) (alike-violates v a around)
   alike-violates (by-code {c = c} h v) (after-empty none none′) around = absurd (true≢false (sym h ∙ none c))
-  alike-violates (by-body v) (maxes a) around = by-body (alike-violates v a (inside a around))
-  alike-violates (by-variable {d = d} q v) variables around =
+  alike-violates (by-body v) (same-max a) around = by-body (alike-violates v a (inside a around))
+  alike-violates (by-variable {d = d} q v) same-variable around =
       let b = body-at d around q in
       by-variable (b .is) (alike-violates v (b .alike) (inside (b .alike) (b .around)))
 

@@ -10,7 +10,7 @@ use borrow.Author.Tests.{ne-eqb}
 use Rattle.reading.specs.Rule.{Formula, truth, falsity, both, necessity, max, variable, size, All}
 use Rattle.reading.specs.Nodes.{EnclosingMax, Node, whole, first, second, after, body}
 use Rattle.synthesis.specs.Violation.{coveredBy, Violates, by-falsity, by-first, by-second, by-code, by-body, by-variable}
-use Rattle.synthesis.specs.Alike.{AlikeButAfterEmpty, boths, necessities, maxes, after-empty}
+use Rattle.synthesis.specs.Alike.{AlikeButAfterEmpty, same-both, same-necessity, same-max, after-empty}
 use Rattle.synthesis.specs.Reason.{withOnly}
 use Rattle.synthesis.specs.AlikePromises.{NoPlaceAfterEmpty}
 use Rattle.synthesis.proofs.Reasons.Alone.{place-alone}
@@ -66,14 +66,14 @@ module _ (covered : (pattern code : ℕ) → Bool) (root : Formula) (m : ℕ) wh
   silenced-around (first {k} {f = f} {g} n) low high (f′, q, a) =
       let rest = withOnly m (k + suc (size f)) g in
       silenced-around n (omega arith) (omega arith)
-      (both f′ rest, (q, quiet-outside m (k + suc (size f)) g (λ i h e. omega arith)), boths a (alike-same covered rest))
+      (both f′ rest, (q, quiet-outside m (k + suc (size f)) g (λ i h e. omega arith)), same-both a (alike-same covered rest))
   silenced-around (second {k} {f = f} {g} n) low high (g′, q, a) =
       let rest = withOnly m (suc k) f in
       silenced-around n (omega arith) (omega arith)
-      (both rest g′, (quiet-outside m (suc k) f (λ i h e. omega arith), q), boths (alike-same covered rest) a)
+      (both rest g′, (quiet-outside m (suc k) f (λ i h e. omega arith), q), same-both (alike-same covered rest) a)
   silenced-around (after {p = p} n) low high (f′, q, a) =
-      silenced-around n (omega arith) (omega arith) (necessity p f′, q, necessities {p = p} {p′ = p} (λ c. refl) a)
-  silenced-around (body n) low high (f′, q, a) = silenced-around n (omega arith) (omega arith) (max f′, q, maxes a)
+      silenced-around n (omega arith) (omega arith) (necessity p f′, q, same-necessity {p = p} {p′ = p} (λ c. refl) a)
+  silenced-around (body n) low high (f′, q, a) = silenced-around n (omega arith) (omega arith) (max f′, q, same-max a)
 
 pub no-place-after-empty : NoPlaceAfterEmpty
 no-place-after-empty r w m v e =
