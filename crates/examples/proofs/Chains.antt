@@ -52,7 +52,7 @@ chain-bytes (suc n) = rw (chain-bytes n)
 chain-within-limits : (n : ℕ) → n ≤ 63 → RuleWithinLimits (chainRule n)
 chain-within-limits n few = record {
   well-formed = record {
-    patterns = (record { some-kind = omega arith; byte = omega arith; first-slot = omega arith; last-slot = omega arith }, tt);
+    patterns = (record { byte = omega arith; first-slot = omega arith; last-slot = omega arith }, tt);
     formula = chain-well-formed n;
   };
   few-patterns = omega arith;
