@@ -20,6 +20,7 @@ pub mod PoolModels
 pub mod PatternMeaning
 pub mod RoundExample
 pub mod SlotExamples
+pub mod EmptyExamples
 pub mod FullModel
 pub mod RefusalExamples
 pub mod TableExamples

@@ -9,6 +9,7 @@ pub mod ModelExamples
 pub mod PatternMeaning
 pub mod RoundExample
 pub mod SlotExamples
+pub mod EmptyExamples
 pub mod RefusalExamples
 pub mod TableExamples
 pub mod FamilyExamples

@@ -12,6 +12,7 @@ use Rattle.examples.specs.ModelExamples.{ModelExamples}
 use Rattle.examples.specs.PatternMeaning.{PatternMeaning}
 use Rattle.examples.specs.RoundExample.{RoundExample}
 use Rattle.examples.specs.SlotExamples.{SlotExamples}
+use Rattle.examples.specs.EmptyExamples.{EmptyExamples}
 use Rattle.examples.specs.RefusalExamples.{RefusalExamples}
 use Rattle.examples.specs.TableExamples.{TableExamples}
 use Rattle.examples.specs.FamilyExamples.{FamilyExamples}
@@ -28,6 +29,7 @@ pub record Promises : Type 1 where
   pub pattern-meaning : (ps : List Pattern) (i : ℕ) → PatternMeaning ps i
   pub round-example : RoundExample
   pub slot-examples : SlotExamples
+  pub empty-examples : EmptyExamples
   pub refusal-examples : RefusalExamples
   pub table-examples : TableExamples
   pub family-examples : FamilyExamples
