@@ -1,10 +1,10 @@
 -- The equations, the lines and the runs are computed. A mask of 0 covers no code, so whatever stands after it is alike.
-use Prim.Native.Nat.{ℕ, _≤_}
-use mathlib.Core.Path.{_≡_, refl, sym}
-use mathlib.Core.Bool.{false, true≢false}
+use Prim.Native.Nat.{ℕ}
+use mathlib.Core.Path.{_≡_, refl}
+use mathlib.Core.Bool.{false}
 use mathlib.Core.List.{List, [], _∷_, _++_}
 use native.Mathlib.Omega.{arith}
-use lib.ListN.{length, replicate}
+use lib.ListN.{replicate}
 use Rattle.reading.specs.Pattern.{bit, covers, least, countBelow}
 use Rattle.reading.specs.Rule.{truth, falsity, necessity, max, variable, Rule, Bytes}
 use Rattle.reading.specs.File.{accepted, recordsAt, formulaAt, formulaOf, ruleOf}
@@ -17,21 +17,21 @@ use Rattle.synthesis.specs.Answering.{firstOf, answerOf, unsatisfiable}
 use Rattle.synthesis.specs.Search.{explored, found}
 use Rattle.synthesis.specs.Reason.{openedFalsities}
 use Rattle.synthesis.specs.Table.{entriesOf}
-use Rattle.synthesis.specs.Building.{equationsOf, tableLeft}
+use Rattle.synthesis.specs.Building.{equationsOf}
 use Rattle.synthesis.proofs.EmptyPatterns.AlikeLaws.{alike-same, violated-alike}
-use Rattle.running.specs.Running.{start, runFrom}
 use Rattle.listing.specs.Text.{decimalIn, decimal}
 use Rattle.examples.specs.Examples.{pattern, rule}
 use Rattle.examples.specs.ModelExamples.{neverRule}
 use Rattle.examples.specs.ShortExamples.{idleRule}
 use Rattle.examples.specs.NumberingExamples.{Numbers}
-use Rattle.examples.specs.EmptyExamples.{besideFile, besideRule, besideListing, afterNoneFile, afterNoneRule, afterNoneListing, EmptyPatterns}
+use Rattle.examples.specs.EmptyExamples.{unusedFile, unusedRule, unusedListing, afterNoneFile, afterNoneRule, afterNoneListing, EmptyPatterns}
 use Rattle.examples.specs.EmptyExamples.{alikePatterns, shorterFile, shorterRule, longerFile, longerRule, alikeListing, alikeScans, alikeRun}
-use Rattle.examples.specs.EmptyExamples.{RunsAlike, AlikeRules, NotAlike, EmptyExamples}
+use Rattle.examples.specs.EmptyExamples.{RunsAlike, AlikeRules, AfterSome, EmptyExamples}
 use Rattle.examples.proofs.FileAnswers.{reads, row-left, reads-fills}
 use Rattle.examples.proofs.Listed.{numbers}
 use Rattle.examples.proofs.RunAnswers.{run-left}
 use Rattle.examples.proofs.ReasonExamples.{by-rule}
+use Rattle.examples.proofs.EmptyCounts.{empty-counts}
 
 -- ---- alone
 
@@ -40,8 +40,8 @@ unfolding ruleOf recordsAt formulaOf formulaAt unsatisfiable equationsOf found e
 empty-patterns = record {
   measured = λ first last. no-extent (pattern 0 first last) refl;
   slots-kept = reads (1 ∷ 0 ∷ 30 ∷ 2 ∷ 2 ∷ []) (rule (pattern 0 30 2 ∷ []) truth) refl refl (0 ∷ []) refl (omega arith);
-  beside = numbers besideFile besideRule (0 ∷ []) besideListing refl refl refl (omega arith) refl;
-  beside-extents = refl;
+  unused = numbers unusedFile unusedRule (0 ∷ []) unusedListing refl refl refl (omega arith) refl;
+  unused-extents = refl;
   after-none = numbers afterNoneFile afterNoneRule (1 ∷ 0 ∷ []) afterNoneListing refl refl refl (omega arith) refl;
   ff-after-none = record {
     k = 0;
@@ -103,9 +103,9 @@ alike-rules = record {
     longer : Numbers longerFile longerRule (34 ∷ 0 ∷ []) alikeListing
     longer = numbers longerFile longerRule (34 ∷ 0 ∷ []) alikeListing refl refl refl (omega arith) refl
 
-not-alike : NotAlike
+after-some : AfterSome
 unfolding bit covers
-not-alike = record {
+after-some = record {
   violated = violated;
   not-violated = safe;
   not-alike = λ a. safe (violated-alike neverRule idleRule a (5 ∷ []) .0 violated);
@@ -118,4 +118,4 @@ not-alike = record {
     safe (by-code q x) = elim x [ ]
 
 pub empty-examples : EmptyExamples
-empty-examples = record { patterns = empty-patterns; alike-rules = alike-rules; not-alike = not-alike }
+empty-examples = record { patterns = empty-patterns; counts = empty-counts; alike-rules = alike-rules; after-some = after-some }

@@ -20,7 +20,6 @@ pub mod PoolModels
 pub mod PatternMeaning
 pub mod RoundExample
 pub mod SlotExamples
-pub mod EmptyExamples
 pub mod FullModel
 pub mod RefusalExamples
 pub mod TableExamples
@@ -28,4 +27,6 @@ pub mod Chains
 pub mod Windows
 pub mod FamilyExamples
 pub mod PreviewExamples
+pub mod EmptyCounts
+pub mod EmptyExamples
 pub mod Promises

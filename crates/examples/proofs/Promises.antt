@@ -10,11 +10,11 @@ use Rattle.examples.proofs.PoolModels.{model-examples}
 use Rattle.examples.proofs.PatternMeaning.{pattern-meaning}
 use Rattle.examples.proofs.RoundExample.{round-example}
 use Rattle.examples.proofs.SlotExamples.{slot-examples}
-use Rattle.examples.proofs.EmptyExamples.{empty-examples}
 use Rattle.examples.proofs.RefusalExamples.{refusal-examples}
 use Rattle.examples.proofs.TableExamples.{table-examples}
 use Rattle.examples.proofs.FamilyExamples.{family-examples}
 use Rattle.examples.proofs.PreviewExamples.{preview-examples}
+use Rattle.examples.proofs.EmptyExamples.{empty-examples}
 
 pub promises : Promises
 promises = record {
@@ -28,9 +28,9 @@ promises = record {
   pattern-meaning = pattern-meaning;
   round-example = round-example;
   slot-examples = slot-examples;
-  empty-examples = empty-examples;
   refusal-examples = refusal-examples;
   table-examples = table-examples;
   family-examples = family-examples;
   preview-examples = preview-examples;
+  empty-examples = empty-examples;
 }

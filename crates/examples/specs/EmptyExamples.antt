@@ -1,20 +1,19 @@
 -- Patterns with nothing in them, by rules that aren't in the paper: what is measured, read and listed of them; that a necessity with one is a node like any
 -- other; and what two rules that differ only after one have in common, and what they don't.
-use Prim.Native.Nat.{ℕ, _≤_}
+use Prim.Native.Nat.{ℕ, zero, suc, _≤_}
 use mathlib.Core.Path.{_≡_}
 use mathlib.Core.List.{List, [], _∷_, _++_, map}
 use lib.ListN.{length}
 use Rattle.reading.specs.Pattern.{extentOf}
-use Rattle.reading.specs.Rule.{truth, falsity, both, necessity, max, variable, Rule}
-use Rattle.reading.specs.File.{accepted}
+use Rattle.reading.specs.Rule.{Formula, truth, falsity, both, necessity, max, variable, Rule}
+use Rattle.reading.specs.File.{accepted, ruleOf}
 use Rattle.reading.specs.declared.Pattern.{Pattern}
 use Rattle.reading.specs.declared.Lowest.the-variants.{Absent}
-use Rattle.reading.specs.declared.Extent.{Extent}
 use Rattle.synthesis.specs.Violation.{ViolatesRule}
 use Rattle.synthesis.specs.Alike.{RulesAlike, AfterEmpty}
 use Rattle.synthesis.specs.Monitor.{mark, most}
 use Rattle.synthesis.specs.Building.{tableLeft}
-use Rattle.synthesis.specs.declared.Counted.the-variants.{Equations}
+use Rattle.synthesis.specs.declared.Counted.the-variants.{Equations, Refused}
 use Rattle.synthesis.specs.declared.Reason.the-variants.{Node}
 use Rattle.running.specs.Running.{start, moved, Run, runOf}
 use Rattle.listing.specs.Text.{text}
@@ -24,22 +23,20 @@ use Rattle.examples.specs.PatternMeaning.{never}
 use Rattle.examples.specs.ReasonExamples.{reason}
 use Rattle.examples.specs.ModelExamples.{neverRule}
 use Rattle.examples.specs.ShortExamples.{idleRule}
+use Rattle.examples.specs.RefusalExamples.{times}
+use Rattle.examples.specs.PreviewExamples.{ShownAtDeskOnly}
 
 -- ---- alone
 
--- the extent of a pattern that covers no code
-abbrev pub nothing : Extent
-nothing = record { lowest = Absent; count = 0 }
+-- tt, and an empty pattern that no necessity names
+abbrev pub unusedFile : List ℕ
+unusedFile = 1 ∷ 0 ∷ 5 ∷ 5 ∷ 2 ∷ []
 
--- tt, with an empty pattern before it
-abbrev pub besideFile : List ℕ
-besideFile = 1 ∷ 0 ∷ 5 ∷ 5 ∷ 2 ∷ []
+abbrev pub unusedRule : Rule
+unusedRule = rule (pattern 0 5 5 ∷ []) truth
 
-abbrev pub besideRule : Rule
-besideRule = rule (pattern 0 5 5 ∷ []) truth
-
-abbrev pub besideListing : List ℕ
-besideListing = text "patterns 1\n" ++ text "p 0 none 0\n" ++ text "equations 1\n" ++ text "0 0 255 0\n"
+abbrev pub unusedListing : List ℕ
+unusedListing = text "patterns 1\n" ++ text "p 0 none 0\n" ++ text "equations 1\n" ++ text "0 0 255 0\n"
 
 -- "after none, ff"
 abbrev pub afterNoneFile : List ℕ
@@ -58,18 +55,50 @@ afterNoneListing =
 
 pub record EmptyPatterns : Type 0 where
   -- a mask of 0: the lowest code is absent and the count 0, whatever the slots are
-  pub measured : (first last : ℕ) → extentOf (pattern 0 first last) ≡ nothing
+  pub measured : (first last : ℕ) → extentOf (pattern 0 first last) ≡ record { lowest = Absent; count = 0 }
   -- the slots are kept as written, also where first is over last
   pub slots-kept : ReadAs (1 ∷ 0 ∷ 30 ∷ 2 ∷ 2 ∷ []) (rule (pattern 0 30 2 ∷ []) truth) (Equations 1)
   -- 1 0 5 5 2: one equation, the empty set
-  pub beside : Numbers besideFile besideRule (0 ∷ []) besideListing
-  pub beside-extents : map extentOf (besideRule .patterns) ≡ nothing ∷ []
+  pub unused : Numbers unusedFile unusedRule (0 ∷ []) unusedListing
+  pub unused-extents : map extentOf (unusedRule .patterns) ≡ record { lowest = Absent; count = 0 } ∷ []
   -- 1 0 5 5 5 0 3: two, {0} and the empty set, though every scan is kept
   pub after-none : Numbers afterNoneFile afterNoneRule (1 ∷ 0 ∷ []) afterNoneListing
   -- its ff stands after an empty pattern
   pub ff-after-none : AfterEmpty afterNoneRule 1
   -- 1 0 0 0 6 5 0 7 0: no 7, for a necessity guards a variable also with an empty pattern; {1} and the empty set
   pub guards : ReadAs (1 ∷ 0 ∷ 0 ∷ 0 ∷ 6 ∷ 5 ∷ 0 ∷ 7 ∷ 0 ∷ []) (rule (pattern 0 0 0 ∷ []) (max (necessity 0 (variable 0)))) (Equations 2)
+
+-- ---- at the limits
+
+-- The paper's two families with "after none, tt" for their tt, which is one more member. n times "after a code of pattern 0", then "after a code of
+-- pattern p, tt":
+unfoldable pub chainThen : (p n : ℕ) → Formula
+chainThen p zero = necessity p truth
+chainThen p (suc n) = necessity 0 (chainThen p n)
+
+abbrev pub emptyChainFile : (n : ℕ) → List ℕ
+emptyChainFile n = 1 ∷ 255 ∷ 0 ∷ 31 ∷ 1 ∷ 0 ∷ 0 ∷ 0 ∷ times n (5 ∷ 0 ∷ []) (5 ∷ 1 ∷ 2 ∷ [])
+
+abbrev pub emptyChainRule : (n : ℕ) → Rule
+emptyChainRule n = rule (pattern 255 0 31 ∷ pattern 0 0 0 ∷ []) (chainThen 1 n)
+
+abbrev pub emptyWindowFile : (m : ℕ) → List ℕ
+emptyWindowFile m =
+    1 ∷ 255 ∷ 0 ∷ 31 ∷ 1 ∷ 1 ∷ 5 ∷ 5 ∷ 1 ∷ 0 ∷ 0 ∷ 0 ∷ 6 ∷ 4 ∷ 5 ∷ 0 ∷ 7 ∷ 0 ∷ 5 ∷ 1 ∷ times m (5 ∷ 0 ∷ []) (5 ∷ 2 ∷ 2 ∷ [])
+
+abbrev pub emptyWindowRule : (m : ℕ) → Rule
+emptyWindowRule m =
+    rule (pattern 255 0 31 ∷ pattern 1 5 5 ∷ pattern 0 0 0 ∷ [])
+    (max (both (necessity 0 (variable 0)) (necessity 1 (chainThen 2 m))))
+
+-- The limits count equations that have such a member. With tt in its place, `chain-31` of specs/PreviewExamples.antt and `window-7` of
+-- specs/FamilyExamples.antt have as many equations as are let through.
+pub record EmptyCounts : Type 0 where
+  -- 33 equations: 18 on the page
+  pub chain-read : ruleOf (emptyChainFile 31) ≡ accepted (emptyChainRule 31)
+  pub chain-31 : ShownAtDeskOnly (emptyChainFile 31) 33
+  -- 256 of them: 9
+  pub window-7 : ReadAs (emptyWindowFile 7) (emptyWindowRule 7) (Refused 9 0)
 
 -- ---- two rules that differ only after an empty pattern
 
@@ -131,13 +160,14 @@ pub record AlikeRules : Type 0 where
 
 -- ---- two rules that differ after a pattern that covers a code
 
--- "after an issue of 5, ff" and "after an issue of 5, tt": a scan of 5 violates the first alone. So what stands after a pattern that isn't empty counts.
-pub record NotAlike : Type 0 where
+-- "after an issue of 5, ff" and "after an issue of 5, tt", of which 5 violates the first alone. So what stands after a pattern that covers a code counts.
+pub record AfterSome : Type 0 where
   pub violated : ViolatesRule neverRule (5 ∷ [])
   pub not-violated : ViolatesRule idleRule (5 ∷ []) → ⊥
   pub not-alike : RulesAlike neverRule idleRule → ⊥
 
 pub record EmptyExamples : Type 0 where
   pub patterns : EmptyPatterns
+  pub counts : EmptyCounts
   pub alike-rules : AlikeRules
-  pub not-alike : NotAlike
+  pub after-some : AfterSome

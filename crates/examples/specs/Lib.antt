@@ -9,9 +9,9 @@ pub mod ModelExamples
 pub mod PatternMeaning
 pub mod RoundExample
 pub mod SlotExamples
-pub mod EmptyExamples
 pub mod RefusalExamples
 pub mod TableExamples
 pub mod FamilyExamples
 pub mod PreviewExamples
+pub mod EmptyExamples
 pub mod Promises

@@ -12,11 +12,11 @@ use Rattle.examples.specs.ModelExamples.{ModelExamples}
 use Rattle.examples.specs.PatternMeaning.{PatternMeaning}
 use Rattle.examples.specs.RoundExample.{RoundExample}
 use Rattle.examples.specs.SlotExamples.{SlotExamples}
-use Rattle.examples.specs.EmptyExamples.{EmptyExamples}
 use Rattle.examples.specs.RefusalExamples.{RefusalExamples}
 use Rattle.examples.specs.TableExamples.{TableExamples}
 use Rattle.examples.specs.FamilyExamples.{FamilyExamples}
 use Rattle.examples.specs.PreviewExamples.{PreviewExamples}
+use Rattle.examples.specs.EmptyExamples.{EmptyExamples}
 
 pub record Promises : Type 1 where
   pub paper-examples : PaperExamples
@@ -29,8 +29,8 @@ pub record Promises : Type 1 where
   pub pattern-meaning : (ps : List Pattern) (i : ℕ) → PatternMeaning ps i
   pub round-example : RoundExample
   pub slot-examples : SlotExamples
-  pub empty-examples : EmptyExamples
   pub refusal-examples : RefusalExamples
   pub table-examples : TableExamples
   pub family-examples : FamilyExamples
   pub preview-examples : PreviewExamples
+  pub empty-examples : EmptyExamples
