@@ -81,8 +81,8 @@ alike-rules = record {
   alike = alike;
   shorter = shorter;
   longer = longer;
-  shorter-run = runs-alike shorterFile shorterRule 10 refl refl refl (search arith) refl refl;
-  longer-run = runs-alike longerFile longerRule 34 refl refl refl (search arith) refl refl;
+  shorter-run = runs-alike shorterFile shorterRule 10 refl refl shorter-equations (search arith) refl refl;
+  longer-run = runs-alike longerFile longerRule 34 refl refl longer-equations (search arith) refl refl;
   shorter-reason = by-rule shorterRule (shorter .file) [] 5;
   longer-reason = by-rule longerRule (longer .file) [] 5;
   skipped = record {
@@ -97,11 +97,17 @@ alike-rules = record {
   };
 }
   where
+    shorter-equations : equationsOf most shorterRule ≡ 10 ∷ 0 ∷ []
+    shorter-equations = refl
+
+    longer-equations : equationsOf most longerRule ≡ 34 ∷ 0 ∷ []
+    longer-equations = refl
+
     shorter : Numbers shorterFile shorterRule (10 ∷ 0 ∷ []) alikeListing
-    shorter = numbers shorterFile shorterRule (10 ∷ 0 ∷ []) alikeListing refl refl refl (omega arith) refl
+    shorter = numbers shorterFile shorterRule (10 ∷ 0 ∷ []) alikeListing refl refl shorter-equations (omega arith) refl
 
     longer : Numbers longerFile longerRule (34 ∷ 0 ∷ []) alikeListing
-    longer = numbers longerFile longerRule (34 ∷ 0 ∷ []) alikeListing refl refl refl (omega arith) refl
+    longer = numbers longerFile longerRule (34 ∷ 0 ∷ []) alikeListing refl refl longer-equations (omega arith) refl
 
 after-some : AfterSome
 unfolding bit covers

@@ -1,5 +1,5 @@
 -- Patterns with nothing in them, by rules that aren't in the paper: what is measured, read and listed of them; that a necessity with one is a node like any
--- other; and what two rules that differ only after one have in common, and what they don't.
+-- other, also where equations are counted; and what two rules that differ only after one have in common, and what they don't.
 use Prim.Native.Nat.{ℕ, zero, suc, _≤_}
 use mathlib.Core.Path.{_≡_}
 use mathlib.Core.List.{List, [], _∷_, _++_, map}
@@ -70,12 +70,12 @@ pub record EmptyPatterns : Type 0 where
 
 -- ---- at the limits
 
--- The paper's two families with "after none, tt" for their tt, which is one more member. n times "after a code of pattern 0", then "after a code of
--- pattern p, tt":
+-- n times "after a code of pattern 0", then "after a code of pattern p, tt"
 unfoldable pub chainThen : (p n : ℕ) → Formula
 chainThen p zero = necessity p truth
 chainThen p (suc n) = necessity 0 (chainThen p n)
 
+-- The paper's two families, with "after none, tt" where they have tt: pattern 1 of the one is empty, and pattern 2 of the other.
 abbrev pub emptyChainFile : (n : ℕ) → List ℕ
 emptyChainFile n = 1 ∷ 255 ∷ 0 ∷ 31 ∷ 1 ∷ 0 ∷ 0 ∷ 0 ∷ times n (5 ∷ 0 ∷ []) (5 ∷ 1 ∷ 2 ∷ [])
 
@@ -91,13 +91,13 @@ emptyWindowRule m =
     rule (pattern 255 0 31 ∷ pattern 1 5 5 ∷ pattern 0 0 0 ∷ [])
     (max (both (necessity 0 (variable 0)) (necessity 1 (chainThen 2 m))))
 
--- The limits count equations that have such a member. With tt in its place, `chain-31` of specs/PreviewExamples.antt and `window-7` of
--- specs/FamilyExamples.antt have as many equations as are let through.
+-- With tt the first has 32 equations and the second 128, as `chain-31` of specs/PreviewExamples.antt and `window-7` of specs/FamilyExamples.antt say: as many
+-- as are let through. A necessity with an empty pattern is one more member, and 18 and 9 count the equations that have it.
 pub record EmptyCounts : Type 0 where
-  -- 33 equations: 18 on the page
+  -- 33: 18 on the page
   pub chain-read : ruleOf (emptyChainFile 31) ≡ accepted (emptyChainRule 31)
   pub chain-31 : ShownAtDeskOnly (emptyChainFile 31) 33
-  -- 256 of them: 9
+  -- over 128: 9
   pub window-7 : ReadAs (emptyWindowFile 7) (emptyWindowRule 7) (Refused 9 0)
 
 -- ---- two rules that differ only after an empty pattern
@@ -139,7 +139,7 @@ alikeScans = 5 ∷ 5 ∷ 6 ∷ 5 ∷ []
 abbrev pub alikeRun : Run
 alikeRun = record { state = moved start 1; kept = 6 ∷ 5 ∷ []; verdicts = 1 ∷ 1 ∷ 0 ∷ 0 ∷ [] }
 
--- over every table that filling leaves of a file with two equations, these scans are run so
+-- the run of these scans over every table that filling leaves of a file with two equations
 abbrev pub RunsAlike : (s : List ℕ) → Type 0
 RunsAlike s = (table : List ℕ) → 512 ≤ length table → (output verdicts : ℕ) → 4 ≤ output → 4 ≤ verdicts
     → runOf most mark (tableLeft most mark s table) 2 start alikeScans output verdicts ≡ accepted alikeRun
@@ -152,7 +152,7 @@ pub record AlikeRules : Type 0 where
   -- the same verdicts, with both kinds among them
   pub shorter-run : RunsAlike shorterFile
   pub longer-run : RunsAlike longerFile
-  -- The first scan is dropped by the ff that is the second part's, which has another number in each rule; the shorter rule's node 2, an ff too, stands
+  -- The first scan is dropped by the ff of the second part, and the number of that node is what differs. Node 2 of the shorter rule is a lower ff, but stands
   -- after the empty pattern.
   pub shorter-reason : reason shorterFile [] 5 ≡ Node 4
   pub longer-reason : reason longerFile [] 5 ≡ Node 6
