@@ -7,12 +7,12 @@ use native.Mathlib.Omega.{arith}
 use lib.ListN.{replicate}
 use Rattle.reading.specs.Pattern.{bit, covers, least, countBelow}
 use Rattle.reading.specs.Rule.{truth, falsity, necessity, max, variable, Rule, Bytes}
-use Rattle.reading.specs.File.{accepted, recordsAt, formulaAt, formulaOf, ruleOf}
+use Rattle.reading.specs.File.{recordsAt, formulaAt, formulaOf, ruleOf}
 use Rattle.reading.specs.Nodes.{whole, first}
 use Rattle.reading.proofs.Measures.Extents.{covers-none, no-extent}
 use Rattle.synthesis.specs.Violation.{coveredBy, ViolatesRule, by-falsity, by-code}
 use Rattle.synthesis.specs.Alike.{Empty, RulesAlike, boths, after-empty}
-use Rattle.synthesis.specs.Monitor.{mark, most}
+use Rattle.synthesis.specs.Monitor.{mark}
 use Rattle.synthesis.specs.Answering.{firstOf, answerOf, unsatisfiable}
 use Rattle.synthesis.specs.Search.{explored, found}
 use Rattle.synthesis.specs.Reason.{openedFalsities}
@@ -64,25 +64,31 @@ first-empty = covers-none (pattern 0 5 5) refl
 alike : RulesAlike shorterRule longerRule
 alike = boths (after-empty {p = 0} {p′ = 0} first-empty first-empty) (alike-same (coveredBy alikePatterns) (necessity 1 falsity))
 
--- Of either rule: both rows are computed from its equations, and are the same.
-module _ (s : List ℕ) (r : Rule) (set : ℕ) (read : ruleOf s ≡ accepted r) (satisfiable : unsatisfiable r ≡ false)
-    (equations : equationsOf most r ≡ set ∷ 0 ∷ []) where
-  runs-alike : Bytes s → entriesOf mark (answerOf r) (set ∷ 0 ∷ []) set 256 ≡ replicate 5 1 ++ mark ∷ replicate 250 1
-      → entriesOf mark (answerOf r) (set ∷ 0 ∷ []) 0 256 ≡ replicate 256 1 → RunsAlike s
-  runs-alike bytes first-row ended-row table room =
-      let file = reads s r read satisfiable (set ∷ 0 ∷ []) equations (omega arith) in
-      let row = row-left s r read satisfiable (set ∷ 0 ∷ []) equations (omega arith) table room in
-      run-left (reads-fills s r 2 file bytes table room) alikeScans alikeRun
-      (rw (row 0 (omega arith), first-row, row 1 (omega arith), ended-row))
+shorter : Numbers shorterFile shorterRule (10 ∷ 0 ∷ []) alikeListing
+unfolding ruleOf recordsAt formulaOf formulaAt unsatisfiable equationsOf found explored entriesOf firstOf answerOf bit covers least countBelow decimal decimalIn
+shorter = numbers shorterFile shorterRule (10 ∷ 0 ∷ []) alikeListing refl refl refl (omega arith) refl
+
+longer : Numbers longerFile longerRule (34 ∷ 0 ∷ []) alikeListing
+unfolding ruleOf recordsAt formulaOf formulaAt unsatisfiable equationsOf found explored entriesOf firstOf answerOf bit covers least countBelow decimal decimalIn
+longer = numbers longerFile longerRule (34 ∷ 0 ∷ []) alikeListing refl refl refl (omega arith) refl
+
+-- of either rule, by its two rows
+runs-alike : (s : List ℕ) (r : Rule) (set : ℕ) → Numbers s r (set ∷ 0 ∷ []) alikeListing → unsatisfiable r ≡ false → Bytes s
+    → entriesOf mark (answerOf r) (set ∷ 0 ∷ []) set 256 ≡ replicate 5 1 ++ mark ∷ replicate 250 1
+    → entriesOf mark (answerOf r) (set ∷ 0 ∷ []) 0 256 ≡ replicate 256 1 → RunsAlike s
+runs-alike s r set known satisfiable bytes first-row ended-row table room =
+    let row = row-left s r (known .file .reading) satisfiable (set ∷ 0 ∷ []) (known .equations) (omega arith) table room in
+    run-left (reads-fills s r 2 (known .file) bytes table room) alikeScans alikeRun
+    (rw (row 0 (omega arith), first-row, row 1 (omega arith), ended-row))
 
 alike-rules : AlikeRules
-unfolding ruleOf recordsAt formulaOf formulaAt unsatisfiable equationsOf found explored entriesOf firstOf answerOf bit covers least countBelow decimal decimalIn openedFalsities
+unfolding unsatisfiable firstOf answerOf entriesOf openedFalsities bit covers least
 alike-rules = record {
   alike = alike;
   shorter = shorter;
   longer = longer;
-  shorter-run = runs-alike shorterFile shorterRule 10 refl refl shorter-equations (search arith) refl refl;
-  longer-run = runs-alike longerFile longerRule 34 refl refl longer-equations (search arith) refl refl;
+  shorter-run = runs-alike shorterFile shorterRule 10 shorter refl (search arith) refl refl;
+  longer-run = runs-alike longerFile longerRule 34 longer refl (search arith) refl refl;
   shorter-reason = by-rule shorterRule (shorter .file) [] 5;
   longer-reason = by-rule longerRule (longer .file) [] 5;
   skipped = record {
@@ -96,18 +102,8 @@ alike-rules = record {
     inside = omega arith;
   };
 }
-  where
-    shorter-equations : equationsOf most shorterRule ≡ 10 ∷ 0 ∷ []
-    shorter-equations = refl
 
-    longer-equations : equationsOf most longerRule ≡ 34 ∷ 0 ∷ []
-    longer-equations = refl
-
-    shorter : Numbers shorterFile shorterRule (10 ∷ 0 ∷ []) alikeListing
-    shorter = numbers shorterFile shorterRule (10 ∷ 0 ∷ []) alikeListing refl refl shorter-equations (omega arith) refl
-
-    longer : Numbers longerFile longerRule (34 ∷ 0 ∷ []) alikeListing
-    longer = numbers longerFile longerRule (34 ∷ 0 ∷ []) alikeListing refl refl longer-equations (omega arith) refl
+-- ---- two rules that differ after a pattern that covers a code
 
 after-some : AfterSome
 unfolding bit covers
