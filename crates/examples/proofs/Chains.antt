@@ -52,7 +52,7 @@ chain-bytes (suc n) = rw (chain-bytes n)
 chain-within-limits : (n : ℕ) → n ≤ 63 → RuleWithinLimits (chainRule n)
 chain-within-limits n few = record {
   well-formed = record {
-    patterns = (record { some-kind = omega arith; byte = omega arith; first-slot = omega arith; last-slot = omega arith }, tt);
+    patterns = (record { byte = omega arith; first-slot = omega arith; last-slot = omega arith }, tt);
     formula = chain-well-formed n;
   };
   few-patterns = omega arith;
@@ -118,11 +118,11 @@ module _ (covered : (pattern code : ℕ) → Bool) (c : ℕ) where
 
 module _ (n : ℕ) where
   -- what opening node k gives
-  set : ℕ → ℕ
+  pub set : ℕ → ℕ
   set k = front k (n - k)
 
   -- every code leads to the next, and from the last to itself
-  to : (k c : ℕ) → ℕ
+  pub to : (k c : ℕ) → ℕ
   to k c = min (suc k) n
 
   answered : (e e′ c : ℕ) → reached (coveredBy (chainRule n .patterns)) e c 0 [] (chain n) ≡ e′ → answerOf (chainRule n) e c ≡ next e′
@@ -162,7 +162,7 @@ module _ (n : ℕ) where
       on (no a) (yes after) = absurd (apart j i after (omega arith) (sym e))
       on (no a) (no b) = omega arith
 
-  enumerates : Enumerates 256 (answerOf (chainRule n)) (firstOf (chainRule n)) set to (suc n)
+  pub enumerates : Enumerates 256 (answerOf (chainRule n)) (firstOf (chainRule n)) set to (suc n)
   unfolding firstOf set to
   enumerates = record {
     some = omega arith;

@@ -27,4 +27,6 @@ pub mod Chains
 pub mod Windows
 pub mod FamilyExamples
 pub mod PreviewExamples
+pub mod EmptyCounts
+pub mod EmptyExamples
 pub mod Promises

@@ -45,7 +45,7 @@ module _ (s : List ℕ) where
           absurd (omega arith)
       on (Refused number place) e = let (is-18, is-0, many) = desk-shows-more s .0 n number place desk e in rw (is-18, is-0)
 
-  at-desk-only : (n : ℕ) → countedOf (synthesisOf most s) ≡ Equations n → previewLimit < n → ShownAtDeskOnly s n
+  pub at-desk-only : (n : ℕ) → countedOf (synthesisOf most s) ≡ Equations n → previewLimit < n → ShownAtDeskOnly s n
   at-desk-only n desk over =
       record { desk = desk; filling = needs (fills-as-counted most s) n desk; page = refused-on-page 18 0 (eighteen n desk over) }
 

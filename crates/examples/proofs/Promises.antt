@@ -14,6 +14,7 @@ use Rattle.examples.proofs.RefusalExamples.{refusal-examples}
 use Rattle.examples.proofs.TableExamples.{table-examples}
 use Rattle.examples.proofs.FamilyExamples.{family-examples}
 use Rattle.examples.proofs.PreviewExamples.{preview-examples}
+use Rattle.examples.proofs.EmptyExamples.{empty-examples}
 
 pub promises : Promises
 promises = record {
@@ -31,4 +32,5 @@ promises = record {
   table-examples = table-examples;
   family-examples = family-examples;
   preview-examples = preview-examples;
+  empty-examples = empty-examples;
 }

@@ -78,7 +78,7 @@ module _ (m : ℕ) (tested : (five : Bool) → shifts m five ≡ true) where
       on zero even = let z : 2 * (k / 2) + 0 ≡ k = omega arith in (k / 2, 0, omega arith, omega arith, rw z (mod-eq-of-lt h))
       on (suc d) odd = let z : 2 * (k / 2) + 1 ≡ k = omega arith in (k / 2, 5, omega arith, omega arith, rw z (mod-eq-of-lt h))
 
-  enumerates : Enumerates 256 (answerOf (windowRule m)) (firstOf (windowRule m)) set (λ k c. shifted m k (isFive c)) (2 ^ m)
+  pub enumerates : Enumerates 256 (answerOf (windowRule m)) (firstOf (windowRule m)) set (λ k c. shifted m k (isFive c)) (2 ^ m)
   unfolding firstOf
   enumerates = record {
     some = one-le-pow m 2 (omega arith);
@@ -100,7 +100,7 @@ unfolding least bit chain
 shifts-7 true = refl
 shifts-7 false = refl
 
-shifts-8 : (five : Bool) → shifts 8 five ≡ true
+pub shifts-8 : (five : Bool) → shifts 8 five ≡ true
 unfolding least bit chain
 shifts-8 true = refl
 shifts-8 false = refl

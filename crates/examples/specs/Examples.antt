@@ -12,6 +12,7 @@ use Rattle.reading.specs.Rule.{patternKind, truthKind, falsityKind, bothKind, n
 use Rattle.models.specs.Phone.{statesKind, codeStepKind, silentStepKind}
 use Rattle.reading.specs.File.{Outcome, accepted, refused, ruleOf}
 use Rattle.reading.specs.declared.Pattern.{Pattern}
+use Rattle.reading.specs.declared.Lowest.the-variants.{Code}
 use Rattle.reading.specs.declared.Extent.{Extent}
 use Rattle.synthesis.specs.Monitor.{mark, most, rowOf}
 use Rattle.synthesis.specs.Building.{synthesisOf, fillingOf, countedOf, tableLeft}
@@ -27,8 +28,9 @@ use Rattle.listing.specs.Lines.{refusalLine, judgmentLine, listing}
 abbrev pub pattern : (mask first last : ℕ) → Pattern
 pattern mask first last = record { mask = mask; first = first; last = last }
 
-abbrev pub extent : (lowest count : ℕ) → Extent
-extent lowest count = record { lowest = lowest; count = count }
+-- of a pattern that covers some code
+abbrev pub extent : (low count : ℕ) → Extent
+extent low count = record { lowest = Code low; count = count }
 
 abbrev pub rule : List Pattern → Formula → Rule
 rule patterns formula = record { patterns = patterns; formula = formula }
@@ -166,7 +168,7 @@ pub record SmallFiles : Type 0 where
   pub first-over-last-extent : extentOf (pattern 1 6 5) ≡ extent 0 32
   -- * 1 1 31 31 2: accepted, lowest 31
   pub last-slot : ReadAs (1 ∷ 1 ∷ 31 ∷ 31 ∷ 2 ∷ []) (rule (pattern 1 31 31 ∷ []) truth) (Equations 1)
-  pub last-slot-lowest : extentOf (pattern 1 31 31) .lowest ≡ 31
+  pub last-slot-lowest : extentOf (pattern 1 31 31) .lowest ≡ Code 31
 
 -- ---- a run
 

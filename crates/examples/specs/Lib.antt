@@ -13,4 +13,5 @@ pub mod RefusalExamples
 pub mod TableExamples
 pub mod FamilyExamples
 pub mod PreviewExamples
+pub mod EmptyExamples
 pub mod Promises

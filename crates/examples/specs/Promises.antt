@@ -16,6 +16,7 @@ use Rattle.examples.specs.RefusalExamples.{RefusalExamples}
 use Rattle.examples.specs.TableExamples.{TableExamples}
 use Rattle.examples.specs.FamilyExamples.{FamilyExamples}
 use Rattle.examples.specs.PreviewExamples.{PreviewExamples}
+use Rattle.examples.specs.EmptyExamples.{EmptyExamples}
 
 pub record Promises : Type 1 where
   pub paper-examples : PaperExamples
@@ -32,3 +33,4 @@ pub record Promises : Type 1 where
   pub table-examples : TableExamples
   pub family-examples : FamilyExamples
   pub preview-examples : PreviewExamples
+  pub empty-examples : EmptyExamples

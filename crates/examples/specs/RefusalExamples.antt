@@ -32,26 +32,30 @@ pub record RuleRefusals : Type 0 where
   pub late-pattern-cut : Refuses (6 ∷ 1 ∷ []) 3 1
   pub late-pattern-65 : Refuses (times 64 (6 ∷ []) (1 ∷ [])) 3 64
   pub late-pattern-33 : Refuses (times 32 (1 ∷ 1 ∷ 5 ∷ 5 ∷ []) (6 ∷ 1 ∷ [])) 3 129
-  -- 4: a 33rd pattern, whole or cut short
+  -- 4: a 33rd pattern, whole or cut short, and where all are empty
   pub pattern-33 : Refuses (times 33 (1 ∷ 1 ∷ 5 ∷ 5 ∷ []) (2 ∷ [])) 4 128
   pub pattern-33-cut : Refuses (times 32 (1 ∷ 1 ∷ 5 ∷ 5 ∷ []) (1 ∷ [])) 4 128
+  pub pattern-33-empty : Refuses (times 33 (1 ∷ 0 ∷ 5 ∷ 5 ∷ []) (2 ∷ [])) 4 128
   -- 4: a 65th node. The paper: 1 255 0 31, then 64 times 5 0, then 2
   pub node-65 : Refuses (1 ∷ 255 ∷ 0 ∷ 31 ∷ times 64 (5 ∷ 0 ∷ []) (2 ∷ [])) 4 132
   pub node-65-cut : Refuses (times 64 (6 ∷ []) (7 ∷ [])) 4 64
-  -- 4: the same with whole bodies that name nothing or aren't guarded, and a 33rd pattern without a kind
+  -- 4: the same with whole bodies that name nothing or aren't guarded, and a 33rd pattern with slot 32
   pub node-65-unbound : Refuses (times 64 (6 ∷ []) (7 ∷ 64 ∷ [])) 4 64
   pub node-65-unguarded : Refuses (times 64 (6 ∷ []) (7 ∷ 0 ∷ [])) 4 64
-  pub pattern-33-bad : Refuses (times 32 (1 ∷ 1 ∷ 5 ∷ 5 ∷ []) (1 ∷ 0 ∷ 5 ∷ 5 ∷ 2 ∷ [])) 4 128
-  -- 1: a body is cut short, whatever the rest of it says
-  pub pattern-cut : Refuses (1 ∷ 0 ∷ 5 ∷ []) 1 3
+  pub pattern-33-bad : Refuses (times 32 (1 ∷ 1 ∷ 5 ∷ 5 ∷ []) (1 ∷ 1 ∷ 32 ∷ 5 ∷ 2 ∷ [])) 4 128
+  -- 1: a body is cut short, whatever the rest of it says, and also of an empty pattern
+  pub pattern-cut : Refuses (1 ∷ 1 ∷ 32 ∷ []) 1 3
+  pub empty-cut : Refuses (1 ∷ 0 ∷ 5 ∷ []) 1 3
   pub necessity-cut : Refuses (5 ∷ []) 1 1
   pub variable-cut : Refuses (6 ∷ 7 ∷ []) 1 2
-  -- 5: mask 0, slot 32 as first, also over the last, and as last, and at a second pattern
-  pub mask-0 : Refuses (1 ∷ 0 ∷ 5 ∷ 5 ∷ 2 ∷ []) 5 0
+  -- 5: slot 32 as first, also over the last, and as last, and at a second pattern
   pub first-32 : Refuses (1 ∷ 1 ∷ 32 ∷ 32 ∷ 2 ∷ []) 5 0
   pub first-32-round : Refuses (1 ∷ 1 ∷ 32 ∷ 5 ∷ 2 ∷ []) 5 0
   pub last-32 : Refuses (1 ∷ 1 ∷ 5 ∷ 32 ∷ 2 ∷ []) 5 0
   pub second-pattern : Refuses (1 ∷ 1 ∷ 5 ∷ 5 ∷ 1 ∷ 1 ∷ 32 ∷ 5 ∷ 2 ∷ []) 5 4
+  -- 5: the same slot where the mask is 0
+  pub empty-first-32 : Refuses (1 ∷ 0 ∷ 32 ∷ 5 ∷ 2 ∷ []) 5 0
+  pub empty-last-32 : Refuses (1 ∷ 0 ∷ 5 ∷ 32 ∷ 2 ∷ []) 5 0
   -- 6: pattern 1 where there is only pattern 0, and depth 1 below a single max, guarded or not
   pub pattern-1 : Refuses (1 ∷ 1 ∷ 5 ∷ 5 ∷ 5 ∷ 1 ∷ 2 ∷ []) 6 4
   pub depth-1 : Refuses (6 ∷ 7 ∷ 1 ∷ []) 6 1
