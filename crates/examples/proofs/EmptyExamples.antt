@@ -11,7 +11,7 @@ use Rattle.reading.specs.File.{recordsAt, formulaAt, formulaOf, ruleOf}
 use Rattle.reading.specs.Nodes.{whole, first}
 use Rattle.reading.proofs.Measures.Extents.{covers-none, no-extent}
 use Rattle.synthesis.specs.Violation.{coveredBy, ViolatesRule, by-falsity, by-code}
-use Rattle.synthesis.specs.Alike.{Empty, RulesAlike, boths, after-empty}
+use Rattle.synthesis.specs.Alike.{CoversNone, RulesAlike, same-both, after-empty}
 use Rattle.synthesis.specs.Monitor.{mark}
 use Rattle.synthesis.specs.Answering.{firstOf, answerOf, unsatisfiable}
 use Rattle.synthesis.specs.Search.{explored, found}
@@ -58,11 +58,11 @@ empty-patterns = record {
 
 -- ---- two rules that differ only after an empty pattern
 
-first-empty : Empty (coveredBy alikePatterns) 0
+first-empty : CoversNone (coveredBy alikePatterns) 0
 first-empty = covers-none (pattern 0 5 5) refl
 
 alike : RulesAlike shorterRule longerRule
-alike = boths (after-empty {p = 0} {p′ = 0} first-empty first-empty) (alike-same (coveredBy alikePatterns) (necessity 1 falsity))
+alike = same-both (after-empty {p = 0} {p′ = 0} first-empty first-empty) (alike-same (coveredBy alikePatterns) (necessity 1 falsity))
 
 shorter : Numbers shorterFile shorterRule (10 ∷ 0 ∷ []) alikeListing
 unfolding ruleOf recordsAt formulaOf formulaAt unsatisfiable equationsOf found explored entriesOf firstOf answerOf bit covers least countBelow decimal decimalIn
