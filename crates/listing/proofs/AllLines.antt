@@ -18,7 +18,7 @@ use Rattle.synthesis.specs.Monitor.{mark, rowOf, meaning}
 use Rattle.synthesis.proofs.Tables.Rows.{row-none, row-inside, row-short}
 use Rattle.listing.specs.Text.{text, decimal}
 use Rattle.listing.specs.Runs.{runsFrom, RunTo}
-use Rattle.listing.specs.Lines.{spaced, line, answerText, runLines, rowLines, patternLine, patternLines, listing}
+use Rattle.listing.specs.Lines.{spaced, line, lowestText, answerText, runLines, rowLines, patternLine, patternLines, listing}
 use Rattle.listing.specs.Positions.{lineThen, noLine, rowLineAt, lineAt, patternCount, extentsOf, listingLineAt, linesFrom}
 use Rattle.listing.specs.Promises.{ListsAll, ListsRule}
 use Rattle.listing.proofs.RunLaws.{first-run, no-runs, some-run}
@@ -142,7 +142,7 @@ module _ (rule : NumberedRule) (table : List ℕ) (count : ℕ) where
   patterns-complete extents-length (suc more) most all i a e =
       let is : all ≡ suc (more + most) = omega arith in
       let x = getD (rule .extents) i noExtent in
-      let fields = text "p" ∷ decimal i ∷ decimal (x .lowest) ∷ decimal (x .count) ∷ [] in
+      let fields = text "p" ∷ decimal i ∷ lowestText (x .lowest) ∷ decimal (x .count) ∷ [] in
       let inside : i < length (extentsOf rule) = omega (arith, length-take-le n (rule .extents) (omega arith)) in
       rw (is, drop-cons (extentsOf rule) i noExtent inside, getD-take n (rule .extents) i noExtent (omega arith))
       (lines-from-line (more + most) (suc i) (suc (suc i)) fields (pattern-line i (omega arith))

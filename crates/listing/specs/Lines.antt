@@ -3,6 +3,8 @@ use Prim.Native.Nat.{ℕ, zero, suc}
 use mathlib.Core.Bool.{Bool, true, false}
 use mathlib.Core.List.{List, [], _∷_, _++_}
 use lib.ListN.{length}
+use Rattle.reading.specs.declared.Lowest.{Lowest}
+use Rattle.reading.specs.declared.Lowest.the-variants.{Absent, Code}
 use Rattle.reading.specs.declared.Extent.{Extent}
 use Rattle.synthesis.specs.Monitor.{mark, Answer, cases, rowOf, meaning}
 use Rattle.listing.specs.Text.{text, decimal}
@@ -31,8 +33,13 @@ judgmentLine false = line (text "breaks" ∷ [])
 abbrev pub patternsLine : (count : ℕ) → List ℕ
 patternsLine count = line (text "patterns" ∷ decimal count ∷ [])
 
+-- a lowest code: "none" where it is absent, and else its number
+abbrev pub lowestText : Lowest → List ℕ
+lowestText Absent = text "none"
+lowestText (Code code) = decimal code
+
 abbrev pub patternLine : (number : ℕ) → Extent → List ℕ
-patternLine i e = line (text "p" ∷ decimal i ∷ decimal (e .lowest) ∷ decimal (e .count) ∷ [])
+patternLine i e = line (text "p" ∷ decimal i ∷ lowestText (e .lowest) ∷ decimal (e .count) ∷ [])
 
 abbrev pub equationsLine : (count : ℕ) → List ℕ
 equationsLine count = line (text "equations" ∷ decimal count ∷ [])

@@ -108,7 +108,8 @@ pub fn listing_line(rule: NumberedRule, table: &[u8], count: usize, at: usize) -
     if at <= n {
         let i = at - 1;
         let extents = rule.extents;
-        let line = lines::pattern(i, extents[i]);
+        let extent = extents[i];
+        let line = lines::pattern(i, extent);
         return ListingLine { line, next: at + 1 };
     }
     if at == n + 1 {

@@ -29,12 +29,12 @@ pub(crate) fn alone(word: &[u8]) -> Line
 pub(crate) fn pattern(i: usize, extent: Extent) -> Line
     ensures { λ r. ⌜ Prints (patternLine i extent) r ⌝ }
 {
-    let lowest = extent.lowest as usize;
+    let lowest = extent.lowest;
     let count = extent.count as usize;
     Line::empty()
         .word(b"p")
         .field(i)
-        .field(lowest)
+        .lowest(lowest)
         .field(count)
         .newline()
 }

@@ -1,13 +1,14 @@
 // Text added to a line: bytes, words and decimal numbers.
 use crate::Line;
+use reading::Lowest;
 use synthesis::DROPPED;
 ghost use mathlib.Core.Path.{_≡_};
 ghost use mathlib.Core.List.{[], _∷_, _++_};
-ghost use Prim.Native.Nat.{suc};
+ghost use Prim.Native.Nat.{suc, _≤_};
 ghost use lib.ListN.{length};
 ghost use Rattle.synthesis.specs.Monitor.{mark, meaning};
 ghost use Rattle.listing.specs.Text.{text, decimal};
-ghost use Rattle.listing.specs.Lines.{answerText};
+ghost use Rattle.listing.specs.Lines.{lowestText, answerText};
 ghost use Rattle.listing.specs.Positions.{lineOf};
 ghost use Rattle.listing.specs.LineParts.{Room, Adds};
 
@@ -63,6 +64,18 @@ impl Line {
         ensures { λ r. ⌜ Adds self (text " " ++ decimal n) r ⌝ }
     {
         self.push(b' ').decimal(n)
+    }
+
+    // The line with a space and a lowest code.
+    pub(crate) fn lowest(self, lowest: Lowest) -> Self
+        requires { ⌜ Room self 5 ⌝ }
+        ensures { λ r. ⌜ Adds self (text " " ++ lowestText lowest) r ⌝ }
+        ensures { λ r. ⌜ length (lowestText lowest) ≤ 4 ⌝ }
+    {
+        match lowest {
+            Lowest::Absent => self.word(b" none"),
+            Lowest::Code(code) => self.field(code as usize),
+        }
     }
 
     // The line with a space and an entry of a table.

@@ -73,7 +73,7 @@ pub record NumbersNodes (r : Rule) : Type 0 where
 pub record NumbersPatterns (r : Rule) : Type 0 where
   pub counted : numbered r .npatterns ≡ length (r .patterns)
   pub pattern : (i : ℕ) → getD (numbered r .patterns) i noPattern ≡ getD (r .patterns) i noPattern
-  pub extent : (i : ℕ) → i < length (r .patterns) → getD (numbered r .extents) i noExtent ≡ extentOf (getD (r .patterns) i noPattern)
+  pub extent : (i : ℕ) → getD (numbered r .extents) i noExtent ≡ extentOf (getD (r .patterns) i noPattern)
 
 -- 3. What a file says is settled by its first 257 bytes, and not by 256.
 abbrev pub SettledByFirstBytes : Type 0

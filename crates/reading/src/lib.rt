@@ -18,8 +18,8 @@ pub struct Pattern {
 
 // The lowest code that a pattern covers; a pattern that covers none has no lowest code.
 pub enum Lowest {
-    Code(u8),
     Absent,
+    Code(u8),
 }
 
 // The lowest code that a pattern covers, and how many it covers.

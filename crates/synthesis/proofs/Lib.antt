@@ -5,7 +5,9 @@ pub mod Numberings
 pub mod Tables
 pub mod Quotients
 pub mod Reasons
+pub mod EmptyPatterns
 pub mod Functions
 pub mod Promises
 pub mod ShortPromises
 pub mod PreviewPromises
+pub mod AlikePromises

@@ -1,5 +1,6 @@
 -- In the order in which to read them. `Arrays` and `Plans` serve the crate's own functions alone.
 pub mod Violation
+pub mod Alike
 pub mod Monitor
 pub mod NodeSet
 pub mod Opening
@@ -13,5 +14,6 @@ pub mod ReasonPromises
 pub mod Promises
 pub mod ShortPromises
 pub mod PreviewPromises
+pub mod AlikePromises
 pub mod Arrays
 pub mod Plans

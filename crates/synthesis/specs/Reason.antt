@@ -92,9 +92,9 @@ unfoldable pub explanationOf : (limit : ℕ) → (s w : List ℕ) → (c : ℕ) 
 explanationOf limit s w c = andThen (synthesisOf limit s) (λ y. openedAfter (y .rule) w c)
 
 -- What is said of a scan by the ff nodes that it opens: it is kept where there is none, and else the lowest is the reason. A rule has at most 64 nodes.
-abbrev pub lowestOf : (set : ℕ) → Reason
-lowestOf set = cond (eqb set emptySet) Kept (AtNode (least 64 (has set)))
+abbrev pub lowestReason : (set : ℕ) → Reason
+lowestReason set = cond (eqb set emptySet) Kept (AtNode (least 64 (has set)))
 
 -- The answer of each outcome: kept, the number of an ff node, or the refusal with the paper's number and place.
 abbrev pub reasonOf : Outcome ℕ → Reason
-reasonOf = byCase lowestOf Refused
+reasonOf = byCase lowestReason Refused

@@ -4,7 +4,7 @@ use crate::Reason;
 use crate::search::reached;
 ghost use mathlib.Core.Path.{_≡_};
 ghost use lib.ListN.{length};
-ghost use Rattle.synthesis.specs.Reason.{lowestOf, followed};
+ghost use Rattle.synthesis.specs.Reason.{lowestReason, followed};
 ghost use Rattle.synthesis.specs.Arrays.{answerBy};
 ghost use Rattle.synthesis.specs.Plans.{followedOf, unexplainedOf};
 
@@ -41,7 +41,7 @@ pub(crate) fn follow(
 
 // What is said of a scan that opens these ff nodes: the lowest of them, or that it is kept where there is none.
 pub(crate) fn lowest(set: u64) -> Reason
-    ensures { λ r. ⌜ r ≡ lowestOf set ⌝ }
+    ensures { λ r. ⌜ r ≡ lowestReason set ⌝ }
 {
     if set == 0 {
         return Reason::Kept;

@@ -26,17 +26,17 @@ returns c =
 sub-i : tie.Need-sub-i
 sub-i c = search needs
 
-mul-pattern : tie.Need-mul-pattern
-mul-pattern c = search needs
+mul-extent : tie.Need-mul-extent
+mul-extent c = search needs
 
-array-copy-out-pattern : tie.Need-array-copy-out-pattern
-array-copy-out-pattern c = search needs
+array-copy-out-extent : tie.Need-array-copy-out-extent
+array-copy-out-extent c = search needs
 
 pattern-requires : tie.Need-pattern-requires
 pattern-requires c κs = search needs
 
-add-t16 : tie.Need-add-t16
-add-t16 c = search needs
+add-t17 : tie.Need-add-t17
+add-t17 c = search needs
 
 returns-2 : tie.Need-returns-2
 returns-2 c =
@@ -55,8 +55,8 @@ slice-aggregate-counted-2 c = search needs
 counted-requires-2 : tie.Need-counted-requires-2
 counted-requires-2 c κs = search needs
 
-add-t23 : tie.Need-add-t23
-add-t23 c = search needs
+add-t24 : tie.Need-add-t24
+add-t24 c = search needs
 
 returns-3 : tie.Need-returns-3
 returns-3 c =
@@ -88,15 +88,15 @@ listing-line-spec =
     counted-requires
     returns
     sub-i
-    mul-pattern
-    array-copy-out-pattern
+    mul-extent
+    array-copy-out-extent
     pattern-requires
-    add-t16
+    add-t17
     returns-2
     add-if3
     slice-aggregate-counted-2
     counted-requires-2
-    add-t23
+    add-t24
     returns-3
     add-row-line
     row-line-requires

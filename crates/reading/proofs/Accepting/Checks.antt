@@ -31,24 +31,20 @@ module _ (s : List ℕ) (at left : ℕ) where
     pattern-cut h = simp (ne-eqb _ _ l, le-leb _ _ h)
 
     module _ (b : at + 3 < length s) where
-      pub no-kind : getD s (at + 1) 0 ≡ 0 → PatternRead.Refused 5 at ≡ read-at
-      no-kind h = simp (ne-eqb _ _ l, lt-leb _ _ b, eq-eqb _ _ h)
+      pub first-over : 31 < getD s (at + 2) 0 → PatternRead.Refused 5 at ≡ read-at
+      first-over h = simp (ne-eqb _ _ l, lt-leb _ _ b, lt-ltb _ _ h)
 
-      module _ (k : getD s (at + 1) 0 ≡ 0 → ⊥) where
-        pub first-over : 31 < getD s (at + 2) 0 → PatternRead.Refused 5 at ≡ read-at
-        first-over h = simp (ne-eqb _ _ l, lt-leb _ _ b, ne-eqb _ _ k, lt-ltb _ _ h)
-
-        module _ (f : getD s (at + 2) 0 ≤ 31) where
-          pub last-over : 31 < getD s (at + 3) 0 → PatternRead.Refused 5 at ≡ read-at
-          last-over h = simp (ne-eqb _ _ l, lt-leb _ _ b, ne-eqb _ _ k, le-ltb _ _ f, lt-ltb _ _ h)
+      module _ (f : getD s (at + 2) 0 ≤ 31) where
+        pub last-over : 31 < getD s (at + 3) 0 → PatternRead.Refused 5 at ≡ read-at
+        last-over h = simp (ne-eqb _ _ l, lt-leb _ _ b, le-ltb _ _ f, lt-ltb _ _ h)
 
 -- the pattern of the three bytes after a kind
 abbrev pub patternOfBytes : List ℕ → (at : ℕ) → Pattern
 patternOfBytes s at = record { mask = getD s (at + 1) 0; first = getD s (at + 2) 0; last = getD s (at + 3) 0 }
 
-module _ (s : List ℕ) (at : ℕ) (b : at + 3 < length s) (k : getD s (at + 1) 0 ≡ 0 → ⊥) (f : getD s (at + 2) 0 ≤ 31) (t : getD s (at + 3) 0 ≤ 31) where
+module _ (s : List ℕ) (at : ℕ) (b : at + 3 < length s) (f : getD s (at + 2) 0 ≤ 31) (t : getD s (at + 3) 0 ≤ 31) where
   pub pattern-accepted : patternAt s at ≡ accepted (patternOfBytes s at)
-  pattern-accepted = simp (lt-leb _ _ b, ne-eqb _ _ k, le-ltb _ _ f, le-ltb _ _ t)
+  pattern-accepted = simp (lt-leb _ _ b, le-ltb _ _ f, le-ltb _ _ t)
 
   pub pattern-read : (left : ℕ) → (left ≡ 0 → ⊥) → PatternRead.Read (patternOfBytes s at) ≡ read-at s at left
   pattern-read left l = simp (ne-eqb _ _ l, pattern-accepted)

@@ -7,7 +7,7 @@ use Prim.Native.Nat.{ℕ, _+_, _<_}
 use native.Mathlib.Omega.{arith}
 use lib.ListN.{length, getD, drop}
 use lib.Dec.{ltb, leb, eqb}
-use borrow.Author.Tests.{ltb-true, ltb-false, leb-false, eqb-true, eqb-false, lt-ltb, ne-eqb}
+use borrow.Author.Tests.{ltb-true, ltb-false, leb-false, eqb-true, lt-ltb, ne-eqb}
 use Rattle.reading.specs.Pattern.{WellFormedPattern}
 use Rattle.reading.specs.Rule.{Bytes, Symbol, Truth, Falsity, Both, Max, Necessity, Variable, patternKind, patternBytes, kindByte}
 use Rattle.reading.specs.File.{accepted, Records, patternAt, isPattern, patternFormat, patternsAt}
@@ -34,20 +34,17 @@ module _ (s : List ℕ) (at : ℕ) (p : Pattern) where
       let mask = h .mask .is in
       let first = h .first .is in
       let last = h .last .is in
-      pattern-accepted s at (h .last .inside) (λ e. omega (arith, w .some-kind))
-      (omega (arith, w .first-slot)) (omega (arith, w .last-slot))
+      pattern-accepted s at (h .last .inside) (omega (arith, w .first-slot)) (omega (arith, w .last-slot))
       ∙ rw (mask, first, last)
 
   pub pattern-stands : getD s (at + 1) 0 < 256 → patternAt s at ≡ accepted p → PatternStands s at p
   pattern-stands mask e =
       let whole = refuse-accepted (leb (length s) (at + 3)) 1 (length s) _ e in
-      let kind = refuse-accepted (eqb (getD s (at + 1) 0) 0) 5 at _ (whole .1) in
-      let first = refuse-accepted (ltb 31 (getD s (at + 2) 0)) 5 at _ (kind .1) in
+      let first = refuse-accepted (ltb 31 (getD s (at + 2) 0)) 5 at _ (whole .1) in
       let last = refuse-accepted (ltb 31 (getD s (at + 3) 0)) 5 at _ (first .1) in
       let inside : at + 3 < length s = leb-false _ _ (whole .0) in
       subst (λ (x : Pattern). PatternStands s at x) (accepted-is (last .1)) (record {
         well-formed = record {
-          some-kind = omega (arith, eqb-false (getD s (at + 1) 0) 0 (kind .0));
           byte = omega arith;
           first-slot = ltb-false _ _ (first .0);
           last-slot = ltb-false _ _ (last .0);

@@ -58,6 +58,12 @@ least-min n holds i t = on (decLt i (least n holds))
     on (yes h) = absurd (true≢false (sym t ∙ least-below n holds i h))
     on (no h) = omega arith
 
+-- where the test holds of none, the bound itself
+pub least-none : (n : ℕ) (holds : ℕ → Bool) → ((i : ℕ) → i < n → holds i ≡ false) → least n holds ≡ n
+unfolding least
+least-none zero holds h = refl
+least-none (suc n) holds h = rw (h zero (omega arith), least-none n (λ i. holds (suc i)) (λ i l. h (suc i) (omega arith)))
+
 -- tests that agree have the same least
 pub least-same : (n : ℕ) (one other : ℕ → Bool) → ((i : ℕ) → i < n → one i ≡ other i) → least n one ≡ least n other
 unfolding least

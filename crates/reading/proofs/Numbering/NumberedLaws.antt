@@ -2,7 +2,7 @@
 -- list with an element for each node or pattern, filled up; so an index in the list finds the list's element.
 use mathlib.Core.Path.{_≡_, refl, _∙_}
 use mathlib.Core.List.{List, [], _∷_, _++_, map}
-use Prim.Native.Nat.{ℕ, zero, suc, _-_, _≤_, _<_}
+use Prim.Native.Nat.{ℕ, zero, suc, _-_, _≤_}
 use native.Mathlib.Omega.{arith}
 use lib.ListN.{length, getD, replicate, length-append, length-replicate, List·getD-map}
 use Rattle.reading.specs.Pattern.{extentOf}
@@ -11,7 +11,7 @@ use Rattle.reading.specs.Numbered.{kind, argument, numberOf, kinds, args
 use Rattle.reading.specs.Promises.{NumbersNodes, NumbersPatterns}
 use Rattle.reading.specs.Nodes.{EnclosingMax, noMax, Node, first, second, after, body}
 use Rattle.reading.specs.Nodes.{Resolves, is-truth, is-falsity, is-both, is-necessity, is-max, is-variable}
-use Rattle.reading.proofs.Basics.ListLaws.{mapped-at}
+use Rattle.reading.proofs.Measures.Extents.{no-extent}
 use Rattle.reading.proofs.Numbering.NodeLaws.{node-exists, node-fits, Around, max-around, guards-around, well-formed-at, variable-bound}
 use Rattle.reading.proofs.Numbering.Listings.{listed-size, listed-at, node-unique}
 
@@ -70,8 +70,8 @@ module _ (r : Rule) {k : ℕ} {ms : List EnclosingMax} where
 pub pattern-at : (r : Rule) (i : ℕ) → getD (numbered r .patterns) i noPattern ≡ getD (r .patterns) i noPattern
 pattern-at r i = padded-at noPattern 32 (r .patterns) i
 
-pub extent-at : (r : Rule) (i : ℕ) → i < length (r .patterns) → getD (numbered r .extents) i noExtent ≡ extentOf (getD (r .patterns) i noPattern)
-extent-at r i h = padded-at noExtent 32 (map extentOf (r .patterns)) i ∙ mapped-at extentOf (r .patterns) i noPattern noExtent h
+pub extent-at : (r : Rule) (i : ℕ) → getD (numbered r .extents) i noExtent ≡ extentOf (getD (r .patterns) i noPattern)
+extent-at r i = padded-at noExtent 32 (map extentOf (r .patterns)) i ∙ rw (← no-extent noPattern refl) (List·getD-map extentOf (r .patterns) i noPattern)
 
 -- ---- the promises
 

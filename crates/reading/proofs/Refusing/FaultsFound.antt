@@ -145,22 +145,18 @@ module _ {s : List ℕ} {at n : ℕ} (h : ReadTo s at n 0 ([] ∷ [])) (b : Byte
 
   pattern-fault : {number place : ℕ} → n < 32 → patternAt s at ≡ refused number place → Fault s number place
   pattern-fault few e =
-      let mask = getD s (at + 1) 0 in
       let first = getD s (at + 2) 0 in
       let last = getD s (at + 3) 0 in
       refuse-refused (Fault s) (leb (length s) (at + 3)) 1 (length s) _ e
       (λ t. pattern-cut (read-unfinished h) kind few (omega (arith, leb-true (length s) (at + 3) t)))
       (λ f₁ e₂.
       let whole : at + 3 < length s = leb-false _ _ f₁ in
-      refuse-refused (Fault s) (eqb mask 0) 5 at _ e₂
-      (λ t. unfit-fault few whole (λ w. omega (arith, w .some-kind, eqb-true mask 0 t)))
-      (λ f₂ e₃.
-      refuse-refused (Fault s) (ltb 31 first) 5 at _ e₃
+      refuse-refused (Fault s) (ltb 31 first) 5 at _ e₂
       (λ t. unfit-fault few whole (λ w. omega (arith, w .first-slot, ltb-true 31 first t)))
-      (λ f₃ e₄.
-      refuse-refused (Fault s) (ltb 31 last) 5 at _ e₄
+      (λ f₂ e₃.
+      refuse-refused (Fault s) (ltb 31 last) 5 at _ e₃
       (λ t. unfit-fault few whole (λ w. omega (arith, w .last-slot, ltb-true 31 last t)))
-      (λ f₄ e₅. absurd (never-refused e₅)))))
+      (λ f₃ e₄. absurd (never-refused e₄))))
 
 head-fault : (left : ℕ) {s : List ℕ} → Bytes s → {at n : ℕ} {number place : ℕ} → ReadTo s at n 0 ([] ∷ []) → left + n ≡ 32
     → headAt s left n at ≡ refused number place → Fault s number place

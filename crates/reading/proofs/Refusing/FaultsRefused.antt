@@ -171,9 +171,8 @@ module _ {s : List ℕ} {at n : ℕ} {due : List Guards} (h : ReadTo s at n 0 du
   unfit-refused-with-5 few whole e =
       refuse-refused (FiveAt at) (eqb (32 - n) 0) 4 at _ e (λ t. absurd (omega (arith, eqb-true (32 - n) 0 t))) (λ f e₁.
       refuse-refused (FiveAt at) (leb (length s) (at + 3)) 1 (length s) _ e₁ (λ t. absurd (omega (arith, leb-true (length s) (at + 3) t))) (λ f₁ e₂.
-      refuse-refused (FiveAt at) (eqb (getD s (at + 1) 0) 0) 5 at _ e₂ (λ t. (refl, refl)) (λ f₂ e₃.
-      refuse-refused (FiveAt at) (ltb 31 (getD s (at + 2) 0)) 5 at _ e₃ (λ t. (refl, refl)) (λ f₃ e₄.
-      refuse-refused (FiveAt at) (ltb 31 (getD s (at + 3) 0)) 5 at _ e₄ (λ t. (refl, refl)) (λ f₄ e₅. absurd (never-refused e₅))))))
+      refuse-refused (FiveAt at) (ltb 31 (getD s (at + 2) 0)) 5 at _ e₂ (λ t. (refl, refl)) (λ f₂ e₃.
+      refuse-refused (FiveAt at) (ltb 31 (getD s (at + 3) 0)) 5 at _ e₃ (λ t. (refl, refl)) (λ f₃ e₄. absurd (never-refused e₄)))))
 
   bad-refused : Bytes s → n < 32 → at + 4 ≤ length s → (BeginsRule (take (at + 4) s) → ⊥) → headAt s 32 0 0 ≡ refused 5 at
   bad-refused bytes few whole none = on (recordAt (patternFormat s) (32 - n) at) refl (λ number place e. pattern-refused e)

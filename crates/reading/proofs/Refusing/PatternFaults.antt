@@ -35,26 +35,24 @@ five-begins-no-rule (node-65 u kind) e = absurd (omega arith)
 five-begins-no-rule (names-nothing u kind few whole none) e = absurd (omega arith)
 five-begins-no-rule (unguarded u kind few whole none begins) e = absurd (omega arith)
 
--- what isn't well formed of a mask that is a byte and of two slots
-abbrev Unfit : (mask first last : ℕ) → Type 0
-Unfit mask first last = (mask ≡ 0) ⊎ ((31 < first) ⊎ (31 < last))
+-- a slot that isn't one
+abbrev Unfit : (first last : ℕ) → Type 0
+Unfit first last = (31 < first) ⊎ (31 < last)
 
 abbrev UnfitAt : List ℕ → (at : ℕ) → Type 0
-UnfitAt s at = Unfit (getD s (at + 1) 0) (getD s (at + 2) 0) (getD s (at + 3) 0)
+UnfitAt s at = Unfit (getD s (at + 2) 0) (getD s (at + 3) 0)
 
-unfit-or-formed : (mask first last : ℕ) → mask < 256 → Unfit mask first last ⊎ WellFormedPattern (record { mask = mask; first = first; last = last })
-unfit-or-formed mask first last byte = on (decLe mask 0) (decLe first 31) (decLe last 31)
+unfit-or-formed : (mask first last : ℕ) → mask < 256 → Unfit first last ⊎ WellFormedPattern (record { mask = mask; first = first; last = last })
+unfit-or-formed mask first last byte = on (decLe first 31) (decLe last 31)
   where
-    on : Dec (mask ≤ 0) → Dec (first ≤ 31) → Dec (last ≤ 31) → Unfit mask first last ⊎ WellFormedPattern (record { mask = mask; first = first; last = last })
-    on (yes m) f l = inl (inl (omega arith))
-    on (no m) (no f) l = inl (inr (inl (lt-of-not-le f)))
-    on (no m) (yes f) (no l) = inl (inr (inr (lt-of-not-le l)))
-    on (no m) (yes f) (yes l) = inr (record { some-kind = lt-of-not-le m; byte = omega arith; first-slot = f; last-slot = l })
+    on : Dec (first ≤ 31) → Dec (last ≤ 31) → Unfit first last ⊎ WellFormedPattern (record { mask = mask; first = first; last = last })
+    on (no f) l = inl (inl (lt-of-not-le f))
+    on (yes f) (no l) = inl (inr (lt-of-not-le l))
+    on (yes f) (yes l) = inr (record { byte = omega arith; first-slot = f; last-slot = l })
 
-unfit-not-formed : (mask first last : ℕ) → Unfit mask first last → WellFormedPattern (record { mask = mask; first = first; last = last }) → ⊥
-unfit-not-formed mask first last (inl m) w = omega (arith, w .some-kind)
-unfit-not-formed mask first last (inr (inl f)) w = omega (arith, w .first-slot)
-unfit-not-formed mask first last (inr (inr l)) w = omega (arith, w .last-slot)
+unfit-not-formed : (mask first last : ℕ) → Unfit first last → WellFormedPattern (record { mask = mask; first = first; last = last }) → ⊥
+unfit-not-formed mask first last (inl f) w = omega (arith, w .first-slot)
+unfit-not-formed mask first last (inr l) w = omega (arith, w .last-slot)
 
 -- ---- at a place where a pattern may come next
 

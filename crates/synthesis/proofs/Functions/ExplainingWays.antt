@@ -14,7 +14,7 @@ use Rattle.synthesis.specs.NodeSet.{intersection}
 use Rattle.synthesis.specs.Answering.{firstOf, answerOf}
 use Rattle.synthesis.specs.Building.{synthesisOf}
 use Rattle.synthesis.specs.Arrays.{gathered, answerBy}
-use Rattle.synthesis.specs.Reason.{lowestOf, openedFalsities, followed, explanationOf, reasonOf}
+use Rattle.synthesis.specs.Reason.{lowestReason, openedFalsities, followed, explanationOf, reasonOf}
 use Rattle.synthesis.specs.Plans.{IsPlan, followedOf, unexplainedOf}
 use Rattle.synthesis.specs.declared.Counted.the-variants as Counted
 use Rattle.synthesis.specs.declared.Plan.{Plan}
@@ -68,7 +68,7 @@ module _ (s w : List ℕ) (bytes : Bytes w) (c : ℕ) {n : ℕ} (p : Plan) (coun
   -- none is, and they lead to the equation e
   pub kept-reason : (e : ℕ) → f ≡ Followed′.Equation e → c < 256 → (set : ℕ)
       → set ≡ gathered (p .graph .after) (intersection e (getD (p .graph .enabled) c 0))
-      → lowestOf (bitAnd set (p .graph .falsities)) ≡ reasonOf (explanationOf most s w c)
+      → lowestReason (bitAnd set (p .graph .falsities)) ≡ reasonOf (explanationOf most s w c)
   unfolding explanationOf
   kept-reason e q code set reached =
       let to : leads ≡ accepted e = byCase-value followed-cases leads e (sym q ∙ leads-is) in

@@ -4,7 +4,6 @@ use Prim.Native.Nat.{ℕ, zero, suc, _+_, _-_, _≤_, _<_}
 use mathlib.Core.Path.{_≡_, refl, sym, _∙_, ap}
 use mathlib.Core.Bool.{Bool, true, false, _&&_, true≢false}
 use mathlib.Core.List.{List}
-use native.Mathlib.Decide.{decLt}
 use native.Mathlib.Omega.{arith}
 use lib.Dec.{eqb}
 use lib.ListN.{length, getD, take}
@@ -55,13 +54,6 @@ module _ (mark : ℕ) (table classes : List ℕ) (k l : ℕ) where
   of-one-class e = rw (eq-eqb (getD classes k 0) (getD classes l 0) e)
 
 -- ---- the first equation with which one stays together
-
-pub least-none : (n : ℕ) (holds : ℕ → Bool) → ((i : ℕ) → i < n → holds i ≡ false) → least n holds ≡ n
-least-none n holds none = on (decLt (least n holds) n)
-  where
-    on : Dec (least n holds < n) → least n holds ≡ n
-    on (yes h) = absurd (true≢false (sym (least-holds n holds h) ∙ none (least n holds) h))
-    on (no h) = omega (arith, least-le n holds)
 
 module _ (codes : ℕ) (answer : ℕ → ℕ → Answer ℕ) (classes : List ℕ) (k : ℕ) where
   -- k stays together with none of the first l equations

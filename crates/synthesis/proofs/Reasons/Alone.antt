@@ -34,7 +34,7 @@ module _ (r : Rule) where
       → (ms′ : List EnclosingMax) (f′ : Formula) → Node root k ms′ f′ → ViolatesThinned m k ms′ f′ w
   thinned-node m {k} {w = w} n v ms′ f′ n′ = same-node (λ ms f. ViolatesThinned m k ms f w) n n′ v
 
-  place-alone : {m k : ℕ} {w : List ℕ} → ViolatesAt r k w m → (ms : List EnclosingMax) (f : Formula) → Node root k ms f → ViolatesThinned m k ms f w
+  pub place-alone : {m k : ℕ} {w : List ℕ} → ViolatesAt r k w m → (ms : List EnclosingMax) (f : Formula) → Node root k ms f → ViolatesThinned m k ms f w
   place-alone {k = k} (at-falsity n) = thinned-node k n (rw (eq-eqb k k refl) by-falsity)
   place-alone {m} (in-first n v) = thinned-node m n (by-first (place-alone v _ _ (first n)))
   place-alone {m} (in-second n v) = thinned-node m n (by-second (place-alone v _ _ (second n)))

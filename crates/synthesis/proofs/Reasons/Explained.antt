@@ -18,7 +18,7 @@ use Rattle.synthesis.specs.Opening.{OpensToFalsity}
 use Rattle.synthesis.specs.Answering.{firstOf, answerOf, unsatisfiable}
 use Rattle.synthesis.specs.Building.{synthesisOf, countedOf}
 use Rattle.synthesis.specs.Reason.{ViolatesAt, LowestPlace, FirstViolated, OpensFalsity, LowestOpened}
-use Rattle.synthesis.specs.Reason.{lowestOf, openedFalsities, openedAfter, explanationOf, reasonOf}
+use Rattle.synthesis.specs.Reason.{lowestReason, openedFalsities, openedAfter, explanationOf, reasonOf}
 use Rattle.synthesis.specs.ReasonPromises.{Explained, ReasonsExactly}
 use Rattle.synthesis.specs.declared.Counted.the-variants.{Equations}
 use Rattle.synthesis.specs.declared.Reason.{Reason}
@@ -113,7 +113,7 @@ module _ (r : Rule) (w : List ℕ) (c : ℕ) where
     suppressed = violated-iff-suppressed r wf satisfiable
 
     -- where all scans are kept, by what the scan opens
-    said-kept : (Suppresses (answerOf r) (firstOf r) w → ⊥) → Said (lowestOf (openedFalsities r endedIn c))
+    said-kept : (Suppresses (answerOf r) (firstOf r) w → ⊥) → Said (lowestReason (openedFalsities r endedIn c))
     said-kept none =
         said-of-opened r within endedIn c Said
         (λ nothing. keeps (λ v. let (m, a) = somewhere .0 v in nothing m (places m .0 a)) nothing refl)

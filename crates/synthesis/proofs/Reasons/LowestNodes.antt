@@ -16,7 +16,7 @@ use Rattle.reading.proofs.Numbering.NodeLaws.{node-fits}
 use Rattle.synthesis.specs.Violation.{coveredBy}
 use Rattle.synthesis.specs.NodeSet.{Has, has, emptySet}
 use Rattle.synthesis.specs.Answering.{falsities, reached}
-use Rattle.synthesis.specs.Reason.{Least, OpensFalsity, LowestOpened, lowestOf, openedFalsities}
+use Rattle.synthesis.specs.Reason.{Least, OpensFalsity, LowestOpened, lowestReason, openedFalsities}
 use Rattle.synthesis.specs.declared.Reason.{Reason}
 use Rattle.synthesis.specs.declared.Reason.the-variants.{Kept, Node}
 use Rattle.synthesis.proofs.Unfolding.NodeSetLaws.{has-none, has-common, has-true, true-has, nonempty-member}
@@ -60,7 +60,7 @@ module _ (r : Rule) (within : RuleWithinLimits r) where
 
   -- What holds where nothing is opened, and for the lowest node where something is, holds of what is said.
   pub said-of-opened : (e c : ℕ) (P : Reason → Type 0) → (((m : ℕ) → OpensFalsity r e c m → ⊥) → P Kept)
-      → ((m : ℕ) → LowestOpened r e c m → P (Node m)) → P (lowestOf (openedFalsities r e c))
+      → ((m : ℕ) → LowestOpened r e c m → P (Node m)) → P (lowestReason (openedFalsities r e c))
   said-of-opened e c P none some = on (eqb (openedFalsities r e c) emptySet) refl
     where
       set : ℕ

@@ -1,5 +1,5 @@
 -- `patterns::read_pattern` meets its contract: each return is a row of the table.
-use Rattle.reading.proofs.Accepting.Checks.{no-pattern-left, pattern-cut, no-kind, first-over, last-over, pattern-read}
+use Rattle.reading.proofs.Accepting.Checks.{no-pattern-left, pattern-cut, first-over, last-over, pattern-read}
 use borrow.Author.Needs.{needs}
 use Rattle.reading.proofs.patterns.read_pattern.Statement.{statement}
 use Rattle.reading.proofs.patterns.read_pattern.Tie as tie
@@ -34,16 +34,13 @@ shared-slice-read-last : tie.Need-shared-slice-read-last
 shared-slice-read-last c = search needs
 
 returns-3 : tie.Need-returns-3
-returns-3 c = search no-kind
+returns-3 c = search first-over
 
 returns-4 : tie.Need-returns-4
-returns-4 c = search first-over
+returns-4 c = search last-over
 
 returns-5 : tie.Need-returns-5
-returns-5 c = search last-over
-
-returns-6 : tie.Need-returns-6
-returns-6 c = search pattern-read
+returns-5 c = search pattern-read
 
 -- ---- all of them
 
@@ -62,5 +59,4 @@ read-pattern-spec =
     shared-slice-read-last
     returns-3
     returns-4
-    returns-5
-    returns-6)
+    returns-5)

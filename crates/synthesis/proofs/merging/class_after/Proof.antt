@@ -5,9 +5,10 @@ use mathlib.Core.Bool.{false}
 use native.Mathlib.Omega.{arith}
 use borrow.Author.Count.{below-more}
 use borrow.Author.Needs.{needs}
+use Rattle.reading.proofs.Measures.Counting.{least-none}
 use Rattle.synthesis.specs.Monitor.{mark, lookup}
 use Rattle.synthesis.specs.Merging.{together}
-use Rattle.synthesis.proofs.Functions.MergingRounds.{joined, not-joined, least-none}
+use Rattle.synthesis.proofs.Functions.MergingRounds.{joined, not-joined}
 use Rattle.synthesis.proofs.merging.class_after.Statement.{statement}
 use Rattle.synthesis.proofs.merging.class_after.Tie as tie
 

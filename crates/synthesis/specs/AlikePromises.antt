@@ -1,0 +1,66 @@
+-- What this crate promises of patterns with nothing in them, as statements over the definitions; proofs/ has a theorem of each of these types. The limit on
+-- equations and the mark for dropped are any.
+use Prim.Native.Nat.{ℕ, _<_}
+use mathlib.Core.Path.{_≡_}
+use mathlib.Core.Logic.{_↔_}
+use mathlib.Core.List.{List}
+use Rattle.reading.specs.Rule.{Rule, Bytes}
+use Rattle.reading.specs.File.{accepted, ruleOf}
+use Rattle.synthesis.specs.Violation.{ViolatesRule}
+use Rattle.synthesis.specs.Alike.{RulesAlike, AfterEmpty}
+use Rattle.synthesis.specs.Monitor.{Answer, Monitors, rowOf}
+use Rattle.synthesis.specs.Merging.{DropAlike}
+use Rattle.synthesis.specs.Building.{synthesisOf, countedOf, FillsShort}
+use Rattle.synthesis.specs.Reason.{ViolatesAt, explanationOf, reasonOf}
+use Rattle.synthesis.specs.declared.Counted.the-variants.{Refused}
+use Rattle.synthesis.specs.declared.Reason.the-variants.{Node}
+
+-- ---- violation
+
+-- 1. Two rules that differ only in formulas after empty patterns are violated by the same lists, accepted or not.
+abbrev pub ViolatedAlike : Type 0
+ViolatedAlike = (r r′ : Rule) → RulesAlike r r′ → (w : List ℕ) → ViolatesRule r w ↔ ViolatesRule r′ w
+
+-- No node at which a list violates a rule stands after an empty pattern, also of a rule that isn't accepted.
+abbrev pub NoPlaceAfterEmpty : Type 0
+NoPlaceAfterEmpty = (r : Rule) (w : List ℕ) (m : ℕ) → ViolatesAt r 0 w m → AfterEmpty r m → ⊥
+
+-- ---- what is said of files
+
+-- 2. Of two files with such rules, both are refused with 8 or neither is.
+abbrev pub UnsatisfiableAlike : Type 0
+UnsatisfiableAlike =
+    (limit limit′ : ℕ) (s s′ : List ℕ) → Bytes s → Bytes s′ → (r r′ : Rule) → ruleOf s ≡ accepted r → ruleOf s′ ≡ accepted r′ → RulesAlike r r′
+    → (countedOf (synthesisOf limit s) ≡ Refused 8 0) ↔ (countedOf (synthesisOf limit′ s′) ≡ Refused 8 0)
+
+-- No reason for a dropped scan stands after an empty pattern.
+abbrev pub NoReasonAfterEmpty : Type 0
+NoReasonAfterEmpty =
+    (limit : ℕ) (s : List ℕ) → Bytes s → (r : Rule) → ruleOf s ≡ accepted r
+    → (w : List ℕ) (c m : ℕ) → reasonOf (explanationOf limit s w c) ≡ Node m → AfterEmpty r m → ⊥
+
+-- ---- monitors
+
+-- 3. Monitors of two such rules drop alike: every list of bytes gets the same verdicts from both.
+abbrev pub MonitorsAlike : Type 1
+MonitorsAlike =
+    (r r′ : Rule) → RulesAlike r r′ → (E F : Type 0) (answer : E → ℕ → Answer E) (first : E) (answer′ : F → ℕ → Answer F) (first′ : F)
+    → Monitors r answer first → Monitors r′ answer′ first′ → DropAlike 256 answer first answer′ first′
+
+-- The short tables of two such rules have as many rows, and these are the same byte for byte.
+abbrev pub ShortTablesAlike : Type 0
+ShortTablesAlike =
+    (limit limit′ mark : ℕ) (s table : List ℕ) (r : Rule) (n : ℕ) (left : List ℕ) → FillsShort limit mark s table r n left
+    → (s′ table′ : List ℕ) (r′ : Rule) (n′ : ℕ) (left′ : List ℕ) → FillsShort limit′ mark s′ table′ r′ n′ left′ → RulesAlike r r′
+    → (n ≡ n′) × ((k : ℕ) → k < n → rowOf 256 left k ≡ rowOf 256 left′ k)
+
+-- ---- all of these
+
+-- The theorem `alike-promises` has this type, so that each promise has its proof.
+pub record AlikePromises : Type 1 where
+  pub violated-alike : ViolatedAlike
+  pub no-place-after-empty : NoPlaceAfterEmpty
+  pub unsatisfiable-alike : UnsatisfiableAlike
+  pub no-reason-after-empty : NoReasonAfterEmpty
+  pub monitors-alike : MonitorsAlike
+  pub short-tables-alike : ShortTablesAlike
