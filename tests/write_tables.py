@@ -65,7 +65,7 @@ def main():
         expect(listing(data) == text, program, listing(data))
         settle(program, data, text.splitlines(), checks)
     print(f"{rules} rules compared on {lists} lists of codes, {len(cases)} cases: {told(tally)}")
-    print(f"{len(empty_pairs.pairs())} pairs that differ after empty patterns, {telling} streams that would tell them apart if all codes were in these")
+    print(f"{len(empty_pairs.pairs())} pairs that differ after empty patterns, {telling} streams that would tell them apart if these had all kinds")
 
 
 if __name__ == "__main__":
