@@ -2,7 +2,7 @@
 use Rattle.enforcement.specs.Promises.{Promises}
 use Rattle.enforcement.proofs.Enforcing.{monitors-enforce, sound-satisfies}
 use Rattle.enforcement.proofs.Suppressing.{runs-behind}
-use Rattle.enforcement.proofs.SatisfactionLaws.{satisfies-safe}
+use Rattle.enforcement.proofs.SatisfactionLaws.{satisfies-safe, satisfied-alike}
 use Rattle.enforcement.proofs.DecidedSatisfaction.{decided-satisfied}
 use Rattle.enforcement.proofs.BisimulationLaws.{bisimilar-alike}
 use Rattle.enforcement.proofs.Walks.{weak-walks}
@@ -18,4 +18,5 @@ promises = record {
   bisimilar-alike = bisimilar-alike;
   weak-walks = weak-walks;
   alike-bisimilar = alike-bisimilar;
+  satisfied-alike = satisfied-alike;
 }

@@ -10,7 +10,7 @@ use lib.Seq.{drop-nil}
 use Rattle.reading.specs.Rule.{Formula, truth, falsity, both, necessity, max, variable}
 use Rattle.synthesis.specs.Violation.{coveredBy, Violates, by-falsity, by-first, by-second, by-code, by-body, by-variable}
 use Rattle.enforcement.specs.Model.{Model, Walk, stay, InVariable, StateSatisfies}
-use Rattle.enforcement.specs.Promises.{SatisfiesSafe}
+use Rattle.enforcement.specs.Promises.{SatisfiesSafe, SatisfiedAlike}
 use Rattle.enforcement.proofs.Walks.{walk-append, weak-walk, weak-first}
 
 -- ---- what is satisfied isn't violated
@@ -95,3 +95,9 @@ satisfies-safe m r = (
   λ sat w t k v. satisfies-never m (coveredBy (r .patterns)) v no-max sat k,
   never-satisfies m (coveredBy (r .patterns)) [] (r .formula) (m .start),
 )
+
+pub satisfied-alike : SatisfiedAlike
+satisfied-alike r r′ violated m =
+    let one = satisfies-safe m r in
+    let other = satisfies-safe m r′ in
+    (λ sat. other .1 (λ w t k v. one .0 sat w t k (violated w .1 v)), λ sat. one .1 (λ w t k v. other .0 sat w t k (violated w .0 v)))

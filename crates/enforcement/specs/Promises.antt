@@ -72,6 +72,10 @@ AlikeBisimilar =
     (E F : Type 0) (answer : E → ℕ → Answer E) (first : E) (answer′ : F → ℕ → Answer F) (first′ : F) → DropAlike 256 answer first answer′ first′
     → (m : Model) → ByteCodes m → Bisimilar (monitored (suppressing answer) first m) (monitored (suppressing answer′) first′ m)
 
+-- 9. Rules that the same lists violate are satisfied by the same models.
+abbrev pub SatisfiedAlike : Type 1
+SatisfiedAlike = (r r′ : Rule) → ((w : List ℕ) → ViolatesRule r w ↔ ViolatesRule r′ w) → (m : Model) → Satisfies m r ↔ Satisfies m r′
+
 -- ---- all of these
 
 -- The theorem `promises` has this type, so that each promise has its proof.
@@ -84,3 +88,4 @@ pub record Promises : Type 1 where
   pub bisimilar-alike : BisimilarAlike
   pub weak-walks : WeakWalks
   pub alike-bisimilar : AlikeBisimilar
+  pub satisfied-alike : SatisfiedAlike

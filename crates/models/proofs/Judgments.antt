@@ -3,5 +3,6 @@ pub mod TablesEnforce
 pub mod Accepting
 pub mod JudgingOrder
 pub mod JudgingLaws
+pub mod MeetingAlike
 pub mod Refusing
 pub mod Judgment

@@ -4,6 +4,7 @@ use Rattle.models.proofs.Judgments.TablesEnforce.{tables-enforce, short
 use Rattle.models.proofs.Phones.DecidedSets.{decided-satisfies}
 use Rattle.models.proofs.Judgments.JudgingOrder.{judges-in-order}
 use Rattle.models.proofs.Judgments.JudgingLaws.{judges-exactly, refused-unchanged}
+use Rattle.models.proofs.Judgments.MeetingAlike.{meet-alike, judged-alike}
 use Rattle.models.proofs.Judgments.Accepting.{accepts-exactly, short-accepts-exactly, fills-exactly, short-fills-exactly}
 use Rattle.models.proofs.Judgments.Accepting.{preview-accepts-exactly, preview-fills-exactly, refuses-unsatisfiable}
 use Rattle.models.proofs.Files.Encoding.{accepts-phones, one-phone, stores-model, answers-accepted}
@@ -20,6 +21,8 @@ promises = record {
   short-bisimilar = short-bisimilar;
   decided-satisfies = decided-satisfies;
   judges-exactly = judges-exactly;
+  meet-alike = meet-alike;
+  judged-alike = judged-alike;
   refused-unchanged = refused-unchanged;
   judges-in-order = judges-in-order;
   accepts-exactly = accepts-exactly;

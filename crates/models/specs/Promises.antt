@@ -9,6 +9,7 @@ use Rattle.reading.specs.Rule.{Rule, RuleWithinLimits, encode, Bytes}
 use Rattle.reading.specs.File.{Outcome, accepted, refused, ruleOf}
 use Rattle.reading.specs.Promises.{OneFault}
 use Rattle.reading.specs.declared.FileRead.the-variants.{Accepted, Refused as NotAccepted}
+use Rattle.synthesis.specs.Alike.{RulesAlike}
 use Rattle.synthesis.specs.Monitor.{Monitors, lookup}
 use Rattle.synthesis.specs.Building.{Synthesis, synthesisOf, fillingOf, countedOf, tableLeft, shortOf, shortFillingOf, Fills, FillsShort}
 use Rattle.synthesis.specs.Building.{previewLimit, previewOf, previewFillingOf}
@@ -66,6 +67,18 @@ JudgesExactly =
     (limit mark : ℕ) (s table : List ℕ) (r : Rule) (n : ℕ) (left : List ℕ) → Fills limit mark s table r n left
     → (f : List ℕ) (y : Phone) (answer : Judged) → phoneOf f ≡ accepted y → JudgedAs (judgingOf limit s (length table) f) answer
     → JudgedExactly r y answer
+
+-- Two rules that differ only in formulas after empty patterns are satisfied by the same models. So, where both are accepted, judging answers the same
+-- of every model file.
+abbrev pub MeetAlike : Type 1
+MeetAlike = (r r′ : Rule) → RulesAlike r r′ → (m : Model) → Satisfies m r ↔ Satisfies m r′
+
+abbrev pub JudgedAlike : Type 0
+JudgedAlike =
+    (limit mark : ℕ) (s table : List ℕ) (r : Rule) (n : ℕ) (left : List ℕ) → Fills limit mark s table r n left
+    → (limit′ mark′ : ℕ) (s′ table′ : List ℕ) (r′ : Rule) (n′ : ℕ) (left′ : List ℕ) → Fills limit′ mark′ s′ table′ r′ n′ left′ → RulesAlike r r′
+    → (f : List ℕ) (answer answer′ : Judged) → JudgedAs (judgingOf limit s (length table) f) answer
+    → JudgedAs (judgingOf limit′ s′ (length table′) f) answer′ → answer ≡ answer′
 
 -- What judging leaves in the table, in the terms of its contract: where the answer is a refusal, of the rule or of the model, all bytes as they were,
 -- and else exactly what filling leaves.
@@ -201,6 +214,8 @@ pub record Promises : Type 1 where
   pub short-bisimilar : ShortBisimilar
   pub decided-satisfies : DecidedSatisfies
   pub judges-exactly : JudgesExactly
+  pub meet-alike : MeetAlike
+  pub judged-alike : JudgedAlike
   pub refused-unchanged : RefusedUnchanged
   pub judges-in-order : JudgesInOrder
   pub accepts-exactly : AcceptsExactly

@@ -10,6 +10,7 @@ pub mod Conservation
 pub mod Leaving
 pub mod BuiltTables
 pub mod DemandTwo
+pub mod SiftingAlike
 pub mod Reasons
 -- What the proofs of the functions use.
 pub mod Ranges

@@ -1,6 +1,7 @@
 -- Each promise of this crate, by its theorem.
 use Rattle.running.specs.Promises.{Promises}
 use Rattle.running.proofs.DemandTwo.{drops-exactly, short-drops-exactly, monitors-sift}
+use Rattle.running.proofs.SiftingAlike.{sifted-alike, rules-drop-alike}
 use Rattle.running.proofs.Joining.{two-calls}
 use Rattle.running.proofs.Conservation.{conserves, calls-conserve}
 use Rattle.running.proofs.Refusals.{runs-on-tables}
@@ -25,4 +26,6 @@ promises = record {
   reasons-of-runs = reasons-of-runs;
   short-reasons-of-runs = short-reasons-of-runs;
   reasons-by-state = reasons-by-state;
+  sifted-alike = sifted-alike;
+  rules-drop-alike = rules-drop-alike;
 }

@@ -10,9 +10,10 @@ use lib.ListN.{length, getD, take, drop}
 use Rattle.reading.specs.Rule.{Rule, Bytes}
 use Rattle.reading.specs.File.{Outcome, accepted}
 use Rattle.synthesis.specs.Violation.{ViolatesRule}
+use Rattle.synthesis.specs.Alike.{RulesAlike}
 use Rattle.synthesis.specs.Monitor.{dropped, cases, next, ended, Monitors, meaning, lookup}
 use Rattle.synthesis.specs.Table.{WellFormedTable}
-use Rattle.synthesis.specs.Building.{Fills, FillsShort}
+use Rattle.synthesis.specs.Building.{Fills, FillsShort, BuiltTable}
 use Rattle.synthesis.specs.Reason.{explanationOf, reasonOf}
 use Rattle.synthesis.specs.declared.Reason.{Reason}
 use Rattle.synthesis.specs.declared.Reason.the-variants.{Kept, Node}
@@ -206,6 +207,28 @@ ReasonsByState =
     → (w : List ℕ) → Bytes w → (ViolatesRule r w → ⊥) → ended (lookup 256 mark left) 0 w ≡ h .state .equation
     → (c : ℕ) → reasonOf (explanationOf limit s w c) ≡ reasonOf (explanationOf limit s (h .kept) c)
 
+-- ---- two callers
+
+-- 7. Two callers have the same verdicts and the same kept scans.
+pub record SameVerdicts (h h′ : History) : Type 0 where
+  pub verdicts : h .verdicts ≡ h′ .verdicts
+  pub kept : h .kept ≡ h′ .kept
+
+-- Demand 2 leaves nothing open: callers of whom it holds, with the same scans and with rules that the same lists violate, have the same verdicts.
+abbrev pub SiftedAlike : Type 0
+SiftedAlike =
+    (r r′ : Rule) → ((w : List ℕ) → ViolatesRule r w ↔ ViolatesRule r′ w) → (h h′ : History) → Sifted r h → Sifted r′ h′ → h .scans ≡ h′ .scans
+    → SameVerdicts h h′
+
+-- Two accepted rules that differ only in formulas after empty patterns drop the same scans: so it is after any calls as in 1 on built tables of the two,
+-- with the same scans. (Tables of the rule page are built tables.)
+abbrev pub RulesDropAlike : Type 0
+RulesDropAlike =
+    (limit mark : ℕ) (r : Rule) (n : ℕ) (table : List ℕ) → BuiltTable limit mark r n table
+    → (limit′ mark′ : ℕ) (r′ : Rule) (n′ : ℕ) (table′ : List ℕ) → BuiltTable limit′ mark′ r′ n′ table′ → RulesAlike r r′
+    → (h : History) → Calls limit mark (OnTableOrRefused limit mark table n) h
+    → (h′ : History) → Calls limit′ mark′ (OnTableOrRefused limit′ mark′ table′ n′) h′ → h .scans ≡ h′ .scans → SameVerdicts h h′
+
 -- ---- all of these
 
 -- The theorem `promises` has this type, so that each promise has its proof.
@@ -225,3 +248,5 @@ pub record Promises : Type 0 where
   pub reasons-of-runs : ReasonsOfRuns
   pub short-reasons-of-runs : ShortReasonsOfRuns
   pub reasons-by-state : ReasonsByState
+  pub sifted-alike : SiftedAlike
+  pub rules-drop-alike : RulesDropAlike
