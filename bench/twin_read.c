@@ -23,7 +23,7 @@ static uint8_t read_pattern(struct reader *r)
         return refuse(r, 1, r->len);
     const uint8_t *body = r->bytes + r->at + 1;
     struct pattern p = {body[0], body[1], body[2]};
-    if (p.mask == 0 || p.first >= SLOTS || p.last >= SLOTS)
+    if (p.first >= SLOTS || p.last >= SLOTS)
         return refuse(r, 5, r->at);
     rule->patterns[rule->npatterns++] = p;
     r->at += 4;

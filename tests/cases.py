@@ -51,7 +51,7 @@ def pair_files():
     """Every two of a few records, most of them faulty, after each of the beginnings that the checks tell apart."""
     heads = [b"", ONE, FULL, ONE + MAX, ONE + MAX + BOTH, ONE + MAX + after(0)]
     heads += [MAX * 63, MAX * 64, TRUTH, MAX * 63 + TRUTH]
-    records = [b"", bytes([8]), ONE, pattern(0, 5, 5), pattern(0, 32, 0)[:3], TRUTH]
+    records = [b"", bytes([8]), ONE, pattern(0, 5, 5), pattern(1, 5, 32), pattern(0, 32, 0)[:3], TRUTH]
     records += [after(0), after(32), variable(0), variable(64)]
     return [head + first + second for head, first, second in product(heads, records, records)]
 

@@ -23,17 +23,20 @@ def expect(is_right, *where):
         raise Disagreement(*where)
 
 
-def uses_round(rule):
-    """Whether a necessity of the rule has a pattern that goes round."""
+def used_patterns(rule):
+    """The patterns of the rule's necessities."""
     used = {argument for kind, argument in numbered(rule.formula) if kind == After.kind}
-    return any(rule.patterns[number].goes_round() for number in used)
+    return [rule.patterns[number] for number in used]
 
 
-def check_round(files):
-    """At least one in four of the rules that are read has a necessity whose pattern goes round."""
-    rules = [rule for rule in map(read_rule, files) if not isinstance(rule, Refusal)]
-    using = sum(uses_round(rule) for rule in rules)
-    expect(4 * using >= len(rules), "patterns that go round", using, len(rules))
+def check_patterns(files):
+    """Of the rules that are read, at least one in four has a necessity whose pattern goes round and isn't empty, and at least one in
+    eight has one whose pattern is empty."""
+    used = [used_patterns(rule) for rule in map(read_rule, files) if not isinstance(rule, Refusal)]
+    going_round = sum(any(p.goes_round() and not p.is_empty() for p in patterns) for patterns in used)
+    expect(4 * going_round >= len(used), "patterns that go round", going_round, len(used))
+    empty = sum(any(p.is_empty() for p in patterns) for patterns in used)
+    expect(8 * empty >= len(used), "empty patterns", empty, len(used))
 
 
 def ends_of_classes(equations):
@@ -125,7 +128,7 @@ def check_typed():
 def check(files):
     """Checks what was typed, and each of the files that holds a rule. Says how many rules and lists there were."""
     check_typed()
-    check_round(files)
+    check_patterns(files)
     random = Random(3)
     rules = lists = 0
     for data in files:

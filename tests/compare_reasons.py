@@ -4,16 +4,17 @@ from random import Random
 
 import known_reasons
 from compare import Disagreement, expect, lists_of_codes
+from empty_pairs import with_all_kinds
 from equations import rows
 from reason_cases import is_node, without_last
-from reasons import by_equations, by_violation, equations_of, places_of, without_others
+from reasons import KEPT, by_equations, by_violation, equations_of, places_of, without_others
 from rules import Refusal, read_rule
 from violation import violates
 
 # What cases are counted as. Of each sort there have to be so many.
 REFUSALS = [f"refused {number}" for number in (*range(1, 10), 17)]
 SORTS = ["kept", "node", "node 63", "of several nodes", "not the node met first", "after 200 kept scans or more"]
-SORTS += ["17 at the first", "17 between", "17 at the last"] + REFUSALS
+SORTS += ["decided by an empty pattern", "17 at the first", "17 between", "17 at the last"] + REFUSALS
 LEAST = 50
 
 
@@ -84,6 +85,8 @@ def traits(case, answer):
         yield from ["of several nodes"] * (len(nodes) > 1)
         yield from ["not the node met first"] * (nodes[0] > min(nodes))
         yield from [answer] * (answer == "node 63")
+    if is_node(answer) or answer == KEPT:
+        yield from ["decided by an empty pattern"] * (by_violation(with_all_kinds(data), kept, scan) != answer)
 
 
 def tally(answers):

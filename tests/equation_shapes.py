@@ -7,7 +7,7 @@ import known_page
 from equations import MOST_EQUATIONS, PAGE, rows
 from rules import Refusal, read_rule
 from shapes import ANY, BOTH, FALSITY, MAX, TRUTH, after, pattern, variable
-from shapes import random_patterns, telling_patterns
+from shapes import random_mask, random_patterns, telling_patterns
 
 
 def all_hold(parts):
@@ -37,9 +37,10 @@ def small_formulas(nodes, scope=()):
 
 
 def small_rules(nodes):
-    """The small formulas over two patterns that overlap, by turns a pair in order and a pair of which one goes round."""
-    pairs = [pattern(3, 0, 9) + pattern(6, 5, 31), pattern(3, 28, 9) + pattern(6, 5, 30)]
-    return [pairs[number % 2] + formula for number, formula in enumerate(small_formulas(nodes))]
+    """The small formulas over two patterns, by turns a pair that overlaps, one of which the first goes round, and the same
+    with a second that is empty."""
+    pairs = [pattern(3, 0, 9) + pattern(6, 5, 31), pattern(3, 28, 9) + pattern(6, 5, 30), pattern(3, 28, 9) + pattern(0, 5, 30)]
+    return [pairs[number % 3] + formula for number, formula in enumerate(small_formulas(nodes))]
 
 
 def in_groups(items, size):
@@ -67,9 +68,9 @@ def wide_slots(random):
 
 
 def wide_patterns(random, count):
-    """Patterns most of which overlap."""
-    masks = [random.randrange(1, 256) | random.randrange(256) for _ in range(count)]
-    return b"".join(pattern(mask, *wide_slots(random)) for mask in masks)
+    """Patterns most of which overlap: those that aren't empty have many kinds."""
+    masks = [random_mask(random) for _ in range(count)]
+    return b"".join(pattern(mask and mask | random.randrange(256), *wide_slots(random)) for mask in masks)
 
 
 def afters(random, patterns, most):

@@ -126,6 +126,12 @@ def can_drop(table):
     return any(DROPPED_ENTRY in entries for entries in table)
 
 
+def is_dropping(data):
+    """Whether the rule of a file is accepted and can drop a scan."""
+    table = rows(data)
+    return not isinstance(table, Refusal) and can_drop(table)
+
+
 def fill_with(counted, table):
     """The rows that were counted, or the refusal of filling. The lent table gets them in place."""
     if isinstance(counted, Refusal):
@@ -167,7 +173,7 @@ def text_of(data, counted):
         return said(counted) + "\n"
     patterns = read_rule(data).patterns
     lines = [f"patterns {len(patterns)}"]
-    lines += [f"p {number} {pattern.lowest()} {pattern.count()}" for number, pattern in enumerate(patterns)]
+    lines += [f"p {number} {pattern.extent()}" for number, pattern in enumerate(patterns)]
     lines.append(said(counted))
     for number, entries in enumerate(counted):
         lines += row_lines(number, entries)

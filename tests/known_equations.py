@@ -1,7 +1,7 @@
 """Listings of rules, answers of filling, verdicts and violating lists, typed from the paper and its change requests, by hand."""
-from known import ANY, FULL, ONE, POOL, bytes_of, counted
+import known_empty
+from known import ANY, FULL, ONE, POOL, SIX, bytes_of, counted
 
-SIX = "1 1 6 6 "
 SEVEN = "1 1 7 7 "
 OVERLAPPING = "1 3 0 9 1 6 5 31 "
 
@@ -244,24 +244,24 @@ VIOLATIONS = [
 
 def listings():
     """Each file with the whole text of its listing."""
-    return [(bytes_of(text), "".join(line + "\n" for line in lines)) for text, lines in LISTINGS]
+    return [(bytes_of(text), "".join(line + "\n" for line in lines)) for text, lines in LISTINGS + known_empty.LISTINGS]
 
 
 def sets():
     """Each file with the equations of its rule."""
-    return [(bytes_of(text), equations) for text, equations in SETS]
+    return [(bytes_of(text), equations) for text, equations in SETS + known_empty.SETS]
 
 
 def fillings():
     """Each file with the size of a table and the answer."""
-    return [(bytes_of(text), size, answer) for text, size, answer in FILLINGS]
+    return [(bytes_of(text), size, answer) for text, size, answer in FILLINGS + known_empty.FILLINGS]
 
 
 def violations():
     """Each file with a list of codes and whether that violates its rule."""
     return [
         (bytes_of(text), bytes_of(codes), codes in violating)
-        for text, violating, others in VIOLATIONS
+        for text, violating, others in VIOLATIONS + known_empty.VIOLATIONS
         for codes in violating + others
     ]
 
@@ -270,5 +270,5 @@ def verdicts():
     """Each file with scans and whether each of them is dropped."""
     return [
         (bytes_of(text), bytes_of(scans), [verdict == 1 for verdict in bytes_of(typed)])
-        for text, scans, typed in VERDICTS
+        for text, scans, typed in VERDICTS + known_empty.VERDICTS
     ]

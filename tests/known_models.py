@@ -1,6 +1,7 @@
 """Answers of judging, and refusals of model files, typed by hand from the paper."""
-from known import ANY, ONE, POOL, bytes_of, counted
-from known_equations import BRANCHES, PLACES, REQUESTS, ROUND, ROUND_TWICE, SIX, late
+from known import ANY, ONE, POOL, SIX, bytes_of, counted
+from known_empty import BESIDE, NEVER_LATER, NEVER_MET, ROUND_AGAIN
+from known_equations import BRANCHES, PLACES, REQUESTS, ROUND, ROUND_TWICE, late
 from known_runs import SECOND
 
 # The paper's model, which breaks the number-pool rule, and one that meets it.
@@ -24,6 +25,11 @@ JUDGED = [
     # slots that go round
     (ROUND, ["16 1 17 0 29 0", "16 1 17 0 3 0", "16 1 17 0 63 0"], ["16 1 17 0 31 0", "16 1 17 0 30 0", "16 1 17 0 0 0"]),
     (ROUND_TWICE, ["16 2 17 0 31 1 17 1 1 0", "16 1 17 0 31 0"], ["16 2 17 0 31 1 17 1 2 0", "16 1 17 0 30 0"]),
+    # an empty pattern: a model need not keep to what comes after it
+    (NEVER_MET, ["16 1 17 0 5 0", "16 2 18 0 1 17 1 5 0", PAPER], []),
+    (NEVER_LATER, ["16 1 17 0 5 0", "16 2 17 0 5 1 18 1 0"], []),
+    (BESIDE, ["16 1 17 0 6 0"], ["16 1 17 0 5 0", "16 2 18 0 1 17 1 5 0"]),
+    (ROUND_AGAIN, ["16 1 17 0 5 0", "16 2 17 0 7 1 17 1 6 1"], ["16 1 17 0 5 0 17 0 6 0"]),
     # silent steps before the code, after it, and in a loop
     (NEVER, ["16 1 17 0 6 0", "16 2 17 0 6 1 17 1 5 0"], ["16 1 17 0 5 0"]),
     (NEVER, [], ["16 2 18 0 1 17 1 5 0", "16 3 18 0 1 18 1 2 17 2 5 2", "16 2 18 0 1 18 1 0 17 1 5 1"]),
@@ -138,6 +144,7 @@ FITTING = [
     ("2", PAPER, 256, "meets"),
     (PLACES, "16 1 17 0 6 0", 1024, "breaks"),
     (PLACES, "16 1 17 0 5 0", 1024, "meets"),
+    (NEVER_MET, PAPER, 512, "meets"),
     (counted(7), PAPER, 32768, "meets"),
 ]
 
@@ -156,7 +163,8 @@ ORDER = [
     ("2", "16 1", 255, 10, 0),
     ("2", "16", 255, 10, 0),
     ("2", "16", 256, 11, 1),
-    # 10 goes by the long table
+    # 10 goes by the long table, and counts what an empty pattern adds
+    (NEVER_MET, "16 1", 511, 10, 0),
     (PLACES, "16 1", 1023, 10, 0),
     (PLACES, "16 1", 768, 10, 0),
     (PLACES, "16 0", 1023, 10, 0),

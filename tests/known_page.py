@@ -1,6 +1,7 @@
 """What the rule page counts, fills and lists, typed by hand: it shows up to 32 equations, and 18 refuses a rule of more."""
 import known_equations
 from known import ANY, ONE, POOL, bytes_of, counted
+from known_empty import NEVER_MET, counted_beside
 from known_equations import PLACES, counted_lines
 
 # The bytes of 32 rows, and of 33.
@@ -32,7 +33,7 @@ WIDE = "1 15 0 31 1 51 0 31 1 85 0 31 1 255 0 15 1 255 8 23 1 255 16 31 " + "4 "
 UNSATISFIABLE = ANY + ONE + "4 3 6 4 5 0 7 0 5 1 " + "5 0 " * 6 + "2"
 
 # Rules with a listing in known_equations.py that the page doesn't show. All others there it lists alike.
-BEYOND = [counted(7), ANY + "5 0 " * 63 + "3", counted(8)]
+BEYOND = [counted(7), ANY + "5 0 " * 63 + "3", counted(8), counted_beside(7)]
 
 # More of what the page lists.
 LISTINGS = [
@@ -46,6 +47,8 @@ LISTINGS = [
     (late(8), ["refused 18 at 0"]),
     (WIDE, ["refused 18 at 0"]),
     (UNSATISFIABLE, ["refused 8 at 0"]),
+    # 33 equations, of which one is there by an empty pattern
+    (counted_beside(5), ["refused 18 at 0"]),
     # bytes after the rule: reading comes before 18
     (counted(6) + " 2", ["refused 3 at 29"]),
 ]
@@ -60,13 +63,16 @@ FILLINGS += [(late(n), 256 * (25 + n), f"equations {25 + n}") for n in (5, 6, 7)
 FILLINGS += [(late(n), 256 * (25 + n) - 1, "refused 10 at 0") for n in (5, 6, 7)]
 FILLINGS += [
     (rule, size, "refused 18 at 0")
-    for rule in (chain(32), late(8), WIDE, counted(6), counted(7), counted(8), counted(20))
+    for rule in (chain(32), late(8), WIDE, counted(6), counted(7), counted(8), counted(20), counted_beside(5))
     for size in (0, 255, FULL_PAGE - 1, FULL_PAGE, TOO_MANY - 1, TOO_MANY, 40000)
 ]
 FILLINGS += [
     (chain(31), 40000, "equations 32"),
     (POOL, 768, "equations 3"),
     (POOL, 767, "refused 10 at 0"),
+    (NEVER_MET, 512, "equations 2"),
+    (NEVER_MET, 511, "refused 10 at 0"),
+    (counted_beside(4), 4352, "equations 17"),
     # there are no short tables on the page
     (PLACES, 1024, "equations 4"),
     (PLACES, 768, "refused 10 at 0"),

@@ -1,6 +1,6 @@
 """What brings the programs to their limits, and what they print of it: typed by hand from the paper."""
 import known_equations
-from known import ANY, POOL, bytes_of
+from known import ANY, EMPTY, POOL, bytes_of
 
 # As many patterns and nodes as there may be, in as many bytes: pattern n covers code n alone, and necessity n waits for
 # code n, or n - 32. After the last of the 63 comes ff.
@@ -23,14 +23,15 @@ def longest_lines():
     return lines
 
 
-# The paper's second family with m = 7 and slot 5 of every kind in place of code 5; and slot 9 is always dropped.
-MANY = ANY + "1 255 5 5 1 255 9 9 6 4 4 5 0 7 0 5 1 " + "5 0 " * 7 + "2 5 2 3"
+# The paper's second family with m = 7 and slot 5 of every kind in place of code 5; slot 9 is always dropped; and there is an ff
+# after an empty pattern.
+MANY = ANY + "1 255 5 5 1 255 9 9 " + EMPTY + "6 4 4 4 5 0 7 0 5 1 " + "5 0 " * 7 + "2 5 2 3 5 3 3"
 
 
 def many_lines():
     """The listing of the rule above: 128 equations of 33 lines each. A scan of slot 5 leads from equation k to 2 × k + 1,
     and any other but one of slot 9 to 2 × k, modulo 128."""
-    lines = ["patterns 3", "p 0 0 256", "p 1 5 8", "p 2 9 8", "equations 128"]
+    lines = ["patterns 4", "p 0 0 256", "p 1 5 8", "p 2 9 8", "p 3 none 0", "equations 128"]
     for k in range(128):
         other, five = 2 * k % 128, (2 * k + 1) % 128
         lines.append(f"{k} 0 4 {other}")

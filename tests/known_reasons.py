@@ -1,7 +1,8 @@
 """Why scans are dropped, typed by hand: the lowest ff node, that the scan is kept, or the refusal.
 Nodes are counted from 0 in reading order, and patterns aren't."""
-from known import ANY, ONE, POOL, bytes_of, counted
-from known_equations import BRANCHES, OVERLAPPING, REQUESTS, ROUND, ROUND_TWICE, SIX
+from known import ANY, ONE, POOL, SIX, bytes_of, counted
+from known_empty import BESIDE, BESIDE_LONGER, NEVER_IN_ONE, NEVER_MET, ROUND_AGAIN, counted_beside
+from known_equations import BRANCHES, OVERLAPPING, REQUESTS, ROUND, ROUND_TWICE
 from known_runs import SECOND
 
 CANCEL = "1 2 5 5 "
@@ -77,6 +78,14 @@ REASONS = [
     (SECOND, "5 6", {6: 7, 5: KEPT}),
     (ONCE, "7 103 199", {103: 8, 102: KEPT}),
     (ONCE, "7 103 199 7", {103: KEPT}),
+    # an ff after an empty pattern is never the reason: not alone, not as the lower one, and not behind a variable
+    (NEVER_MET, "", {5: KEPT, 0: KEPT}),
+    (NEVER_MET, "5 5", {5: KEPT}),
+    (BESIDE, "", {5: 4, 6: KEPT}),
+    (BESIDE_LONGER, "", {5: 7, 6: KEPT}),
+    (NEVER_IN_ONE, "6", {6: 9, 5: KEPT}),
+    (NEVER_IN_ONE, "5", {6: 3}),
+    (ROUND_AGAIN, "5 5", {6: 8, 5: KEPT}),
     # node 63: below 63 necessities, below 62 maxes and one necessity, and as the higher of two
     (CHAIN, "0 " * 61, {0: KEPT, 255: KEPT}),
     (CHAIN, "0 " * 62, {0: 63, 255: 63}),
@@ -102,6 +111,8 @@ UNFIT = [
     (RETURNING, "5", 0),
     (RETURNING, "5 37 5", 0),
     (RETURNING, "37 37 5", 2),
+    (BESIDE, "5", 0),
+    (NEVER_IN_ONE, "6 6", 1),
     (BRANCHES, "5 7", 1),
     (BRANCHES, "5 6 7", 1),
     (SECOND, "5 6 6 7 7", 2),
@@ -128,6 +139,7 @@ REFUSED = [
     (recalling(8), "5 0 0 0 0 0 0 0 6", "refused 9 at 0"),
     (OVER, "0 5 0 0 0 0 0 0 6", "refused 9 at 0"),
     (OVER, "", "refused 9 at 0"),
+    (counted_beside(7), "5", "refused 9 at 0"),
 ]
 
 

@@ -1,8 +1,9 @@
 """Verdicts of sifting, and runs with all that they return and write, typed by hand from the paper. Only the table of
 the number-pool rule is computed, by the Python equations."""
 from equations import rows
-from known import ANY, ONE, POOL, bytes_of
-from known_equations import SEVEN, SIX
+from known import ANY, ONE, POOL, SIX, bytes_of
+from known_empty import NEVER_LATER, ROUND_AGAIN
+from known_equations import SEVEN
 
 # Any code, 5, 6: "6 is never the second code after 5"
 SECOND = ANY + ONE + SIX + "6 4 5 0 7 0 5 1 5 0 5 2 3"
@@ -23,6 +24,9 @@ SIFTED = [
     (SECOND, "5 6 6 6 5 5 6 6 7 6 8 6", "0 0 1 1 0 0 1 1 0 1 0 0"),
     # after a first 5, and any number of 6 and 7, another 5
     (ONE + SIX + SEVEN + "5 0 6 4 5 0 3 4 5 1 7 0 5 2 7 0", "5 5 6 5 7 7 5 8 5", "0 1 0 1 0 0 1 0 0"),
+    # an empty pattern takes no scan, and the ff after it drops none
+    (NEVER_LATER, "5 5 37 5", "0 0 0 0"),
+    (ROUND_AGAIN, "6 5 6 6 5 165 6", "1 0 1 1 0 0 0"),
     # the pool rule: a sync of any phone starts it again, and a cancel of another slot ends it
     (POOL, "37 159 37 5 5 128 37 5", "0 0 0 1 1 0 0 1"),
     (POOL, "37 38 37 5", "0 0 0 0"),

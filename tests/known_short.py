@@ -1,7 +1,8 @@
 """Short tables, typed by hand: rules with the count of their equations before merging and the listing after it, and what short filling answers."""
 import known_equations
-from known import ANY, ONE, POOL, bytes_of, counted
-from known_equations import BRANCHES, OVERLAPPING, PLACES, REQUESTS, ROUND, ROUND_TWICE, SEVEN, SIX, late
+from known import ANY, ONE, POOL, SIX, bytes_of, counted
+from known_empty import BESIDE, NEVER_IN_ONE, NEVER_LATER, NEVER_MET, ROUND_AGAIN, counted_beside
+from known_equations import BRANCHES, OVERLAPPING, PLACES, REQUESTS, ROUND, ROUND_TWICE, SEVEN, late
 
 # "After any code" 63 times, and tt or ff.
 CHAIN = ANY + "5 0 " * 63
@@ -100,12 +101,24 @@ LISTINGS = [
         + ["7 0 255 drop"],
     ),
     (HARD, 127, ["patterns 2", "p 0 0 256", "p 1 32 145", "equations 1", "0 0 255 0"]),
+    # necessities of an empty pattern: where only these tell two equations apart, both drop alike
+    (NEVER_MET, 2, ["patterns 1", "p 0 none 0", "equations 1", "0 0 255 0"]),
+    (NEVER_LATER, 3, ["patterns 2", "p 0 none 0", "p 1 5 1", "equations 1", "0 0 255 0"]),
+    (
+        NEVER_IN_ONE,
+        4,
+        ["patterns 3", "p 0 5 1", "p 1 6 1", "p 2 none 0", "equations 3"]
+        + ["0 0 4 1", "0 5 6 2", "0 7 255 1"]
+        + ["1 0 255 1"]
+        + ["2 0 5 1", "2 6 6 drop", "2 7 255 1"],
+    ),
     (LATER, 128, later_lines()),
     (WHEELS, 120, wheel_lines()),
 ]
 
 # Rules of which no two equations drop alike: the listing is the one that known_equations.py has.
 STAYING = [POOL, "2", ONE + "5 0 3", ROUND, ROUND_TWICE, BRANCHES, REQUESTS, OVERLAPPING + "4 5 0 5 1 3 5 1 3", CHAIN + "3"]
+STAYING += [BESIDE, ROUND_AGAIN]
 
 # What short filling answers with a table of so many bytes: each equation that is left takes 256.
 FILLINGS = [(counted(m), 256, "equations 1") for m in range(8)]
@@ -127,6 +140,9 @@ FILLINGS += [
     (late(27), 32767, "equations 1"),
     (late(27), 255, "refused 10 at 0"),
     (counted(7), 0, "refused 10 at 0"),
+    (NEVER_MET, 256, "equations 1"),
+    (NEVER_MET, 255, "refused 10 at 0"),
+    (counted_beside(6), 256, "equations 1"),
     (LATER, 32768, "equations 128"),
     (LATER, 32767, "refused 10 at 0"),
     # 9 counts before merging, and comes before the table
@@ -136,6 +152,7 @@ FILLINGS += [
     (counted(8), 0, "refused 9 at 0"),
     (counted(8, "3"), 40000, "refused 9 at 0"),
     (counted(8, "3"), 2303, "refused 9 at 0"),
+    (counted_beside(7), 256, "refused 9 at 0"),
     # over 128 for which there would be room
     (late(28), 33024, "refused 9 at 0"),
     (counted(8), 65536, "refused 9 at 0"),

@@ -1,7 +1,6 @@
 """Rules for merging: parts that drop late, so that many equations stay, and equal or nearly equal parts at several places."""
 from equation_shapes import afters, all_hold, drawn, wide_patterns
-from equations import can_drop, rows
-from rules import Refusal
+from equations import is_dropping
 from shapes import ANY, FALSITY, MAX, after, pattern, random_formula, random_patterns, variable
 
 
@@ -40,8 +39,7 @@ def dropping(random, make, count):
     rules = []
     while len(rules) < count:
         rule = drawn(random, make, 1)[0]
-        table = rows(rule)
-        if not isinstance(table, Refusal) and can_drop(table):
+        if is_dropping(rule):
             rules.append(rule)
     return rules
 

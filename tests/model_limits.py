@@ -4,8 +4,8 @@ from compare import expect
 from enforcing import first_drop
 from equation_shapes import counters, drawn, limit_rules
 from equations import MOST_EQUATIONS, rows
-from known import ANY, ONE, bytes_of, counted
-from known_equations import SIX, late
+from known import ANY, ONE, SIX, bytes_of, counted
+from known_equations import late
 from known_models import NEVER, PAPER
 from models import MOST_STATES, MOST_STEPS, SILENT, file_of, read_model
 from model_shapes import drawn_models, renumbered
@@ -104,14 +104,14 @@ def last_step_pairs():
 
 
 def code_pairs():
-    """Every code that a pattern doesn't cover, and one that it does."""
+    """Every code that a pattern doesn't cover, and one that it does. One of the patterns is empty."""
     found = []
-    for mask, first, last in ((170, 3, 20), (128, 31, 31), (1, 0, 0), (127, 0, 31), (254, 0, 31), (85, 30, 2), (3, 31, 0)):
+    for mask, first, last in ((170, 3, 20), (128, 31, 31), (1, 0, 0), (127, 0, 31), (254, 0, 31), (85, 30, 2), (3, 31, 0), (0, 3, 20)):
         rule = pattern(mask, first, last) + after(0) + FALSITY
         covered = sorted(read_rule(rule).patterns[0].codes())
         others = [(0, code, 63) for code in range(256) if code not in covered]
-        for code in (None, covered[0], covered[-1], covered[len(covered) // 2]):
-            found.append((rule, file_of(64, others + ([] if code is None else [(0, code, 63)]))))
+        for some in [[]] + [[covered[at]] for at in (0, -1, len(covered) // 2) if covered]:
+            found.append((rule, file_of(64, others + [(0, code, 63) for code in some])))
     return found
 
 

@@ -1,15 +1,16 @@
 """The rules, the kept scans and the scans of which it is asked why they are dropped. They are the same each time."""
 from random import Random
 
+import empty_pairs
 import known_reasons
 import stream_cases
 from compare import expect
 from equation_shapes import counters, drawn, limit_rules, tangled
-from equations import CODES, can_drop, rows
+from equations import CODES, is_dropping, rows
 from known import POOL, bytes_of
 from reason_shapes import branches, filled_up, node_count, returning, with_faults
 from reasons import KEPT, by_violation, places_of
-from rules import Refusal, read_rule
+from rules import read_rule
 from shapes import FALSITY, TRUTH
 from stream_plays import RATES
 from stream_scans import steered
@@ -31,7 +32,7 @@ def is_node(answer):
 
 def dropping(rules):
     """Those of the rules that are accepted and can drop a scan."""
-    return [rule for rule in rules if not isinstance(rows(rule), Refusal) and can_drop(rows(rule))]
+    return [rule for rule in rules if is_dropping(rule)]
 
 
 def points(random, data, length, rate):
@@ -60,6 +61,18 @@ def drawn_cases(random):
         cases += points(random, data, random.randrange(4, 24), RATES[number % len(RATES)])
     for data in shaped_rules(random):
         cases += points(random, data, 24, 0.3) + points(random, data, random.randrange(4, 16), 0.7)
+    return cases
+
+
+def pair_cases(random):
+    """Short streams of rules with empty patterns, and the same of the rules that differ from these after empty patterns
+    alone: a scan is dropped under both or under none."""
+    cases = []
+    for one, other in empty_pairs.pairs()[1::3]:
+        for data, kept, scan in points(random, one, 16, 0.5):
+            two = [(data, kept, scan), (other, kept, scan)]
+            expect(len({is_node(by_violation(*case)) for case in two}) == 1, "a pair", *map(list, two[0][:2]), list(other), scan)
+            cases += two
     return cases
 
 
@@ -147,7 +160,7 @@ def cases():
     """Every case."""
     random = Random("reasons")
     every = [(data, kept, scan) for data, kept, scan, _ in known_reasons.answers()]
-    every += drawn_cases(random) + long_cases(random) + limit_cases(random)
+    every += drawn_cases(random) + pair_cases(random) + long_cases(random) + limit_cases(random)
     dropped = [case for case in every if is_node(by_violation(*case))]
     every += unfit_cases(random, dropped) + refused_cases(random, dropped)
     return with_neighbours(random, every)

@@ -2,7 +2,7 @@
 with one fault for each refusal."""
 from equation_shapes import afters, all_hold, wide_patterns
 from rules import MOST_NODES, numbered, read_rule
-from shapes import ANY, BOTH, FALSITY, MAX, ONE, TRUTH, after, pattern, variable
+from shapes import ANY, BOTH, FALSITY, MAX, ONE, TRUTH, after, pattern, random_mask, variable
 
 
 def parted(rule):
@@ -42,7 +42,7 @@ def brought_in(random, outer, deeper):
 
 def returning(random):
     """Maxes in maxes. A variable brings in ff nodes again, some of lower numbers than the one beside it."""
-    forbidden = pattern(random.randrange(1, 8), 0, random.randrange(9, 20)) + pattern(7, 5, random.randrange(5, 32))
+    forbidden = pattern(random_mask(random, 7), 0, random.randrange(9, 20)) + pattern(7, 5, random.randrange(5, 32))
     leading = pattern(56, 0, 31) + pattern(random.choice([24, 40, 255]), 0, 31)
     return forbidden + leading + brought_in(random, 0, random.randrange(5))
 
@@ -69,7 +69,7 @@ def with_faults(rule):
         2: beside + bytes([8]),
         3: rule + TRUTH,
         4: patterns + MAX + filled_up(rule)[len(patterns) :],
-        5: patterns + pattern(0, 5, 5) + formula,
+        5: patterns + pattern(1, 5, 32) + formula,
         6: beside + after(count) + TRUTH,
         7: beside + MAX + variable(0),
         8: beside + FALSITY,

@@ -46,11 +46,19 @@ class Pattern:
     def goes_round(self):
         return self.first > self.last
 
+    def is_empty(self):
+        return not self.codes()
+
     def lowest(self):
-        return min(self.codes())
+        """The lowest code, or None where there is no code."""
+        return min(self.codes(), default=None)
 
     def count(self):
         return len(self.codes())
+
+    def extent(self):
+        """The lowest code and the count, as they are printed."""
+        return f"{'none' if self.lowest() is None else self.lowest()} {self.count()}"
 
 
 # The formulas. Each class has the kind of its node. Equal parts at two places are two nodes: they are told apart.
@@ -149,7 +157,7 @@ class Reader:
 
     def pattern(self, record):
         mask, first, last = record.body
-        if mask == 0 or first >= SLOTS or last >= SLOTS:
+        if first >= SLOTS or last >= SLOTS:
             raise Refusal(5, record.place)
         return Pattern(mask, first, last)
 

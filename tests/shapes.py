@@ -28,16 +28,21 @@ LONGEST = FULL + after(31) * 64
 
 def telling_patterns():
     """Patterns with every mask, some of which go round, and with every two slots."""
-    masks = [pattern(mask, mask % 7, mask % 25) for mask in range(1, 256)]
+    masks = [pattern(mask, mask % 7, mask % 25) for mask in range(256)]
     slots = [pattern(1 << (first + last) % 8, first, last) for first in range(32) for last in range(32)]
     return masks + slots
+
+
+def random_mask(random, most=255):
+    """The mask of a pattern: 0, so that the pattern is empty, for one in eight, and else any up to the most."""
+    return 0 if random.randrange(8) == 0 else random.randrange(1, most + 1)
 
 
 def round_pattern(random):
     """A pattern that goes round: with two slots, with all 32, or with any number."""
     first = random.choice([31, random.randrange(1, 32), random.randrange(1, 32)])
     last = random.choice([0, first - 1, random.randrange(first)])
-    return pattern(random.randrange(1, 256), first, last)
+    return pattern(random_mask(random), first, last)
 
 
 def random_pattern(random):
@@ -45,7 +50,7 @@ def random_pattern(random):
         return round_pattern(random)
     first = random.choice([0, 31, random.randrange(32)])
     last = random.choice([first, 31, random.randrange(first, 32)])
-    return pattern(random.randrange(1, 256), first, last)
+    return pattern(random_mask(random), first, last)
 
 
 def random_patterns(random, count):

@@ -1,6 +1,7 @@
 """The rules and the tables on which runs are tried. They are the same each time."""
 from random import Random
 
+import empty_pairs
 import known_runs
 import table_cases
 from compare import Disagreement, expect
@@ -8,7 +9,7 @@ from equations import can_drop, rows
 from known import ANY, ONE, POOL, bytes_of, counted
 from known_equations import BRANCHES
 from rules import Refusal
-from stream_plays import RATES, play_every_way, play_foreign, play_long, play_next_row, play_refused_rule, play_rule
+from stream_plays import RATES, play_every_way, play_foreign, play_long, play_next_row, play_pair, play_refused_rule, play_rule
 from stream_script import Script
 
 # One file for each refusal of a rule, but for the one that is about the table.
@@ -22,12 +23,12 @@ LONG = [(POOL, 3000), (known_runs.SECOND, 65536), (ANY + ONE + "6 4 5 0 7 0 5 1 
 
 
 def rule_files():
-    """The rules that are accepted: those that can drop a scan, and some that can't."""
+    """The rules that are accepted: those that can drop a scan, some that can't, and some with necessities of empty patterns."""
     every = [(data, rows(data)) for data in table_cases.files()]
     accepted = [(data, table) for data, table in every if not isinstance(table, Refusal)]
     dropping = [data for data, table in accepted if can_drop(table)]
     others = [data for data, table in accepted if not can_drop(table)]
-    return dropping + others[::8]
+    return dropping + others[::8] + [one for one, _ in empty_pairs.pairs()[::2]]
 
 
 def play_typed(script):
@@ -48,6 +49,8 @@ def whole_script():
             play_rule(random, script, number, data)
         except Disagreement as disagreement:
             raise Disagreement(list(data)) from disagreement
+    for number, pair in enumerate(empty_pairs.pairs()):
+        play_pair(random, script, number, pair)
     for text in (POOL, known_runs.SECOND, BRANCHES):
         play_every_way(random, script, bytes_of(text))
         play_next_row(random, script, bytes_of(text))

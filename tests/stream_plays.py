@@ -29,7 +29,7 @@ def fit_call(random, script, scans):
 
 def play(random, script, rule, split):
     """A stream from its start, split into calls. Between them stand some that are refused, and some bytes behind the
-    rows are changed."""
+    rows are changed. Gives the verdicts."""
     script.begin()
     sifting = Sifting(rule)
     given = b""
@@ -46,6 +46,7 @@ def play(random, script, rule, split):
     script.tally["streams"] += 1
     script.tally["streams that are kept"] += 1 not in given
     script.tally["streams that are dropped"] += 0 not in given
+    return given
 
 
 def play_rule(random, script, number, data):
@@ -63,6 +64,18 @@ def play_rule(random, script, number, data):
         ways = [[scans], halves(random, scans), singles(scans[:14])]
         ways += [pieces(random, scans, most) for most in (4, 12)]
         play(random, script, rule, ways[turn // len(RATES) % len(ways)])
+
+
+def play_pair(random, script, number, pair):
+    """One stream, split in one way, under two rules that drop alike. It is made for one of them by turns."""
+    scans = steered(random, read_rule(pair[number % 2]), random.randrange(8, 33), RATES[number % len(RATES)])
+    split = pieces(random, scans, 12)
+    verdicts = []
+    for data in pair:
+        script.fill(data)
+        verdicts.append(play(random, script, read_rule(data), split))
+    expect(verdicts[0] == verdicts[1], "a pair", list(pair[0]), list(pair[1]), list(scans))
+    script.tally["pairs"] += 1
 
 
 def play_every_way(random, script, data):

@@ -6,20 +6,21 @@ from sifting import Sifting, is_violated
 
 
 def ends(random, pattern):
-    """The codes at both edges of a pattern, and those beside them. One that goes round has its edges within a kind."""
+    """The codes at both edges of a pattern, and those beside them. One that goes round has its edges within a kind; one
+    that is empty has its slots, and these within any kind."""
     covered = sorted(pattern.codes())
-    if not pattern.goes_round():
+    if covered and not pattern.goes_round():
         return {covered[0], covered[-1], (covered[0] - 1) % 256, (covered[-1] + 1) % 256}
-    kind = random.choice(covered) // SLOTS
-    slots = [pattern.first, pattern.last, pattern.first - 1, (pattern.last + 1) % SLOTS]
+    kind = random.choice(covered or range(256)) // SLOTS
+    slots = [pattern.first, pattern.last, (pattern.first - 1) % SLOTS, (pattern.last + 1) % SLOTS]
     return {SLOTS * kind + slot for slot in slots}
 
 
 def candidates(random, rule):
-    """Codes at the edges of the patterns and beside them, one inside each, and a few of any kind."""
+    """Codes at the edges of the patterns and beside them, one inside each that isn't empty, and a few of any kind."""
     codes = {random.randrange(256) for _ in range(3)}
     for pattern in rule.patterns:
-        codes |= ends(random, pattern) | {random.choice(sorted(pattern.codes()))}
+        codes |= ends(random, pattern) | {*random.sample(sorted(pattern.codes()), min(pattern.count(), 1))}
     return sorted(codes)
 
 

@@ -2,6 +2,7 @@
 from random import Random
 
 import cases
+import empty_pairs
 import known
 import known_equations
 import known_page
@@ -46,7 +47,7 @@ def rule_files(random):
     files = families() + pattern_rules(random) + longest_rules(random) + random_rules(random)
     for nodes in range(1, 6):
         files += small_rules(nodes)
-    files += small_rules(6)[::9] + small_rules(7)[::41]
+    files += small_rules(6)[::10] + small_rules(7)[::41]
     return files + drawn(random, counters, 250) + drawn(random, tangled, 350) + limit_rules(random)
 
 
@@ -57,10 +58,11 @@ def files():
 
 
 def every_file():
-    """These files and more, which are for the short tables and for the rule page."""
+    """These files and more, which are for the short tables, for the rule page and for empty patterns."""
     typed = known_short.listings() + known_short.fillings() + known_page.listings() + known_page.fillings()
     more = [file for file, *answer in typed if len(file) <= MOST_BYTES]
     more += merging_rules(Random("merging")) + page_rules(Random("page"))
+    more += [file for pair in empty_pairs.pairs() for file in pair]
     return list(dict.fromkeys(files() + more))
 
 
@@ -97,7 +99,7 @@ def with_sizes(every):
     sized += [(size, file) for file, size, answer in known_equations.fillings() + known_short.fillings() + known_page.fillings()]
     listings = known_equations.listings() + known_short.listings()
     listed = [file for file, *answer in listings if len(file) <= MOST_BYTES]
-    sized += [(size, file) for file in listed + every[::25] for size in all_sizes(file)]
+    sized += [(size, file) for file in listed + every[::60] for size in all_sizes(file)]
     at_limit = [file for file in every if count_of(file) in PAGE_EDGES]
     sized += [(size, file) for file in at_limit[::4] for size in page_sizes(file)]
     return list(dict.fromkeys(sized + [(size, file) for file in listed[::5] for size in ROW_SIZES]))

@@ -10,7 +10,7 @@ from collections import Counter
 import compare_models
 import model_cases
 import stream_cases
-from compare import check_round, expect
+from compare import check_patterns, expect
 from compare_models import BY_SILENCE
 from equations import CODES, rows
 from expected import digest, fresh_table, is_check, settle, three_bytes, told
@@ -69,7 +69,7 @@ def main():
     expect(tally[BY_SILENCE] >= LEAST_BY_SILENCE, told(tally))
     parts = Counter(refused_parts(*case) for case in cases)
     expect(len(parts) == 8 and min(parts.values()) >= LEAST_REFUSED, told(parts))
-    check_round(judged)
+    check_patterns(judged)
     settle("judgments", b"".join(input_of(*case) for case in cases), lines, checks)
     print(f"small models compared: {told(compared)}")
     print(f"{len(cases)} cases: {told(tally)}; the latest break is at pair {latest}")

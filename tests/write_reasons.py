@@ -8,7 +8,7 @@ is written, and the files are compared with what would be.
 import compare_reasons
 import reason_cases
 import table_cases
-from compare import check_round
+from compare import check_patterns
 from expected import is_check, settle, three_bytes, told
 
 
@@ -22,7 +22,7 @@ def main():
     answers = {case: compare_reasons.reason(*case) for case in reason_cases.cases()}
     compare_reasons.check_neighbours(answers)
     tally = compare_reasons.tally(answers)
-    check_round(rule for rule, _, _ in answers)
+    check_patterns(rule for rule, _, _ in answers)
     settle("reasons", b"".join(input_of(*case) for case in answers), answers.values(), checks)
     print(f"{rules} rules compared on {lists} lists of codes")
     print(f"{len(answers)} cases: {told(tally)}")

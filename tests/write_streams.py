@@ -7,14 +7,14 @@ be.
 """
 import compare_runs
 import stream_cases
-from compare import check_round
+from compare import check_patterns
 from expected import is_check, settle
 
 
 def main():
     checks = is_check(__doc__)
     compare_runs.check_typed()
-    check_round(stream_cases.rule_files())
+    check_patterns(stream_cases.rule_files())
     script = stream_cases.whole_script()
     settle("streams", bytes(script.stdin), script.lines, checks)
     print(", ".join(f"{number} {what}" for what, number in sorted(script.tally.items())))

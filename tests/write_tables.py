@@ -5,8 +5,10 @@ Each case on the standard input of `tables` is a table's size and a file's lengt
 and then the rule file. Each case has one line on its standard output. With --check nothing is written, and the files
 are compared with what would be.
 """
+import compare_empty
 import compare_page
 import compare_short
+import empty_pairs
 import known_programs
 import table_cases
 from compare import check, expect
@@ -50,6 +52,7 @@ def main():
     checks = is_check(__doc__)
     files = table_cases.every_file()
     rules, lists = check(files)
+    telling = compare_empty.check(empty_pairs.pairs())
     tally = compare_short.check(files)
     cases = table_cases.with_sizes(files)
     compare_page.check(cases)
@@ -62,6 +65,7 @@ def main():
         expect(listing(data) == text, program, listing(data))
         settle(program, data, text.splitlines(), checks)
     print(f"{rules} rules compared on {lists} lists of codes, {len(cases)} cases: {told(tally)}")
+    print(f"{len(empty_pairs.pairs())} pairs that differ after empty patterns, {telling} streams that would tell them apart if these had all kinds")
 
 
 if __name__ == "__main__":

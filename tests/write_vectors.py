@@ -18,7 +18,7 @@ def line_of(data):
         return str(answer)
     words = ["accepted"]
     for p in answer.patterns:
-        words.append(f"p {p.mask} {p.first} {p.last} {p.lowest()} {p.count()} {sum(p.codes())}")
+        words.append(f"p {p.mask} {p.first} {p.last} {p.extent()} {sum(p.codes())}")
     for kind, argument in numbered(answer.formula):
         words.append(f"n {kind} {argument}")
     return " ".join(words)

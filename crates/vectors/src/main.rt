@@ -4,6 +4,7 @@ use libc::STDIN_FILENO;
 use libc::STDOUT_FILENO;
 use reading::Extent;
 use reading::FileRead;
+use reading::Lowest;
 use reading::NumberedRule;
 use reading::Pattern;
 use reading::Reading;
@@ -25,12 +26,25 @@ fn sum_of_codes(p: Pattern) -> u64 {
     sum
 }
 
+// A space and the lowest code of a pattern, or that there is none.
+fn print_lowest(lowest: Lowest) {
+    match lowest {
+        Lowest::Code(code) => {
+            print_field(code as u64);
+        }
+        Lowest::Absent => {
+            io::write_all(STDOUT_FILENO, b" none");
+        }
+    }
+}
+
 fn print_pattern(p: Pattern, e: Extent) {
+    let lowest = e.lowest;
     io::write_all(STDOUT_FILENO, b" p");
     print_field(p.mask as u64);
     print_field(p.first as u64);
     print_field(p.last as u64);
-    print_field(e.lowest as u64);
+    print_lowest(lowest);
     print_field(e.count as u64);
     print_field(sum_of_codes(p));
 }
@@ -41,7 +55,9 @@ fn print_patterns(rule: NumberedRule) {
     let n = rule.npatterns;
     let mut i = 0;
     while i < 32 && i < n {
-        print_pattern(patterns[i], extents[i]);
+        let pattern = patterns[i];
+        let extent = extents[i];
+        print_pattern(pattern, extent);
         i += 1;
     }
 }

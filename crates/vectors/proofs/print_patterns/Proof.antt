@@ -13,17 +13,17 @@ abbrev μ-loop : tie.MeasureT-loop
 loop-holds : tie.Need-loop-holds Inv-loop μ-loop
 loop-holds c = tt
 
-mul-print-pattern : tie.Need-mul-print-pattern Inv-loop μ-loop
-mul-print-pattern c = omega arith
+mul-pattern : tie.Need-mul-pattern Inv-loop μ-loop
+mul-pattern c = omega arith
 
-array-copy-out-print-pattern : tie.Need-array-copy-out-print-pattern Inv-loop μ-loop
-array-copy-out-print-pattern c = omega arith
+array-copy-out-pattern : tie.Need-array-copy-out-pattern Inv-loop μ-loop
+array-copy-out-pattern c = omega arith
 
-mul-print-pattern-2 : tie.Need-mul-print-pattern-2 Inv-loop μ-loop
-mul-print-pattern-2 c = omega arith
+mul-extent : tie.Need-mul-extent Inv-loop μ-loop
+mul-extent c = omega arith
 
-array-copy-out-print-pattern-2 : tie.Need-array-copy-out-print-pattern-2 Inv-loop μ-loop
-array-copy-out-print-pattern-2 c = omega arith
+array-copy-out-extent : tie.Need-array-copy-out-extent Inv-loop μ-loop
+array-copy-out-extent c = omega arith
 
 print-pattern-requires : tie.Need-print-pattern-requires Inv-loop μ-loop
 print-pattern-requires c κs = tt
@@ -50,10 +50,10 @@ print-patterns-spec =
     Inv-loop
     μ-loop
     loop-holds
-    mul-print-pattern
-    array-copy-out-print-pattern
-    mul-print-pattern-2
-    array-copy-out-print-pattern-2
+    mul-pattern
+    array-copy-out-pattern
+    mul-extent
+    array-copy-out-extent
     print-pattern-requires
     add-i
     loop-less
