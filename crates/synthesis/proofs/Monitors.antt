@@ -5,3 +5,4 @@ pub mod RuleMonitor
 pub mod MonitorLaws
 pub mod Renaming
 pub mod DroppingAlike
+pub mod Corresponding
