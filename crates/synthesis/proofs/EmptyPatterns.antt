@@ -2,3 +2,4 @@
 pub mod AlikeLaws
 pub mod Places
 pub mod Tables
+pub mod SameTables

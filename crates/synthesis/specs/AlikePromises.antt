@@ -10,7 +10,7 @@ use Rattle.synthesis.specs.Violation.{ViolatesRule}
 use Rattle.synthesis.specs.Alike.{RulesAlike, AfterEmpty}
 use Rattle.synthesis.specs.Monitor.{Answer, Monitors, rowOf}
 use Rattle.synthesis.specs.Merging.{DropAlike}
-use Rattle.synthesis.specs.Building.{synthesisOf, countedOf, FillsShort}
+use Rattle.synthesis.specs.Building.{synthesisOf, countedOf, Fills, FillsShort}
 use Rattle.synthesis.specs.Reason.{ViolatesAt, explanationOf, reasonOf}
 use Rattle.synthesis.specs.declared.Counted.the-variants.{Refused}
 use Rattle.synthesis.specs.declared.Reason.the-variants.{Node}
@@ -33,6 +33,12 @@ UnsatisfiableAlike =
     (limit limit′ : ℕ) (s s′ : List ℕ) → Bytes s → Bytes s′ → (r r′ : Rule) → ruleOf s ≡ accepted r → ruleOf s′ ≡ accepted r′ → RulesAlike r r′
     → (countedOf (synthesisOf limit s) ≡ Refused 8 0) ↔ (countedOf (synthesisOf limit′ s′) ≡ Refused 8 0)
 
+-- Counting answers the same of two files with such rules: the same count, or the same refusal.
+abbrev pub CountedAlike : Type 0
+CountedAlike =
+    (limit : ℕ) (s s′ : List ℕ) → Bytes s → Bytes s′ → (r r′ : Rule) → ruleOf s ≡ accepted r → ruleOf s′ ≡ accepted r′ → RulesAlike r r′
+    → countedOf (synthesisOf limit s) ≡ countedOf (synthesisOf limit s′)
+
 -- No reason for a dropped scan stands after an empty pattern.
 abbrev pub NoReasonAfterEmpty : Type 0
 NoReasonAfterEmpty =
@@ -47,7 +53,14 @@ MonitorsAlike =
     (r r′ : Rule) → RulesAlike r r′ → (E F : Type 0) (answer : E → ℕ → Answer E) (first : E) (answer′ : F → ℕ → Answer F) (first′ : F)
     → Monitors r answer first → Monitors r′ answer′ first′ → DropAlike 256 answer first answer′ first′
 
--- The short tables of two such rules have as many rows, and these are the same byte for byte.
+-- The tables of two such rules have as many rows, and these are the same byte for byte: the long tables,
+abbrev pub TablesAlike : Type 0
+TablesAlike =
+    (limit limit′ mark : ℕ) (s table : List ℕ) (r : Rule) (n : ℕ) (left : List ℕ) → Fills limit mark s table r n left
+    → (s′ table′ : List ℕ) (r′ : Rule) (n′ : ℕ) (left′ : List ℕ) → Fills limit′ mark s′ table′ r′ n′ left′ → RulesAlike r r′
+    → (n ≡ n′) × ((k : ℕ) → k < n → rowOf 256 left k ≡ rowOf 256 left′ k)
+
+-- and the short ones.
 abbrev pub ShortTablesAlike : Type 0
 ShortTablesAlike =
     (limit limit′ mark : ℕ) (s table : List ℕ) (r : Rule) (n : ℕ) (left : List ℕ) → FillsShort limit mark s table r n left

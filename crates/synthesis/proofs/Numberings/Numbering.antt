@@ -1,5 +1,6 @@
--- There is only one closed list of distinct equations that are numbered as found: where two such lists agree so far, their next equations are found
--- by the same code, and so agree too. Under new names, each equation its own, such a list is one again.
+-- There is only one closed list of distinct equations that are numbered as found, and monitors whose equations correspond have lists that correspond one
+-- by one: where two such lists are pairs so far, their next equations are found by the same code, and so are a pair too. Under new names, each equation
+-- its own, such a list is one again.
 use Prim.Native.Nat.{ℕ, zero, suc, _≤_, _<_}
 use mathlib.Core.Path.{_≡_, sym, _∙_, ap}
 use mathlib.Core.Logic.{inl, inr}
@@ -13,7 +14,8 @@ use Rattle.synthesis.specs.Monitor.{Answer, next}
 use Rattle.synthesis.specs.Answering.{firstOf, answerOf}
 use Rattle.synthesis.specs.Promises.{Before, FoundBy, AsFound, OneNumbering}
 use Rattle.synthesis.proofs.Monitors.Renaming.{Renames, renamed-from}
-use Rattle.synthesis.proofs.Numberings.Tabulating.{tabulate-length, tabulate-at}
+use Rattle.synthesis.proofs.Monitors.Corresponding.{Corresponds, both-lead, corresponds-back, leads-on, corresponds-same}
+use Rattle.synthesis.proofs.Numberings.Tabulating.{Injective, tabulate-length, tabulate-at}
 use Rattle.synthesis.proofs.Numberings.FindingOrder.{before-le}
 
 -- ---- the next equation of two lists
@@ -34,58 +36,75 @@ module _ (codes : ℕ) (answer : ℕ → ℕ → Answer ℕ) (first : ℕ) where
     pub follows : (i c e : ℕ) → i < length l → c < codes → answer (getD l i 0) c ≡ next e → (j : ℕ) × (j < length l) × (getD l j 0 ≡ e)
     pub as-found : AsFound codes answer first l
 
-  -- the first n of two lists are the same
-  abbrev Agree : ℕ → List ℕ → List ℕ → Type 0
-  Agree n l m = (i : ℕ) → i < n → getD l i 0 ≡ getD m i 0
+-- the first n of two lists are pairs
+abbrev pub Pairs : (R : ℕ → ℕ → Type 0) → (l l′ : List ℕ) → ℕ → Type 0
+Pairs R l l′ n = (i : ℕ) → i < n → R (getD l i 0) (getD l′ i 0)
 
-  -- where the first n are the same, the next of one list isn't found before the next of the other
-  next-not-before : (n : ℕ) (l m : List ℕ) → Numbering l → n < length l → Agree n l m
-      → (f : FoundBy codes answer l n) (g : FoundBy codes answer m n) → Before (f .equation) (f .code) (g .equation) (g .code) → ⊥
-  next-not-before n l m x h same f g b =
-      let k = g .before (f .equation) (f .code) (getD l n 0) b (f .is-code) (rw (← same (f .equation) (f .earlier)) (f .leads)) in
-      omega (arith, k .1, x .distinct (k .0) n (omega (arith, k .1)) h (same (k .0) (k .1) ∙ k .2))
+module _ {codes : ℕ} {answer answer′ : ℕ → ℕ → Answer ℕ} {R : ℕ → ℕ → Type 0} {first first′ : ℕ}
+    (both : Corresponds codes answer answer′ R first first′) (l l′ : List ℕ) (distinct : Injective (λ i. getD l i 0) (length l)) where
+  -- where the first n are pairs, the next of one list isn't found before the next of the other
+  next-not-before : (n : ℕ) → n < length l → Pairs R l l′ n
+      → (f : FoundBy codes answer l n) (g : FoundBy codes answer′ l′ n) → Before (f .equation) (f .code) (g .equation) (g .code) → ⊥
+  next-not-before n h pairs f g b =
+      let (e′, led, pair) = leads-on both (pairs (f .equation) (f .earlier)) (f .is-code) (f .leads) in
+      let (k, less, is) = g .before (f .equation) (f .code) e′ b (f .is-code) led in
+      let same : getD l k 0 ≡ getD l n 0 = both .other-one _ _ e′ (rw is at (pairs k less)) pair in
+      omega (arith, less, distinct k n (omega (arith, less)) h same)
 
-  module _ (l m : List ℕ) (x : Numbering l) (y : Numbering m) where
-    -- so the next are found by the same code, and are the same too
-    next-same : (n : ℕ) → n < length l → n < length m → Agree n l m → getD l n 0 ≡ getD m n 0
-    next-same zero h h′ same = x .as-found .starts ∙ sym (y .as-found .starts)
-    next-same (suc n) h h′ same = on (x .as-found .found (suc n) (omega arith) h) (y .as-found .found (suc n) (omega arith) h′)
-      where
-        on : FoundBy codes answer l (suc n) → FoundBy codes answer m (suc n) → getD l (suc n) 0 ≡ getD m (suc n) 0
-        on f g =
-            let f-first = next-not-before (suc n) l m x h same f g in
-            let g-first = next-not-before (suc n) m l y h′ (λ i b. sym (same i b)) g f in
-            let (j, c) = not-before-same (f .equation) (f .code) (g .equation) (g .code) f-first g-first in
-            cc (same (f .equation) (f .earlier), f .leads, g .leads)
+module _ {codes : ℕ} {answer answer′ : ℕ → ℕ → Answer ℕ} {R : ℕ → ℕ → Type 0} {first first′ : ℕ}
+    (both : Corresponds codes answer answer′ R first first′) (l l′ : List ℕ) (distinct : Injective (λ i. getD l i 0) (length l))
+    (distinct′ : Injective (λ i. getD l′ i 0) (length l′)) (found : AsFound codes answer first l) (found′ : AsFound codes answer′ first′ l′) where
+  -- so the next are found by the same code, and are a pair too
+  next-pair : (n : ℕ) → n < length l → n < length l′ → Pairs R l l′ n → R (getD l n 0) (getD l′ n 0)
+  next-pair zero h h′ pairs = rw (found .starts, found′ .starts) (both .starts)
+  next-pair (suc n) h h′ pairs = on (found .found (suc n) (omega arith) h) (found′ .found (suc n) (omega arith) h′)
+    where
+      on : FoundBy codes answer l (suc n) → FoundBy codes answer′ l′ (suc n) → R (getD l (suc n) 0) (getD l′ (suc n) 0)
+      on f g =
+          let f-first = next-not-before both l l′ distinct (suc n) h pairs f g in
+          let g-first = next-not-before (corresponds-back both) l′ l distinct′ (suc n) h′ pairs g f in
+          let (j, c) = not-before-same (f .equation) (f .code) (g .equation) (g .code) f-first g-first in
+          let led′ : answer′ (getD l′ (f .equation) 0) (f .code) ≡ next (getD l′ (suc n) 0) = rw (j, c) (g .leads) in
+          both-lead (rw (f .leads, led′) at (both .steps _ _ (f .code) (pairs (f .equation) (f .earlier)) (f .is-code)))
 
-    agree : (n : ℕ) → n ≤ length l → n ≤ length m → Agree n l m
-    agree zero h h′ i b = absurd (omega arith)
-    agree (suc n) h h′ i b = on (decLt i n) (agree n (omega arith) (omega arith))
-      where
-        on : Dec (i < n) → Agree n l m → getD l i 0 ≡ getD m i 0
-        on (yes a) same = same i a
-        on (no a) same = let z : i ≡ n = omega arith in rw z (next-same n h h′ same)
+  pairs-below : (n : ℕ) → n ≤ length l → n ≤ length l′ → Pairs R l l′ n
+  pairs-below zero h h′ i b = absurd (omega arith)
+  pairs-below (suc n) h h′ i b = on (decLt i n) (pairs-below n (omega arith) (omega arith))
+    where
+      on : Dec (i < n) → Pairs R l l′ n → R (getD l i 0) (getD l′ i 0)
+      on (yes a) pairs = pairs i a
+      on (no a) pairs = let z : i ≡ n = omega arith in rw z (next-pair n h h′ pairs)
 
-    -- ---- the lists have one length
+  -- ---- the lists have one length
 
-    -- what would stand behind the last of a closed list is in it
-    length-no-longer : length m ≤ length l
-    length-no-longer = on (decLt (length l) (length m))
-      where
-        on : Dec (length l < length m) → length m ≤ length l
-        on (yes a) =
-            let same = agree (length l) (omega arith) (omega arith) in
-            let g = y .as-found .found (length l) (x .as-found .some) a in
-            let led : answer (getD l (g .equation) 0) (g .code) ≡ next (getD m (length l) 0) = rw (same (g .equation) (g .earlier)) (g .leads) in
-            let k = x .follows (g .equation) (g .code) (getD m (length l) 0) (g .earlier) (g .is-code) led in
-            let z : k .0 ≡ length l = y .distinct (k .0) (length l) (omega (arith, k .1)) a (sym (same (k .0) (k .1)) ∙ k .2) in
-            absurd (omega (arith, k .1, z))
-        on (no a) = omega arith
+  -- What would stand behind the last of a closed list is paired with one that is in it. The other list may be one that isn't closed yet.
+  pub closed-longest : Numbering codes answer first l → length l′ ≤ length l
+  closed-longest x = on (decLt (length l) (length l′))
+    where
+      on : Dec (length l < length l′) → length l′ ≤ length l
+      on (yes a) =
+          let pairs = pairs-below (length l) (omega arith) (omega arith) in
+          let g = found′ .found (length l) (found .some) a in
+          let (e, led, pair) = leads-on (corresponds-back both) (pairs (g .equation) (g .earlier)) (g .is-code) (g .leads) in
+          let (k, less, is) = x .follows (g .equation) (g .code) e (g .earlier) (g .is-code) led in
+          let same : getD l′ k 0 ≡ getD l′ (length l) 0 = both .one-other e _ _ (rw is at (pairs k less)) pair in
+          absurd (omega (arith, less, distinct′ k (length l) (omega (arith, less)) a same))
+      on (no a) = omega arith
 
-  pub numberings-same : (l m : List ℕ) → Numbering l → Numbering m → l ≡ m
-  numberings-same l m x y =
-      let long : length l ≡ length m = omega (arith, length-no-longer l m x y, length-no-longer m l y x) in
-      ext-getD 0 l m long (agree l m x y (length l) (omega arith) (omega arith))
+-- Two such lists of two monitors whose equations correspond have one length, and are pairs, one by one.
+pub numberings-correspond : {codes : ℕ} {answer answer′ : ℕ → ℕ → Answer ℕ} {R : ℕ → ℕ → Type 0} {first first′ : ℕ}
+    → Corresponds codes answer answer′ R first first′ → (l l′ : List ℕ) → Numbering codes answer first l → Numbering codes answer′ first′ l′
+    → (length l ≡ length l′) × Pairs R l l′ (length l)
+numberings-correspond both l l′ x y =
+    let few = closed-longest both l l′ (x .distinct) (y .distinct) (x .as-found) (y .as-found) x in
+    let many = closed-longest (corresponds-back both) l′ l (y .distinct) (x .distinct) (y .as-found) (x .as-found) y in
+    (omega arith, pairs-below both l l′ (x .distinct) (y .distinct) (x .as-found) (y .as-found) (length l) (omega arith) (omega arith))
+
+pub numberings-same : (codes : ℕ) (answer : ℕ → ℕ → Answer ℕ) (first : ℕ) (l m : List ℕ)
+    → Numbering codes answer first l → Numbering codes answer first m → l ≡ m
+numberings-same codes answer first l m x y =
+    let (long, same) = numberings-correspond (corresponds-same codes answer first) l m x y in
+    ext-getD 0 l m long same
 
 pub one-numbering : OneNumbering
 one-numbering r es es′ x y f g =

@@ -24,6 +24,7 @@ use Rattle.synthesis.specs.Building.{equationsOf, Synthesis, withEquatio
 use Rattle.synthesis.specs.Promises.{WellFormedFormula, Counts, AnswersCount, Closed, RefusesTooMany, ReachableEquations, ReachesEquations}
 use Rattle.synthesis.specs.declared.Counted.the-variants.{Equations, Refused}
 use Rattle.synthesis.proofs.Numberings.Indices.{Member, index-is, index-first, member-at, Distinct, distinct-indices, distinct-fits}
+use Rattle.synthesis.proofs.Numberings.Tabulating.{Injective}
 use Rattle.synthesis.proofs.Numberings.Finding.{ClosedUnder, found-closed, found-inside, ReachedBy, found-reached, found-all}
 use Rattle.synthesis.proofs.Numberings.Finding.{found-first, found-distinct}
 use Rattle.synthesis.proofs.Unfolding.AnsweringLaws.{answers-as-defined}
@@ -77,6 +78,9 @@ module _ (limit : ℕ) (r : Rule) where
   unfolding equationsOf
   equations-distinct = found-distinct 256 (answerOf r) limit (firstOf r)
 
+  pub equations-apart : Injective (λ i. getD (equationsOf limit r) i 0) (length (equationsOf limit r))
+  equations-apart = distinct-indices (equationsOf limit r) equations-distinct
+
   pub equations-reached : (i : ℕ) → i < length (equationsOf limit r) → ReachedBy 256 (answerOf r) (firstOf r) (getD (equationsOf limit r) i 0)
   unfolding equationsOf
   equations-reached i h =
@@ -87,7 +91,7 @@ module _ (limit : ℕ) (r : Rule) where
   unfolding equationsOf
   equations-closed few = found-closed 256 (answerOf r) limit (firstOf r) few
 
-  closed-list : length (equationsOf limit r) ≤ limit → Closed r (equationsOf limit r)
+  pub closed-list : length (equationsOf limit r) ≤ limit → Closed r (equationsOf limit r)
   closed-list few =
       let l = equationsOf limit r in
       record {
@@ -166,7 +170,7 @@ reaches-equations limit s bytes r n read e =
     let small : length (equationsOf limit r) ≤ limit = subst (λ x. length (equationsOf limit x) ≤ limit) same few in
     record {
       members = λ i m h. equations-necessities limit r (file-well-formed s bytes r read) hope i h m;
-      distinct = distinct-indices (equationsOf limit r) (equations-distinct limit r);
+      distinct = equations-apart limit r;
       reached = λ i h. let w = equations-reached limit r i h in (w .word, w .codes-of, w .keeps, w .ends);
       closed = closed-list limit r small;
     })
