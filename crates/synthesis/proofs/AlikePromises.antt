@@ -2,14 +2,16 @@
 use Rattle.synthesis.specs.AlikePromises.{AlikePromises}
 use Rattle.synthesis.proofs.EmptyPatterns.AlikeLaws.{violated-alike}
 use Rattle.synthesis.proofs.EmptyPatterns.Places.{no-place-after-empty}
-use Rattle.synthesis.proofs.EmptyPatterns.Tables.{unsatisfiable-alike, no-reason-after-empty, monitors-alike, short-tables-alike}
+use Rattle.synthesis.proofs.EmptyPatterns.Tables.{no-reason-after-empty, monitors-alike, short-tables-alike}
+use Rattle.synthesis.proofs.EmptyPatterns.SameTables.{counted-alike, tables-alike}
 
 pub alike-promises : AlikePromises
 alike-promises = record {
   violated-alike = violated-alike;
   no-place-after-empty = no-place-after-empty;
-  unsatisfiable-alike = unsatisfiable-alike;
+  counted-alike = counted-alike;
   no-reason-after-empty = no-reason-after-empty;
   monitors-alike = monitors-alike;
+  tables-alike = tables-alike;
   short-tables-alike = short-tables-alike;
 }

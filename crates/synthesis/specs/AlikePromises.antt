@@ -27,13 +27,7 @@ NoPlaceAfterEmpty = (r : Rule) (w : List ℕ) (m : ℕ) → ViolatesAt r 0 w m �
 
 -- ---- what is said of files
 
--- 2. Of two files with such rules, both are refused with 8 or neither is.
-abbrev pub UnsatisfiableAlike : Type 0
-UnsatisfiableAlike =
-    (limit limit′ : ℕ) (s s′ : List ℕ) → Bytes s → Bytes s′ → (r r′ : Rule) → ruleOf s ≡ accepted r → ruleOf s′ ≡ accepted r′ → RulesAlike r r′
-    → (countedOf (synthesisOf limit s) ≡ Refused 8 0) ↔ (countedOf (synthesisOf limit′ s′) ≡ Refused 8 0)
-
--- Counting answers the same of two files with such rules: the same count, or the same refusal.
+-- 2. Counting answers the same of two files with such rules: the same count, or the same refusal.
 abbrev pub CountedAlike : Type 0
 CountedAlike =
     (limit : ℕ) (s s′ : List ℕ) → Bytes s → Bytes s′ → (r r′ : Rule) → ruleOf s ≡ accepted r → ruleOf s′ ≡ accepted r′ → RulesAlike r r′
@@ -53,19 +47,24 @@ MonitorsAlike =
     (r r′ : Rule) → RulesAlike r r′ → (E F : Type 0) (answer : E → ℕ → Answer E) (first : E) (answer′ : F → ℕ → Answer F) (first′ : F)
     → Monitors r answer first → Monitors r′ answer′ first′ → DropAlike 256 answer first answer′ first′
 
--- The tables of two such rules have as many rows, and these are the same byte for byte: the long tables,
+-- two tables have as many rows, and these are the same byte for byte
+pub record SameRows (n : ℕ) (left : List ℕ) (n′ : ℕ) (left′ : List ℕ) : Type 0 where
+  pub count : n ≡ n′
+  pub rows : (k : ℕ) → k < n → rowOf 256 left k ≡ rowOf 256 left′ k
+
+-- So it is with the tables that filling leaves of two such rules: the long ones,
 abbrev pub TablesAlike : Type 0
 TablesAlike =
     (limit limit′ mark : ℕ) (s table : List ℕ) (r : Rule) (n : ℕ) (left : List ℕ) → Fills limit mark s table r n left
     → (s′ table′ : List ℕ) (r′ : Rule) (n′ : ℕ) (left′ : List ℕ) → Fills limit′ mark s′ table′ r′ n′ left′ → RulesAlike r r′
-    → (n ≡ n′) × ((k : ℕ) → k < n → rowOf 256 left k ≡ rowOf 256 left′ k)
+    → SameRows n left n′ left′
 
 -- and the short ones.
 abbrev pub ShortTablesAlike : Type 0
 ShortTablesAlike =
     (limit limit′ mark : ℕ) (s table : List ℕ) (r : Rule) (n : ℕ) (left : List ℕ) → FillsShort limit mark s table r n left
     → (s′ table′ : List ℕ) (r′ : Rule) (n′ : ℕ) (left′ : List ℕ) → FillsShort limit′ mark s′ table′ r′ n′ left′ → RulesAlike r r′
-    → (n ≡ n′) × ((k : ℕ) → k < n → rowOf 256 left k ≡ rowOf 256 left′ k)
+    → SameRows n left n′ left′
 
 -- ---- all of these
 
@@ -73,7 +72,8 @@ ShortTablesAlike =
 pub record AlikePromises : Type 1 where
   pub violated-alike : ViolatedAlike
   pub no-place-after-empty : NoPlaceAfterEmpty
-  pub unsatisfiable-alike : UnsatisfiableAlike
+  pub counted-alike : CountedAlike
   pub no-reason-after-empty : NoReasonAfterEmpty
   pub monitors-alike : MonitorsAlike
+  pub tables-alike : TablesAlike
   pub short-tables-alike : ShortTablesAlike

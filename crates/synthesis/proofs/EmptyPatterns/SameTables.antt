@@ -18,7 +18,7 @@ use Rattle.synthesis.specs.Search.{indexOf}
 use Rattle.synthesis.specs.Table.{entryOf, entriesOf}
 use Rattle.synthesis.specs.Building.{equationsOf, withEquations, synthesisOf, countedOf, Fills}
 use Rattle.synthesis.specs.Promises.{WellFormedFormula}
-use Rattle.synthesis.specs.AlikePromises.{CountedAlike, TablesAlike}
+use Rattle.synthesis.specs.AlikePromises.{SameRows, CountedAlike, TablesAlike}
 use Rattle.synthesis.specs.declared.Counted.the-variants.{Equations}
 use Rattle.synthesis.proofs.Monitors.RuleMonitor.{unsatisfiable-iff}
 use Rattle.synthesis.proofs.Monitors.Corresponding.{BothAnswer, both-dropped, both-next, Corresponds, corresponds-back}
@@ -30,6 +30,7 @@ use Rattle.synthesis.proofs.Tables.SynthesisOutcomes.{accepts-with-equa
 use Rattle.synthesis.proofs.Tables.Equations.{file-well-formed, equations-apart, closed-list}
 use Rattle.synthesis.proofs.Tables.Built.{counted-row, fills-outcome, fills-count, built-well-formed}
 use Rattle.synthesis.proofs.EmptyPatterns.AlikeLaws.{violated-alike, alike-back}
+use Rattle.synthesis.proofs.EmptyPatterns.TwinEquations.{alike-corresponds}
 
 -- ---- the rows of lists that correspond
 
@@ -118,16 +119,18 @@ fills-numbering {limit} {mark} {s} {table} {r} {n} {left} b =
 
 pub fillings-correspond : (R : ℕ → ℕ → Type 0) (limit limit′ mark : ℕ) (s table : List ℕ) (r : Rule) (n : ℕ) (left : List ℕ)
     → Fills limit mark s table r n left → (s′ table′ : List ℕ) (r′ : Rule) (n′ : ℕ) (left′ : List ℕ) → Fills limit′ mark s′ table′ r′ n′ left′
-    → RulesCorrespond R r r′ → (n ≡ n′) × ((k : ℕ) → k < n → rowOf 256 left k ≡ rowOf 256 left′ k)
+    → RulesCorrespond R r r′ → SameRows n left n′ left′
 fillings-correspond R limit limit′ mark s table r n left b s′ table′ r′ n′ left′ b′ both =
     let es = equationsOf limit r in
     let es′ = equationsOf limit′ r′ in
     let x = fills-numbering b in
     let y = fills-numbering b′ in
-    let same : n ≡ n′ = fills-count b ∙ numberings-correspond both es es′ x y .0 ∙ sym (fills-count b′) in (
-      same,
-      λ k h. fills-row b k h ∙ same-entries both es es′ x y mark k (omega (arith, fills-count b, h)) ∙ sym (fills-row b′ k (omega (arith, same, h))),
-    )
+    let same : n ≡ n′ = fills-count b ∙ numberings-correspond both es es′ x y .0 ∙ sym (fills-count b′) in
+    record {
+      count = same;
+      rows = λ k h.
+          fills-row b k h ∙ same-entries both es es′ x y mark k (omega (arith, fills-count b, h)) ∙ sym (fills-row b′ k (omega (arith, same, h)));
+    }
 
 -- ---- rules that are alike but after empty patterns
 
@@ -135,24 +138,22 @@ fillings-correspond R limit limit′ mark s table r n left b s′ table′ r′ 
 unsatisfiable-both : (r r′ : Rule) → WellFormedFormula r → WellFormedFormula r′ → RulesAlike r r′ → unsatisfiable r ≡ true → unsatisfiable r′ ≡ true
 unsatisfiable-both r r′ wf wf′ a h = unsatisfiable-iff r′ wf′ .1 (violated-alike r r′ a [] .0 (unsatisfiable-iff r wf .0 h))
 
-module _ (alike-corresponds : (r r′ : Rule) → WellFormedFormula r → WellFormedFormula r′ → RulesAlike r r′
-    → (R : ℕ → ℕ → Type 0) × RulesCorrespond R r r′) where
-  pub counted-alike : CountedAlike
-  counted-alike limit s s′ bytes bytes′ r r′ read read′ a = on (unsatisfiable r) refl (unsatisfiable r′) refl
-    where
-      wf : WellFormedFormula r
-      wf = file-well-formed s bytes r read
+pub counted-alike : CountedAlike
+counted-alike limit s s′ bytes bytes′ r r′ read read′ a = on (unsatisfiable r) refl (unsatisfiable r′) refl
+  where
+    wf : WellFormedFormula r
+    wf = file-well-formed s bytes r read
 
-      wf′ : WellFormedFormula r′
-      wf′ = file-well-formed s′ bytes′ r′ read′
+    wf′ : WellFormedFormula r′
+    wf′ = file-well-formed s′ bytes′ r′ read′
 
-      on : (b : Bool) → unsatisfiable r ≡ b → (b′ : Bool) → unsatisfiable r′ ≡ b′ → countedOf (synthesisOf limit s) ≡ countedOf (synthesisOf limit s′)
-      on true h true h′ = rw (refuses-eight limit s r read h, refuses-eight limit s′ r′ read′ h′)
-      on true h false h′ = absurd (true≢false (sym (unsatisfiable-both r r′ wf wf′ a h) ∙ h′))
-      on false h true h′ = absurd (true≢false (sym (unsatisfiable-both r′ r wf′ wf (alike-back a) h′) ∙ h))
-      on false h false h′ = let (R, both) = alike-corresponds r r′ wf wf′ a in counted-correspond R r r′ both limit s s′ read read′ h h′
+    on : (b : Bool) → unsatisfiable r ≡ b → (b′ : Bool) → unsatisfiable r′ ≡ b′ → countedOf (synthesisOf limit s) ≡ countedOf (synthesisOf limit s′)
+    on true h true h′ = rw (refuses-eight limit s r read h, refuses-eight limit s′ r′ read′ h′)
+    on true h false h′ = absurd (true≢false (sym (unsatisfiable-both r r′ wf wf′ a h) ∙ h′))
+    on false h true h′ = absurd (true≢false (sym (unsatisfiable-both r′ r wf′ wf (alike-back a) h′) ∙ h))
+    on false h false h′ = let (R, both) = alike-corresponds r r′ wf wf′ a in counted-correspond R r r′ both limit s s′ read read′ h h′
 
-  pub tables-alike : TablesAlike
-  tables-alike limit limit′ mark s table r n left b s′ table′ r′ n′ left′ b′ a =
-      let (R, both) = alike-corresponds r r′ (file-well-formed s (b .bytes) r (b .read)) (file-well-formed s′ (b′ .bytes) r′ (b′ .read)) a in
-      fillings-correspond R limit limit′ mark s table r n left b s′ table′ r′ n′ left′ b′ both
+pub tables-alike : TablesAlike
+tables-alike limit limit′ mark s table r n left b s′ table′ r′ n′ left′ b′ a =
+    let (R, both) = alike-corresponds r r′ (file-well-formed s (b .bytes) r (b .read)) (file-well-formed s′ (b′ .bytes) r′ (b′ .read)) a in
+    fillings-correspond R limit limit′ mark s table r n left b s′ table′ r′ n′ left′ b′ both

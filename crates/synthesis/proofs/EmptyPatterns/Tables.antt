@@ -1,8 +1,8 @@
--- Files, monitors and tables of two rules that are alike but after empty patterns: what is said here of each goes by violation alone, and the same lists
--- violate both. The short table is the only one of its kind, so the two have one.
+-- Reasons, monitors and short tables of two rules that are alike but after empty patterns: what is said here of each goes by violation alone, and the same
+-- lists violate both. The short table is the only one of its kind, so the two have one.
 use Prim.Native.Nat.{ℕ, _≤_}
 use mathlib.Core.Path.{_≡_, refl, sym, subst}
-use mathlib.Core.List.{List, []}
+use mathlib.Core.List.{List}
 use native.Mathlib.Omega.{arith}
 use Rattle.synthesis.specs.Monitor.{lookup}
 use Rattle.synthesis.specs.Table.{WellFormedTable}
@@ -10,11 +10,10 @@ use Rattle.synthesis.specs.Merging.{DropAlike}
 use Rattle.synthesis.specs.Building.{synthesisOf, countedOf}
 use Rattle.synthesis.specs.Promises.{AsFound}
 use Rattle.synthesis.specs.ShortPromises.{numbersBelow}
-use Rattle.synthesis.specs.AlikePromises.{UnsatisfiableAlike, NoReasonAfterEmpty, MonitorsAlike, ShortTablesAlike}
+use Rattle.synthesis.specs.AlikePromises.{NoReasonAfterEmpty, MonitorsAlike, ShortTablesAlike}
 use Rattle.synthesis.specs.declared.Counted.{Counted}
 use Rattle.synthesis.specs.declared.Counted.the-variants.{Equations, Refused}
 use Rattle.synthesis.proofs.Monitors.DroppingAlike.{monitors-drop-alike}
-use Rattle.synthesis.proofs.Tables.Built.{refuses-violated-by-empty}
 use Rattle.synthesis.proofs.Quotients.ShortFillings.{short-monitors, short-in-range}
 use Rattle.synthesis.proofs.Quotients.ShortOrder.{short-as-found}
 use Rattle.synthesis.proofs.Quotients.Minimal.{short-is-minimal}
@@ -23,14 +22,7 @@ use Rattle.synthesis.proofs.Reasons.Explained.{reasons-exactly}
 use Rattle.synthesis.proofs.EmptyPatterns.AlikeLaws.{violated-alike}
 use Rattle.synthesis.proofs.EmptyPatterns.Places.{no-place-after-empty}
 
--- ---- what is said of files
-
-pub unsatisfiable-alike : UnsatisfiableAlike
-unsatisfiable-alike limit limit′ s s′ bytes bytes′ r r′ read read′ a =
-    let one = refuses-violated-by-empty limit s bytes r read in
-    let other = refuses-violated-by-empty limit′ s′ bytes′ r′ read′ in
-    let same = violated-alike r r′ a [] in
-    (λ e. other .1 (same .0 (one .0 e)), λ e. one .1 (same .1 (other .0 e)))
+-- ---- reasons
 
 pub no-reason-after-empty : NoReasonAfterEmpty
 no-reason-after-empty limit s bytes r read w c m e after = on (countedOf (synthesisOf limit s)) refl
@@ -66,9 +58,10 @@ short-tables-alike limit limit′ mark s table r n left b s′ table′ r′ n�
     let few : n ≤ n′ = short-is-minimal limit mark s table r n left b n′ left′ fit′ alike in
     let many : n′ ≤ n = short-is-minimal limit′ mark s′ table′ r′ n′ left′ b′ n left fit (λ w bytes. sym (alike w bytes)) in
     let same : n′ ≡ n = omega arith in
-    let found = short-as-found limit′ mark s′ table′ r′ n′ left′ b′ in (
-      sym same,
-      λ k h.
+    let found = short-as-found limit′ mark s′ table′ r′ n′ left′ b′ in
+    record {
+      count = sym same;
+      rows = λ k h.
           sym (short-is-only limit mark s table r n left b left′ (subst (λ (i : ℕ). WellFormedTable i mark i left′) same fit′) alike
-          (subst (λ (i : ℕ). AsFound 256 other 0 (numbersBelow i)) same found) k h),
-    )
+          (subst (λ (i : ℕ). AsFound 256 other 0 (numbersBelow i)) same found) k h);
+    }
