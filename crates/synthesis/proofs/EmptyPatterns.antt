@@ -4,3 +4,4 @@ pub mod Places
 pub mod Tables
 pub mod Twins
 pub mod OnlyTwins
+pub mod TwinEquations
