@@ -1,5 +1,8 @@
--- Patterns with nothing in them: what stands after one has no part in violation.
+-- Patterns with nothing in them: what stands after one has no part in violation, nor in the equations but by the numbers of nodes.
 pub mod AlikeLaws
 pub mod Places
 pub mod Tables
+pub mod Twins
+pub mod OnlyTwins
+pub mod TwinEquations
 pub mod SameTables

@@ -12,7 +12,6 @@ use Rattle.synthesis.specs.Monitor.{Answer, Monitors, rowOf}
 use Rattle.synthesis.specs.Merging.{DropAlike}
 use Rattle.synthesis.specs.Building.{synthesisOf, countedOf, Fills, FillsShort}
 use Rattle.synthesis.specs.Reason.{ViolatesAt, explanationOf, reasonOf}
-use Rattle.synthesis.specs.declared.Counted.the-variants.{Refused}
 use Rattle.synthesis.specs.declared.Reason.the-variants.{Node}
 
 -- ---- violation

@@ -30,7 +30,7 @@ use Rattle.synthesis.proofs.Tables.SynthesisOutcomes.{accepts-with-equa
 use Rattle.synthesis.proofs.Tables.Equations.{file-well-formed, equations-apart, closed-list}
 use Rattle.synthesis.proofs.Tables.Built.{counted-row, fills-outcome, fills-count, built-well-formed}
 use Rattle.synthesis.proofs.EmptyPatterns.AlikeLaws.{violated-alike, alike-back}
-use Rattle.synthesis.proofs.EmptyPatterns.TwinEquations.{alike-corresponds}
+use Rattle.synthesis.proofs.EmptyPatterns.TwinEquations.{TwinEquations, alike-corresponds}
 
 -- ---- the rows of lists that correspond
 
@@ -151,9 +151,9 @@ counted-alike limit s s′ bytes bytes′ r r′ read read′ a = on (unsatisfia
     on true h true h′ = rw (refuses-eight limit s r read h, refuses-eight limit s′ r′ read′ h′)
     on true h false h′ = absurd (true≢false (sym (unsatisfiable-both r r′ wf wf′ a h) ∙ h′))
     on false h true h′ = absurd (true≢false (sym (unsatisfiable-both r′ r wf′ wf (alike-back a) h′) ∙ h))
-    on false h false h′ = let (R, both) = alike-corresponds r r′ wf wf′ a in counted-correspond R r r′ both limit s s′ read read′ h h′
+    on false h false h′ = counted-correspond (TwinEquations r r′) r r′ (alike-corresponds r r′ wf wf′ a) limit s s′ read read′ h h′
 
 pub tables-alike : TablesAlike
 tables-alike limit limit′ mark s table r n left b s′ table′ r′ n′ left′ b′ a =
-    let (R, both) = alike-corresponds r r′ (file-well-formed s (b .bytes) r (b .read)) (file-well-formed s′ (b′ .bytes) r′ (b′ .read)) a in
-    fillings-correspond R limit limit′ mark s table r n left b s′ table′ r′ n′ left′ b′ both
+    fillings-correspond (TwinEquations r r′) limit limit′ mark s table r n left b s′ table′ r′ n′ left′ b′
+    (alike-corresponds r r′ (file-well-formed s (b .bytes) r (b .read)) (file-well-formed s′ (b′ .bytes) r′ (b′ .read)) a)
