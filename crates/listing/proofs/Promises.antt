@@ -2,7 +2,7 @@
 use Rattle.listing.specs.Promises.{Promises}
 use Rattle.listing.proofs.AllLines.{lists-all, lists-rule}
 use Rattle.listing.proofs.AllRuns.{groups, shows-answers}
-use Rattle.listing.proofs.SameRows.{lists-by-rows, preview-listed}
+use Rattle.listing.proofs.SameRows.{lists-by-rows, preview-listed, listed-alike}
 use Rattle.listing.proofs.Decimals.{spells-decimal}
 
 pub promises : Promises
@@ -13,5 +13,6 @@ promises = record {
   shows-answers = shows-answers;
   lists-by-rows = lists-by-rows;
   preview-listed = preview-listed;
+  listed-alike = listed-alike;
   spells-decimal = spells-decimal;
 }

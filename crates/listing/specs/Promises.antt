@@ -8,7 +8,8 @@ use Rattle.reading.specs.Rule.{Rule, RuleWithinLimits, All}
 use Rattle.reading.specs.Numbered.{numbered}
 use Rattle.reading.specs.declared.NumberedRule.{NumberedRule}
 use Rattle.synthesis.specs.Monitor.{mark, most, rowOf, meaning, lookup}
-use Rattle.synthesis.specs.Building.{countedOf, tableAfter, tableLeft, previewOf, previewFillingOf}
+use Rattle.synthesis.specs.Alike.{RulesAlike}
+use Rattle.synthesis.specs.Building.{countedOf, tableAfter, tableLeft, previewOf, previewFillingOf, Fills}
 use Rattle.synthesis.specs.declared.Counted.the-variants.{Equations}
 use Rattle.listing.specs.Text.{digit, decimal}
 use Rattle.listing.specs.Runs.{CodeRun, runs, RunTo}
@@ -64,6 +65,13 @@ PreviewListed =
     → (rule : NumberedRule) (at : ℕ)
     → listingLineAt rule (tableAfter mark (previewFillingOf s (length table)) table) n at ≡ listingLineAt rule (tableLeft most mark s table′) n at
 
+-- So too over filled tables of two rules with the same patterns that differ only in formulas after empty ones.
+abbrev pub ListedAlike : Type 0
+ListedAlike =
+    (limit limit′ mark : ℕ) (s table : List ℕ) (r : Rule) (n : ℕ) (left : List ℕ) → Fills limit mark s table r n left
+    → (s′ table′ : List ℕ) (r′ : Rule) (n′ : ℕ) (left′ : List ℕ) → Fills limit′ mark s′ table′ r′ n′ left′ → RulesAlike r r′
+    → r .patterns ≡ r′ .patterns → (at : ℕ) → listingLineAt (numbered r) left n at ≡ listingLineAt (numbered r′) left′ n′ at
+
 -- 5. A number below 10 is one digit. Any other has the digits of n / 10, followed by the digit of n % 10.
 pub record SpellsDecimal (n : ℕ) : Type 0 where
   pub one : n < 10 → decimal n ≡ digit n ∷ []
@@ -79,4 +87,5 @@ pub record Promises : Type 0 where
   pub shows-answers : ShowsAnswers
   pub lists-by-rows : ListsByRows
   pub preview-listed : PreviewListed
+  pub listed-alike : ListedAlike
   pub spells-decimal : (n : ℕ) → SpellsDecimal n
