@@ -1,5 +1,6 @@
--- Decimal numbers: the definition's two cases, by which more digits than enough change nothing; how many digits there are; and the text of an entry.
-use mathlib.Core.Path.{_≡_, refl}
+-- Decimal numbers: the definition's two cases, by which more digits than enough change nothing; how many digits there are; the text of an entry; and
+-- the line of a pattern.
+use mathlib.Core.Path.{_≡_, refl, ap, _∙_}
 use mathlib.Core.Bool.{Bool, true, false}
 use mathlib.Core.List.{[], _∷_, _++_}
 use Prim.Native.Nat.{ℕ, zero, suc, _+_, _/_, _%_, _^_, _≤_, _<_}
@@ -8,10 +9,12 @@ use native.Mathlib.Omega.{arith}
 use lib.ListN.{length, length-append}
 use lib.Dec.{ltb, eqb}
 use borrow.Author.Tests.{lt-ltb, le-ltb, eq-eqb, ne-eqb, ltb-true, ltb-false, eqb-true, eqb-false}
+use Rattle.reading.specs.declared.Pattern.{Pattern}
+use Rattle.reading.proofs.Measures.Extents.{no-extent}
 use Rattle.synthesis.specs.Monitor.{mark, meaning}
 use Rattle.listing.specs.Text.{text, digit, decimalIn, decimal}
-use Rattle.listing.specs.Lines.{answerText}
-use Rattle.listing.specs.Promises.{SpellsDecimal}
+use Rattle.listing.specs.Lines.{patternLine, answerText}
+use Rattle.listing.specs.Promises.{SpellsDecimal, PatternListed}
 
 -- ---- the two cases of the definition
 
@@ -70,3 +73,15 @@ module _ (x : ℕ) where
       on : (b : Bool) → eqb x mark ≡ b → length (answerText (meaning mark x)) ≤ 4
       on true e = rw (drop-text (eqb-true x mark e)) (omega arith)
       on false e = rw (next-text (eqb-false x mark e)) (omega (arith, decimal-digits 2 x (omega arith)))
+
+-- ---- the line of a pattern
+
+decimal-zero : decimal 0 ≡ text "0"
+unfolding decimal decimalIn
+decimal-zero = refl
+
+pub pattern-listed : (i : ℕ) (p : Pattern) → PatternListed i p
+pattern-listed i p = record {
+  code = λ low e. rw e;
+  none = λ e. ap (patternLine i) (no-extent p e) ∙ rw decimal-zero;
+}

@@ -6,14 +6,16 @@ use lib.ListN.{length, getD}
 use Rattle.reading.specs.Pattern.{extentOf}
 use Rattle.reading.specs.Rule.{Rule, RuleWithinLimits, All}
 use Rattle.reading.specs.Numbered.{numbered}
+use Rattle.reading.specs.declared.Pattern.{Pattern}
+use Rattle.reading.specs.declared.Lowest.the-variants.{Code}
 use Rattle.reading.specs.declared.NumberedRule.{NumberedRule}
 use Rattle.synthesis.specs.Monitor.{mark, most, rowOf, meaning, lookup}
 use Rattle.synthesis.specs.Alike.{RulesAlike}
 use Rattle.synthesis.specs.Building.{countedOf, tableAfter, tableLeft, previewOf, previewFillingOf, Fills}
 use Rattle.synthesis.specs.declared.Counted.the-variants.{Equations}
-use Rattle.listing.specs.Text.{digit, decimal}
+use Rattle.listing.specs.Text.{text, digit, decimal}
 use Rattle.listing.specs.Runs.{CodeRun, runs, RunTo}
-use Rattle.listing.specs.Lines.{listing}
+use Rattle.listing.specs.Lines.{line, patternLine, listing}
 use Rattle.listing.specs.Positions.{extentsOf, listingLineAt, linesFrom}
 
 -- 1. Read line by line from position 0 on, up to an empty line, the text is the listing; so many lines are enough. A rule is any value
@@ -72,6 +74,12 @@ ListedAlike =
     → (s′ table′ : List ℕ) (r′ : Rule) (n′ : ℕ) (left′ : List ℕ) → Fills limit′ mark s′ table′ r′ n′ left′ → RulesAlike r r′
     → r .patterns ≡ r′ .patterns → (at : ℕ) → listingLineAt (numbered r) left n at ≡ listingLineAt (numbered r′) left′ n′ at
 
+-- The line of a pattern has its lowest code and how many codes it covers; of one of no kind, none and 0.
+pub record PatternListed (i : ℕ) (p : Pattern) : Type 0 where
+  pub code : (low : ℕ) → extentOf p .lowest ≡ Code low
+      → patternLine i (extentOf p) ≡ line (text "p" ∷ decimal i ∷ decimal low ∷ decimal (extentOf p .count) ∷ [])
+  pub none : p .mask ≡ 0 → patternLine i (extentOf p) ≡ line (text "p" ∷ decimal i ∷ text "none" ∷ text "0" ∷ [])
+
 -- 5. A number below 10 is one digit. Any other has the digits of n / 10, followed by the digit of n % 10.
 pub record SpellsDecimal (n : ℕ) : Type 0 where
   pub one : n < 10 → decimal n ≡ digit n ∷ []
@@ -88,4 +96,5 @@ pub record Promises : Type 0 where
   pub lists-by-rows : ListsByRows
   pub preview-listed : PreviewListed
   pub listed-alike : ListedAlike
+  pub pattern-listed : (i : ℕ) (p : Pattern) → PatternListed i p
   pub spells-decimal : (n : ℕ) → SpellsDecimal n

@@ -68,17 +68,16 @@ JudgesExactly =
     → (f : List ℕ) (y : Phone) (answer : Judged) → phoneOf f ≡ accepted y → JudgedAs (judgingOf limit s (length table) f) answer
     → JudgedExactly r y answer
 
--- Two rules that differ only in formulas after empty patterns are satisfied by the same models. So, where both are accepted, judging answers the same
--- of every model file.
+-- Two rules that differ only in formulas after empty patterns are satisfied by the same models. So judging answers the same of every model file under two
+-- files with such rules and in tables of one size: the same refusal, or the same judgment.
 abbrev pub MeetAlike : Type 1
 MeetAlike = (r r′ : Rule) → RulesAlike r r′ → (m : Model) → Satisfies m r ↔ Satisfies m r′
 
 abbrev pub JudgedAlike : Type 0
 JudgedAlike =
-    (limit mark : ℕ) (s table : List ℕ) (r : Rule) (n : ℕ) (left : List ℕ) → Fills limit mark s table r n left
-    → (limit′ mark′ : ℕ) (s′ table′ : List ℕ) (r′ : Rule) (n′ : ℕ) (left′ : List ℕ) → Fills limit′ mark′ s′ table′ r′ n′ left′ → RulesAlike r r′
-    → (f : List ℕ) (answer answer′ : Judged) → JudgedAs (judgingOf limit s (length table) f) answer
-    → JudgedAs (judgingOf limit′ s′ (length table′) f) answer′ → answer ≡ answer′
+    (limit : ℕ) (s s′ : List ℕ) → Bytes s → Bytes s′ → (r r′ : Rule) → ruleOf s ≡ accepted r → ruleOf s′ ≡ accepted r′ → RulesAlike r r′
+    → (table table′ : List ℕ) → length table ≡ length table′ → (f : List ℕ) (answer answer′ : Judged)
+    → JudgedAs (judgingOf limit s (length table) f) answer → JudgedAs (judgingOf limit s′ (length table′) f) answer′ → answer ≡ answer′
 
 -- What judging leaves in the table, in the terms of its contract: where the answer is a refusal, of the rule or of the model, all bytes as they were,
 -- and else exactly what filling leaves.

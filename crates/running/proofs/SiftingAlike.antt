@@ -9,7 +9,7 @@ use lib.ListN.{length, getD, take}
 use lib.Seq.{take-suc, take-all}
 use Rattle.reading.specs.Rule.{Rule}
 use Rattle.synthesis.specs.Violation.{ViolatesRule}
-use Rattle.synthesis.specs.Building.{BuiltTable}
+use Rattle.synthesis.specs.Building.{Fills, FillsShort}
 use Rattle.synthesis.proofs.EmptyPatterns.AlikeLaws.{violated-alike}
 use Rattle.running.specs.Calls.{History, withVerdict, keptBefore}
 use Rattle.running.specs.Promises.{Sifted, SiftsOn, SiftedAlike, RulesDropAlike}
@@ -66,13 +66,14 @@ sifted-alike r r′ violated h h′ one other scans =
     let kept : withVerdict 0 (h .verdicts) (h .scans) ≡ withVerdict 0 (h′ .verdicts) (h′ .scans) = rw (verdicts, scans) in
     record { verdicts = verdicts; kept = one .kept ∙ kept ∙ sym (other .kept) }
 
--- ---- built tables
+-- ---- filled tables
 
-built-sifts : (limit mark : ℕ) (r : Rule) (n : ℕ) (table : List ℕ) → BuiltTable limit mark r n table → SiftsOn limit mark r n table
-built-sifts limit mark r n table (s, before, inl fills) = drops-exactly limit mark s before r n table fills
-built-sifts limit mark r n table (s, before, inr fills) = short-drops-exactly limit mark s before r n table fills
+filled-sifts : (limit mark : ℕ) (s table : List ℕ) (r : Rule) (n : ℕ) (left : List ℕ)
+    → Fills limit mark s table r n left ⊎ FillsShort limit mark s table r n left → SiftsOn limit mark r n left
+filled-sifts limit mark s table r n left (inl fills) = drops-exactly limit mark s table r n left fills
+filled-sifts limit mark s table r n left (inr fills) = short-drops-exactly limit mark s table r n left fills
 
 pub rules-drop-alike : RulesDropAlike
-rules-drop-alike limit mark r n table built limit′ mark′ r′ n′ table′ built′ alike h calls h′ calls′ =
-    sifted-alike r r′ (violated-alike r r′ alike) h h′ (built-sifts limit mark r n table built h calls)
-    (built-sifts limit′ mark′ r′ n′ table′ built′ h′ calls′)
+rules-drop-alike limit mark s table r n left filled limit′ mark′ s′ table′ r′ n′ left′ filled′ alike h calls h′ calls′ =
+    sifted-alike r r′ (violated-alike r r′ alike) h h′ (filled-sifts limit mark s table r n left filled h calls)
+    (filled-sifts limit′ mark′ s′ table′ r′ n′ left′ filled′ h′ calls′)

@@ -13,7 +13,7 @@ use Rattle.synthesis.specs.Violation.{ViolatesRule}
 use Rattle.synthesis.specs.Alike.{RulesAlike}
 use Rattle.synthesis.specs.Monitor.{dropped, cases, next, ended, Monitors, meaning, lookup}
 use Rattle.synthesis.specs.Table.{WellFormedTable}
-use Rattle.synthesis.specs.Building.{Fills, FillsShort, BuiltTable}
+use Rattle.synthesis.specs.Building.{Fills, FillsShort}
 use Rattle.synthesis.specs.Reason.{explanationOf, reasonOf}
 use Rattle.synthesis.specs.declared.Reason.{Reason}
 use Rattle.synthesis.specs.declared.Reason.the-variants.{Kept, Node}
@@ -220,14 +220,15 @@ SiftedAlike =
     (r r′ : Rule) → ((w : List ℕ) → ViolatesRule r w ↔ ViolatesRule r′ w) → (h h′ : History) → Sifted r h → Sifted r′ h′ → h .scans ≡ h′ .scans
     → SameVerdicts h h′
 
--- Two accepted rules that differ only in formulas after empty patterns drop the same scans: so it is after any calls as in 1 on built tables of the two,
--- with the same scans. (Tables of the rule page are built tables.)
+-- Two accepted rules that differ only in formulas after empty patterns drop the same scans: so it is after any calls as in 1, with the same scans, on the
+-- tables that filling leaves of the two, each of them the long one or the short one. (What is filled on the rule page is the long one.)
 abbrev pub RulesDropAlike : Type 0
 RulesDropAlike =
-    (limit mark : ℕ) (r : Rule) (n : ℕ) (table : List ℕ) → BuiltTable limit mark r n table
-    → (limit′ mark′ : ℕ) (r′ : Rule) (n′ : ℕ) (table′ : List ℕ) → BuiltTable limit′ mark′ r′ n′ table′ → RulesAlike r r′
-    → (h : History) → Calls limit mark (OnTableOrRefused limit mark table n) h
-    → (h′ : History) → Calls limit′ mark′ (OnTableOrRefused limit′ mark′ table′ n′) h′ → h .scans ≡ h′ .scans → SameVerdicts h h′
+    (limit mark : ℕ) (s table : List ℕ) (r : Rule) (n : ℕ) (left : List ℕ) → Fills limit mark s table r n left ⊎ FillsShort limit mark s table r n left
+    → (limit′ mark′ : ℕ) (s′ table′ : List ℕ) (r′ : Rule) (n′ : ℕ) (left′ : List ℕ)
+    → Fills limit′ mark′ s′ table′ r′ n′ left′ ⊎ FillsShort limit′ mark′ s′ table′ r′ n′ left′ → RulesAlike r r′
+    → (h : History) → Calls limit mark (OnTableOrRefused limit mark left n) h
+    → (h′ : History) → Calls limit′ mark′ (OnTableOrRefused limit′ mark′ left′ n′) h′ → h .scans ≡ h′ .scans → SameVerdicts h h′
 
 -- ---- all of these
 

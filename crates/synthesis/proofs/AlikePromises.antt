@@ -1,15 +1,19 @@
 -- Each promise of patterns with nothing in them, by its theorem.
 use Rattle.synthesis.specs.AlikePromises.{AlikePromises}
 use Rattle.synthesis.proofs.EmptyPatterns.AlikeLaws.{violated-alike}
+use Rattle.synthesis.proofs.EmptyPatterns.Differing.{differing-alike}
 use Rattle.synthesis.proofs.EmptyPatterns.Places.{no-place-after-empty}
+use Rattle.synthesis.proofs.EmptyPatterns.Explaining.{explains-alike}
 use Rattle.synthesis.proofs.EmptyPatterns.Tables.{no-reason-after-empty, monitors-alike, short-tables-alike}
 use Rattle.synthesis.proofs.EmptyPatterns.SameTables.{counted-alike, tables-alike}
 
 pub alike-promises : AlikePromises
 alike-promises = record {
+  differing-alike = differing-alike;
   violated-alike = violated-alike;
   no-place-after-empty = no-place-after-empty;
   counted-alike = counted-alike;
+  explains-alike = explains-alike;
   no-reason-after-empty = no-reason-after-empty;
   monitors-alike = monitors-alike;
   tables-alike = tables-alike;

@@ -1,10 +1,14 @@
 -- Rules that differ only in formulas after empty patterns. Patterns are compared by what they cover, so the numbers and the lists of patterns may differ.
 use Prim.Native.Nat.{ℕ, suc, _+_, _<_}
 use mathlib.Core.Path.{_≡_}
-use mathlib.Core.Bool.{Bool, false}
+use mathlib.Core.Bool.{Bool, false, cond}
 use mathlib.Core.List.{List}
+use lib.Dec.{eqb}
+use lib.ListN.{getD}
 use Rattle.reading.specs.Rule.{Formula, truth, falsity, both, necessity, max, variable, size, Rule}
+use Rattle.reading.specs.Numbered.{noPattern}
 use Rattle.reading.specs.Nodes.{EnclosingMax, Node}
+use Rattle.reading.specs.declared.Pattern.{Pattern}
 use Rattle.synthesis.specs.Violation.{coveredBy}
 
 -- a pattern is empty: it covers no code
@@ -25,8 +29,23 @@ pub data AlikeButAfterEmpty (covered covered′ : (pattern code : ℕ) → Bool)
   after-empty : {p p′ : ℕ} {f f′ : Formula} → CoversNone covered p → CoversNone covered′ p′
       → AlikeButAfterEmpty covered covered′ (necessity p f) (necessity p′ f′)
 
+-- two rules are alike
 abbrev pub RulesAlike : Rule → Rule → Type 0
 RulesAlike r r′ = AlikeButAfterEmpty (coveredBy (r .patterns)) (coveredBy (r′ .patterns)) (r .formula) (r′ .formula)
+
+-- The same in other words, where the patterns are the same: a formula with tt in the place of each formula after a pattern of no kind, and two rules that
+-- are the same once these are gone. Such rules are alike: that is proved.
+abbrev pub trimmed : List Pattern → Formula → Formula
+trimmed ps truth = truth
+trimmed ps falsity = falsity
+trimmed ps (both f g) = both (trimmed ps f) (trimmed ps g)
+trimmed ps (necessity p f) = necessity p (cond (eqb (getD ps p noPattern .mask) 0) truth (trimmed ps f))
+trimmed ps (max f) = max (trimmed ps f)
+trimmed ps (variable d) = variable d
+
+pub record DifferAfterEmpty (r r′ : Rule) : Type 0 where
+  pub patterns : r .patterns ≡ r′ .patterns
+  pub formulas : trimmed (r .patterns) (r .formula) ≡ trimmed (r′ .patterns) (r′ .formula)
 
 -- Node m of a rule stands after an empty pattern: in the formula after a necessity whose pattern is empty.
 pub record AfterEmpty (r : Rule) (m : ℕ) : Type 0 where

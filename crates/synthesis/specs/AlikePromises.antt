@@ -7,16 +7,21 @@ use mathlib.Core.List.{List}
 use Rattle.reading.specs.Rule.{Rule, Bytes}
 use Rattle.reading.specs.File.{accepted, ruleOf}
 use Rattle.synthesis.specs.Violation.{ViolatesRule}
-use Rattle.synthesis.specs.Alike.{RulesAlike, AfterEmpty}
+use Rattle.synthesis.specs.Alike.{RulesAlike, DifferAfterEmpty, AfterEmpty}
 use Rattle.synthesis.specs.Monitor.{Answer, Monitors, rowOf}
 use Rattle.synthesis.specs.Merging.{DropAlike}
 use Rattle.synthesis.specs.Building.{synthesisOf, countedOf, Fills, FillsShort}
 use Rattle.synthesis.specs.Reason.{ViolatesAt, explanationOf, reasonOf}
-use Rattle.synthesis.specs.declared.Reason.the-variants.{Node}
+use Rattle.synthesis.specs.declared.Reason.{Reason}
+use Rattle.synthesis.specs.declared.Reason.the-variants.{Kept, Node, Refused}
 
 -- ---- violation
 
--- 1. Two rules that differ only in formulas after empty patterns are violated by the same lists, accepted or not.
+-- 1. Rules with the same patterns that differ only in formulas after those of no kind are alike.
+abbrev pub DifferingAlike : Type 0
+DifferingAlike = (r r′ : Rule) → DifferAfterEmpty r r′ → RulesAlike r r′
+
+-- Alike rules are violated by the same lists, accepted or not.
 abbrev pub ViolatedAlike : Type 0
 ViolatedAlike = (r r′ : Rule) → RulesAlike r r′ → (w : List ℕ) → ViolatesRule r w ↔ ViolatesRule r′ w
 
@@ -26,11 +31,21 @@ NoPlaceAfterEmpty = (r : Rule) (w : List ℕ) (m : ℕ) → ViolatesAt r 0 w m �
 
 -- ---- what is said of files
 
--- 2. Counting answers the same of two files with such rules: the same count, or the same refusal.
+-- 2. Counting answers the same of two files with alike rules: the same count, or the same refusal.
 abbrev pub CountedAlike : Type 0
 CountedAlike =
     (limit : ℕ) (s s′ : List ℕ) → Bytes s → Bytes s′ → (r r′ : Rule) → ruleOf s ≡ accepted r → ruleOf s′ ≡ accepted r′ → RulesAlike r r′
     → countedOf (synthesisOf limit s) ≡ countedOf (synthesisOf limit s′)
+
+-- `explain` answers the same of them but for the number of a node: both say that a scan is kept, or neither does, and both refuse alike.
+pub record ExplainedAlike (reason reason′ : Reason) : Type 0 where
+  pub kept : (reason ≡ Kept) ↔ (reason′ ≡ Kept)
+  pub refused : (number place : ℕ) → (reason ≡ Refused number place) ↔ (reason′ ≡ Refused number place)
+
+abbrev pub ExplainsAlike : Type 0
+ExplainsAlike =
+    (limit : ℕ) (s s′ : List ℕ) → Bytes s → Bytes s′ → (r r′ : Rule) → ruleOf s ≡ accepted r → ruleOf s′ ≡ accepted r′ → RulesAlike r r′
+    → (w : List ℕ) (c : ℕ) → ExplainedAlike (reasonOf (explanationOf limit s w c)) (reasonOf (explanationOf limit s′ w c))
 
 -- No reason for a dropped scan stands after an empty pattern.
 abbrev pub NoReasonAfterEmpty : Type 0
@@ -40,7 +55,7 @@ NoReasonAfterEmpty =
 
 -- ---- monitors
 
--- 3. Monitors of two such rules drop alike: every list of bytes gets the same verdicts from both.
+-- 3. Monitors of alike rules drop alike: every list of bytes gets the same verdicts from both.
 abbrev pub MonitorsAlike : Type 1
 MonitorsAlike =
     (r r′ : Rule) → RulesAlike r r′ → (E F : Type 0) (answer : E → ℕ → Answer E) (first : E) (answer′ : F → ℕ → Answer F) (first′ : F)
@@ -51,7 +66,7 @@ pub record SameRows (n : ℕ) (left : List ℕ) (n′ : ℕ) (left′ : List ℕ
   pub count : n ≡ n′
   pub rows : (k : ℕ) → k < n → rowOf 256 left k ≡ rowOf 256 left′ k
 
--- So it is with the tables that filling leaves of two such rules: the long ones,
+-- So it is with the tables that filling leaves of alike rules: the long ones,
 abbrev pub TablesAlike : Type 0
 TablesAlike =
     (limit limit′ mark : ℕ) (s table : List ℕ) (r : Rule) (n : ℕ) (left : List ℕ) → Fills limit mark s table r n left
@@ -69,9 +84,11 @@ ShortTablesAlike =
 
 -- The theorem `alike-promises` has this type, so that each promise has its proof.
 pub record AlikePromises : Type 1 where
+  pub differing-alike : DifferingAlike
   pub violated-alike : ViolatedAlike
   pub no-place-after-empty : NoPlaceAfterEmpty
   pub counted-alike : CountedAlike
+  pub explains-alike : ExplainsAlike
   pub no-reason-after-empty : NoReasonAfterEmpty
   pub monitors-alike : MonitorsAlike
   pub tables-alike : TablesAlike

@@ -3,7 +3,6 @@
 -- `previewLimit`, and `mark`.
 use Prim.Native.Nat.{ℕ, _*_, _≤_}
 use mathlib.Core.Path.{_≡_}
-use mathlib.Core.Logic.{_⊎_}
 use mathlib.Core.Bool.{cond}
 use mathlib.Core.List.{List}
 use lib.Dec.{eqb, ltb}
@@ -137,7 +136,3 @@ Fills limit mark s table r n left = FillsBy fillingOf limit mark s table r n lef
 -- the short one
 abbrev pub FillsShort : (limit mark : ℕ) → (s table : List ℕ) → Rule → (n : ℕ) → (left : List ℕ) → Type 0
 FillsShort limit mark s table r n left = FillsBy shortFillingOf limit mark s table r n left
-
--- A built table of a rule: what filling leaves of some file with that rule, long or short.
-abbrev pub BuiltTable : (limit mark : ℕ) → Rule → (n : ℕ) → (table : List ℕ) → Type 0
-BuiltTable limit mark r n table = (s before : List ℕ) × (Fills limit mark s before r n table ⊎ FillsShort limit mark s before r n table)

@@ -108,18 +108,18 @@ module _ (p : Pattern) (ok : WellFormedPattern p) where
     lowest-code : lowestOf p ≡ Code (least 256 (covers p))
     lowest-code = rw (lt-ltb _ _ least-lt)
 
-  some-kind : Dec (1 ≤ p .mask) → (0 < p .mask → ⊥) → p .mask ≡ 0
-  some-kind (yes some) none = absurd (none some)
-  some-kind (no m) none = omega (arith, lt-of-not-le m)
+  no-kind : Dec (1 ≤ p .mask) → (0 < p .mask → ⊥) → p .mask ≡ 0
+  no-kind (yes some) none = absurd (none some)
+  no-kind (no m) none = omega (arith, lt-of-not-le m)
 
   pub measures-pattern : MeasuresPattern p
   measures-pattern = record {
     lowest = λ low. (least-covered low, λ (t, min). least-lowest low t min);
     absent = (
-      λ e. some-kind (decLe 1 (p .mask)) (λ some. absent-code _ (sym e ∙ lowest-code some)),
+      λ e. no-kind (decLe 1 (p .mask)) (λ some. absent-code _ (sym e ∙ lowest-code some)),
       λ none. ap (λ (x : Extent). x .lowest) (no-extent p none),
     );
-    empty = (covers-none p, λ none. some-kind (decLe 1 (p .mask)) (λ some. true≢false (sym (least-holds 256 (covers p) (least-lt some)) ∙ none _)));
+    empty = (covers-none p, λ none. no-kind (decLe 1 (p .mask)) (λ some. true≢false (sym (least-holds 256 (covers p) (least-lt some)) ∙ none _)));
     round-lowest = λ low e h. round low (lowest-least p low e) h (decLe 1 (p .mask));
     by-zeros = λ some. lowest-code some ∙ ap Code (least-code some);
     by-ones = code-count;
