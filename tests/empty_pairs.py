@@ -2,7 +2,7 @@
 from functools import cache
 from random import Random
 
-from compare import used_patterns
+from compare import expect, used_patterns
 from equation_shapes import counters, drawn, tangled
 from equations import is_dropping, rows
 from merging_shapes import equal_parts, late_drops
@@ -13,6 +13,9 @@ from shapes import BOTH, MAX, after, pattern, random_formula, variable
 # The kinds of rules that pairs are made of, and how many pairs of each kind there are.
 MAKES = [branches, counters, equal_parts, late_drops, returning, tangled]
 OF_A_KIND = 55
+
+# So many draws are enough for a pair.
+DRAWS = 10000
 
 
 def with_others(random, rule, part, maxes):
@@ -29,14 +32,21 @@ def with_others(random, rule, part, maxes):
 
 
 def drawn_pair(random, make):
-    """A rule that can drop a scan and has a necessity with an empty pattern, and the same with other formulas after each of those."""
-    while True:
+    """A rule that can drop a scan and has a necessity with an empty pattern, and the same with other formulas after each of those.
+
+    The other may have too many nodes, and then another is drawn. For no other reason may it be refused.
+    """
+    for _ in range(DRAWS):
         one = drawn(random, make, 1)[0]
         rule = read_rule(one)
         if any(p.is_empty() for p in used_patterns(rule)) and is_dropping(one):
             other = parted(one)[0] + with_others(random, rule, rule.formula, 0)
-            if other != one and not isinstance(rows(other), Refusal):
+            answer = rows(other)
+            if isinstance(answer, Refusal):
+                expect(answer.number == 4, "a pair of which one rule is refused", list(one), list(other), answer.number)
+            elif other != one:
                 return one, other
+    raise SystemExit(f"no pair in {DRAWS} draws")
 
 
 def with_all_kinds(data):

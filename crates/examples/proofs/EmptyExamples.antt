@@ -11,14 +11,15 @@ use Rattle.reading.specs.File.{recordsAt, formulaAt, formulaOf, ruleOf}
 use Rattle.reading.specs.Nodes.{whole, first}
 use Rattle.reading.proofs.Measures.Extents.{covers-none, no-extent}
 use Rattle.synthesis.specs.Violation.{coveredBy, ViolatesRule, by-falsity, by-code}
-use Rattle.synthesis.specs.Alike.{CoversNone, RulesAlike, same-both, after-empty}
+use Rattle.synthesis.specs.Alike.{CoversNone, DifferAfterEmpty}
 use Rattle.synthesis.specs.Monitor.{mark}
 use Rattle.synthesis.specs.Answering.{firstOf, answerOf, unsatisfiable}
 use Rattle.synthesis.specs.Search.{explored, found}
 use Rattle.synthesis.specs.Reason.{openedFalsities}
 use Rattle.synthesis.specs.Table.{entriesOf}
 use Rattle.synthesis.specs.Building.{equationsOf}
-use Rattle.synthesis.proofs.EmptyPatterns.AlikeLaws.{alike-same, violated-alike}
+use Rattle.synthesis.proofs.EmptyPatterns.AlikeLaws.{violated-alike}
+use Rattle.synthesis.proofs.EmptyPatterns.Differing.{differing-alike}
 use Rattle.listing.specs.Text.{decimalIn, decimal}
 use Rattle.examples.specs.Examples.{pattern, rule}
 use Rattle.examples.specs.ModelExamples.{neverRule}
@@ -26,7 +27,7 @@ use Rattle.examples.specs.ShortExamples.{idleRule}
 use Rattle.examples.specs.NumberingExamples.{Numbers}
 use Rattle.examples.specs.EmptyExamples.{unusedFile, unusedRule, unusedListing, afterNoneFile, afterNoneRule, afterNoneListing, EmptyPatterns}
 use Rattle.examples.specs.EmptyExamples.{alikePatterns, shorterFile, shorterRule, longerFile, longerRule, alikeListing, alikeScans, alikeRun}
-use Rattle.examples.specs.EmptyExamples.{RunsAlike, AlikeRules, AfterSome, EmptyExamples}
+use Rattle.examples.specs.EmptyExamples.{HasAlikeRun, AlikeRules, AfterSome, EmptyExamples}
 use Rattle.examples.proofs.FileAnswers.{reads, row-left, reads-fills}
 use Rattle.examples.proofs.Listed.{numbers}
 use Rattle.examples.proofs.RunAnswers.{run-left}
@@ -61,8 +62,8 @@ empty-patterns = record {
 first-empty : CoversNone (coveredBy alikePatterns) 0
 first-empty = covers-none (pattern 0 5 5) refl
 
-alike : RulesAlike shorterRule longerRule
-alike = same-both (after-empty {p = 0} {p′ = 0} first-empty first-empty) (alike-same (coveredBy alikePatterns) (necessity 1 falsity))
+differ : DifferAfterEmpty shorterRule longerRule
+differ = record { patterns = refl; formulas = refl }
 
 shorter : Numbers shorterFile shorterRule (10 ∷ 0 ∷ []) alikeListing
 unfolding ruleOf recordsAt formulaOf formulaAt unsatisfiable equationsOf found explored entriesOf firstOf answerOf bit covers least countBelow decimal decimalIn
@@ -75,7 +76,7 @@ longer = numbers longerFile longerRule (34 ∷ 0 ∷ []) alikeListing refl refl 
 -- of either rule, by its two rows
 runs-alike : (s : List ℕ) (r : Rule) (set : ℕ) → Numbers s r (set ∷ 0 ∷ []) alikeListing → unsatisfiable r ≡ false → Bytes s
     → entriesOf mark (answerOf r) (set ∷ 0 ∷ []) set 256 ≡ replicate 5 1 ++ mark ∷ replicate 250 1
-    → entriesOf mark (answerOf r) (set ∷ 0 ∷ []) 0 256 ≡ replicate 256 1 → RunsAlike s
+    → entriesOf mark (answerOf r) (set ∷ 0 ∷ []) 0 256 ≡ replicate 256 1 → HasAlikeRun s
 runs-alike s r set known satisfiable bytes first-row ended-row table room =
     let row = row-left s r (known .file .reading) satisfiable (set ∷ 0 ∷ []) (known .equations) (omega arith) table room in
     run-left (reads-fills s r 2 (known .file) bytes table room) alikeScans alikeRun
@@ -84,7 +85,8 @@ runs-alike s r set known satisfiable bytes first-row ended-row table room =
 alike-rules : AlikeRules
 unfolding unsatisfiable firstOf answerOf entriesOf openedFalsities bit covers least
 alike-rules = record {
-  alike = alike;
+  differ = differ;
+  alike = differing-alike shorterRule longerRule differ;
   shorter = shorter;
   longer = longer;
   shorter-run = runs-alike shorterFile shorterRule 10 shorter refl (search arith) refl refl;
@@ -96,6 +98,16 @@ alike-rules = record {
     ms = [];
     pattern = 0;
     formula = falsity;
+    node = first whole;
+    empty = first-empty;
+    after = omega arith;
+    inside = omega arith;
+  };
+  deeper = record {
+    k = 1;
+    ms = [];
+    pattern = 0;
+    formula = max (necessity 1 (variable 0));
     node = first whole;
     empty = first-empty;
     after = omega arith;

@@ -10,7 +10,7 @@ use Rattle.reading.specs.File.{accepted, ruleOf}
 use Rattle.reading.specs.declared.Pattern.{Pattern}
 use Rattle.reading.specs.declared.Lowest.the-variants.{Absent}
 use Rattle.synthesis.specs.Violation.{ViolatesRule}
-use Rattle.synthesis.specs.Alike.{RulesAlike, AfterEmpty}
+use Rattle.synthesis.specs.Alike.{RulesAlike, DifferAfterEmpty, AfterEmpty}
 use Rattle.synthesis.specs.Monitor.{mark, most}
 use Rattle.synthesis.specs.Building.{tableLeft}
 use Rattle.synthesis.specs.declared.Counted.the-variants.{Equations, Refused}
@@ -140,23 +140,26 @@ abbrev pub alikeRun : Run
 alikeRun = record { state = moved start 1; kept = 6 ∷ 5 ∷ []; verdicts = 1 ∷ 1 ∷ 0 ∷ 0 ∷ [] }
 
 -- the run of these scans over every table that filling leaves of a file with two equations
-abbrev pub RunsAlike : (s : List ℕ) → Type 0
-RunsAlike s = (table : List ℕ) → 512 ≤ length table → (output verdicts : ℕ) → 4 ≤ output → 4 ≤ verdicts
+abbrev pub HasAlikeRun : (s : List ℕ) → Type 0
+HasAlikeRun s = (table : List ℕ) → 512 ≤ length table → (output verdicts : ℕ) → 4 ≤ output → 4 ≤ verdicts
     → runOf most mark (tableLeft most mark s table) 2 start alikeScans output verdicts ≡ accepted alikeRun
 
 pub record AlikeRules : Type 0 where
+  pub differ : DifferAfterEmpty shorterRule longerRule
   pub alike : RulesAlike shorterRule longerRule
   -- {1, 3} and {1, 5}, and the empty set: other numbers, but the same lines
   pub shorter : Numbers shorterFile shorterRule (10 ∷ 0 ∷ []) alikeListing
   pub longer : Numbers longerFile longerRule (34 ∷ 0 ∷ []) alikeListing
   -- the same verdicts, with both kinds among them
-  pub shorter-run : RunsAlike shorterFile
-  pub longer-run : RunsAlike longerFile
+  pub shorter-run : HasAlikeRun shorterFile
+  pub longer-run : HasAlikeRun longerFile
   -- The first scan is dropped by the ff of the second part, and the number of that node is what differs. Node 2 of the shorter rule is a lower ff, but stands
   -- after the empty pattern.
   pub shorter-reason : reason shorterFile [] 5 ≡ Node 4
   pub longer-reason : reason longerFile [] 5 ≡ Node 6
   pub skipped : AfterEmpty shorterRule 2
+  -- and so does all of the longer formula there, down to its variable
+  pub deeper : AfterEmpty longerRule 4
 
 -- ---- two rules that differ after a pattern that covers a code
 

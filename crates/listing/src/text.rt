@@ -66,7 +66,7 @@ impl Line {
         self.push(b' ').decimal(n)
     }
 
-    // The line with a space and a lowest code.
+    // The line with a space and a lowest code. A caller can't tell how large the code in an enum is, so it is said here how long the text may be.
     pub(crate) fn lowest(self, lowest: Lowest) -> Self
         requires { ⌜ Room self 5 ⌝ }
         ensures { λ r. ⌜ Adds self (text " " ++ lowestText lowest) r ⌝ }
