@@ -12,14 +12,13 @@ pub record Byte (s : List ℕ) (at x : ℕ) : Type 0 where
   pub inside : at < length s
   pub is : getD s at 0 ≡ x
 
-pub from-byte : {s : List ℕ} {at x : ℕ} (next : ℕ) → Byte s at x → at + 1 ≡ next → drop at s ≡ x ∷ drop next s
-from-byte {s} {at} next b e =
-    let after : suc at ≡ next = omega arith in
-    drop-cons s at 0 (b .inside) ∙ rw (b .is, after)
-
--- the byte at `at`, whatever it is, and what follows it
+-- The byte at `at`, whatever it is, and what follows it: the library's `drop-cons` with a name for the next place, which is at + 1, at + 2 and so on in a
+-- record, and `suc` of the place before there.
 pub from-place : (s : List ℕ) (at next : ℕ) → at < length s → at + 1 ≡ next → drop at s ≡ getD s at 0 ∷ drop next s
-from-place s at next inside e = from-byte next (record { inside = inside; is = refl }) e
+from-place s at next inside e = let after : suc at ≡ next = omega arith in rw (← after) (drop-cons s at 0 inside)
+
+pub from-byte : {s : List ℕ} {at x : ℕ} (next : ℕ) → Byte s at x → at + 1 ≡ next → drop at s ≡ x ∷ drop next s
+from-byte {s} {at} next b e = from-place s at next (b .inside) e ∙ rw (b .is)
 
 -- where the file from `at` on is l, its byte and its rest i places on
 module _ (s : List ℕ) (at i place : ℕ) {l : List ℕ} (from : drop at s ≡ l) (e : at + i ≡ place) where
