@@ -29,12 +29,11 @@ pub data AlikeButAfterEmpty (covered covered′ : (pattern code : ℕ) → Bool)
   after-empty : {p p′ : ℕ} {f f′ : Formula} → CoversNone covered p → CoversNone covered′ p′
       → AlikeButAfterEmpty covered covered′ (necessity p f) (necessity p′ f′)
 
--- two rules are alike
+-- two rules are alike but after empty patterns
 abbrev pub RulesAlike : Rule → Rule → Type 0
 RulesAlike r r′ = AlikeButAfterEmpty (coveredBy (r .patterns)) (coveredBy (r′ .patterns)) (r .formula) (r′ .formula)
 
--- The same in other words, where the patterns are the same: a formula with tt in the place of each formula after a pattern of no kind, and two rules that
--- are the same once these are gone. Such rules are alike: that is proved.
+-- a formula with tt in the place of each formula after a pattern of no kind
 abbrev pub trimmed : List Pattern → Formula → Formula
 trimmed ps truth = truth
 trimmed ps falsity = falsity
@@ -43,6 +42,8 @@ trimmed ps (necessity p f) = necessity p (cond (eqb (getD ps p noPattern .mask) 
 trimmed ps (max f) = max (trimmed ps f)
 trimmed ps (variable d) = variable d
 
+-- The rules that the request names: they have the same patterns, and are the same once those formulas are gone. Such rules are alike, which is proved; more
+-- are, since alike rules may have other patterns that cover the same codes.
 pub record DifferAfterEmpty (r r′ : Rule) : Type 0 where
   pub patterns : r .patterns ≡ r′ .patterns
   pub formulas : trimmed (r .patterns) (r .formula) ≡ trimmed (r′ .patterns) (r′ .formula)
