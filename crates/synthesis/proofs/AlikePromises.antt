@@ -5,7 +5,8 @@ use Rattle.synthesis.proofs.EmptyPatterns.Differing.{differing-alike}
 use Rattle.synthesis.proofs.EmptyPatterns.Places.{no-place-after-empty}
 use Rattle.synthesis.proofs.EmptyPatterns.Explaining.{explains-alike}
 use Rattle.synthesis.proofs.EmptyPatterns.Tables.{no-reason-after-empty, monitors-alike, short-tables-alike}
-use Rattle.synthesis.proofs.EmptyPatterns.SameTables.{counted-alike, tables-alike}
+use Rattle.synthesis.proofs.EmptyPatterns.SameTables.{tables-alike}
+use Rattle.synthesis.proofs.EmptyPatterns.CountingAlike.{counted-alike}
 
 pub alike-promises : AlikePromises
 alike-promises = record {

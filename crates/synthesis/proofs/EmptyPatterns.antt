@@ -7,4 +7,5 @@ pub mod Twins
 pub mod OnlyTwins
 pub mod TwinEquations
 pub mod SameTables
+pub mod CountingAlike
 pub mod Explaining

@@ -10,7 +10,7 @@ use Rattle.synthesis.specs.Violation.{ViolatesRule}
 use Rattle.synthesis.specs.Alike.{RulesAlike, DifferAfterEmpty, AfterEmpty}
 use Rattle.synthesis.specs.Monitor.{Answer, Monitors, rowOf}
 use Rattle.synthesis.specs.Merging.{DropAlike}
-use Rattle.synthesis.specs.Building.{synthesisOf, countedOf, Fills, FillsShort}
+use Rattle.synthesis.specs.Building.{synthesisOf, previewOf, shortOf, countedOf, Fills, FillsShort}
 use Rattle.synthesis.specs.Reason.{ViolatesAt, explanationOf, reasonOf}
 use Rattle.synthesis.specs.declared.Reason.{Reason}
 use Rattle.synthesis.specs.declared.Reason.the-variants.{Kept, Node, Refused}
@@ -31,11 +31,17 @@ NoPlaceAfterEmpty = (r : Rule) (w : List ℕ) (m : ℕ) → ViolatesAt r 0 w m �
 
 -- ---- what is said of files
 
--- 2. Counting answers the same of two files with alike rules: the same count, or the same refusal.
+-- 2. Counting answers the same of two files with alike rules, for the long table, on the rule page, and for the short table: the same count, or the same
+-- refusal.
+pub record CountsAlike (limit : ℕ) (s s′ : List ℕ) : Type 0 where
+  pub long : countedOf (synthesisOf limit s) ≡ countedOf (synthesisOf limit s′)
+  pub page : countedOf (previewOf s) ≡ countedOf (previewOf s′)
+  pub short : countedOf (shortOf limit s) ≡ countedOf (shortOf limit s′)
+
 abbrev pub CountedAlike : Type 0
 CountedAlike =
     (limit : ℕ) (s s′ : List ℕ) → Bytes s → Bytes s′ → (r r′ : Rule) → ruleOf s ≡ accepted r → ruleOf s′ ≡ accepted r′ → RulesAlike r r′
-    → countedOf (synthesisOf limit s) ≡ countedOf (synthesisOf limit s′)
+    → CountsAlike limit s s′
 
 -- `explain` answers the same of them but for the number of a node: both say that a scan is kept, or neither does, and both refuse alike.
 pub record ExplainedAlike (reason reason′ : Reason) : Type 0 where

@@ -17,7 +17,7 @@ use Rattle.synthesis.specs.declared.Counted.the-variants.{Equations, Refused as
 use Rattle.synthesis.proofs.Tables.SynthesisOutcomes.{fills-as-counted}
 use Rattle.synthesis.proofs.Tables.Built.{fills-when-counted}
 use Rattle.synthesis.proofs.EmptyPatterns.AlikeLaws.{violated-alike}
-use Rattle.synthesis.proofs.EmptyPatterns.SameTables.{counted-alike}
+use Rattle.synthesis.proofs.EmptyPatterns.SameTables.{long-counted-alike}
 use Rattle.enforcement.proofs.SatisfactionLaws.{satisfied-alike}
 use Rattle.models.specs.Phone.{Phone, modelOf, phoneOf}
 use Rattle.models.specs.Judging.{judgingOf, JudgedAs}
@@ -75,4 +75,4 @@ module _ (limit : ℕ) (s s′ : List ℕ) (bytes : Bytes s) (bytes′ : Bytes s
 pub judged-alike : JudgedAlike
 judged-alike limit s s′ bytes bytes′ r r′ read read′ alike table table′ size f answer answer′ judged judged′ =
     counted-both limit s s′ bytes bytes′ r r′ read read′ alike table table′ size f answer answer′ judged judged′ (countedOf (synthesisOf limit s)) refl
-    (sym (counted-alike limit s s′ bytes bytes′ r r′ read read′ alike))
+    (sym (long-counted-alike limit s s′ bytes bytes′ r r′ read read′ alike))

@@ -17,7 +17,7 @@ use Rattle.synthesis.specs.declared.Reason.{Reason}
 use Rattle.synthesis.specs.declared.Reason.the-variants.{Kept, Node, Refused}
 use Rattle.synthesis.proofs.Reasons.Explained.{reasons-exactly}
 use Rattle.synthesis.proofs.EmptyPatterns.AlikeLaws.{alike-back, violated-alike}
-use Rattle.synthesis.proofs.EmptyPatterns.SameTables.{counted-alike}
+use Rattle.synthesis.proofs.EmptyPatterns.SameTables.{long-counted-alike}
 
 -- ---- from one rule to the other
 
@@ -46,7 +46,7 @@ module _ (r r′ : Rule) (alike : RulesAlike r r′) (w : List ℕ) (c : ℕ) (r
 
 pub explains-alike : ExplainsAlike
 explains-alike limit s s′ bytes bytes′ r r′ read read′ alike w c =
-    on (countedOf (synthesisOf limit s)) refl (sym (counted-alike limit s s′ bytes bytes′ r r′ read read′ alike))
+    on (countedOf (synthesisOf limit s)) refl (sym (long-counted-alike limit s s′ bytes bytes′ r r′ read read′ alike))
   where
     said : Reason
     said = reasonOf (explanationOf limit s w c)

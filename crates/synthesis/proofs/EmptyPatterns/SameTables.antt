@@ -9,7 +9,7 @@ use native.Mathlib.Decide.{decLe}
 use native.Mathlib.Omega.{arith}
 use lib.ListN.{length, getD}
 use lib.Seq.{ext-getD}
-use Rattle.reading.specs.Rule.{Rule}
+use Rattle.reading.specs.Rule.{Rule, Bytes}
 use Rattle.reading.specs.File.{accepted, ruleOf}
 use Rattle.synthesis.specs.Alike.{RulesAlike}
 use Rattle.synthesis.specs.Monitor.{Answer, dropped, next, rowOf}
@@ -18,7 +18,7 @@ use Rattle.synthesis.specs.Search.{indexOf}
 use Rattle.synthesis.specs.Table.{entryOf, entriesOf}
 use Rattle.synthesis.specs.Building.{equationsOf, withEquations, synthesisOf, countedOf, Fills}
 use Rattle.synthesis.specs.Promises.{WellFormedFormula}
-use Rattle.synthesis.specs.AlikePromises.{SameRows, CountedAlike, TablesAlike}
+use Rattle.synthesis.specs.AlikePromises.{SameRows, TablesAlike}
 use Rattle.synthesis.specs.declared.Counted.the-variants.{Equations}
 use Rattle.synthesis.proofs.Monitors.RuleMonitor.{unsatisfiable-iff}
 use Rattle.synthesis.proofs.Monitors.Corresponding.{BothAnswer, both-dropped, both-next, Corresponds, corresponds-back}
@@ -138,8 +138,9 @@ fillings-correspond R limit limit′ mark s table r n left b s′ table′ r′ 
 unsatisfiable-both : (r r′ : Rule) → WellFormedFormula r → WellFormedFormula r′ → RulesAlike r r′ → unsatisfiable r ≡ true → unsatisfiable r′ ≡ true
 unsatisfiable-both r r′ wf wf′ a h = unsatisfiable-iff r′ wf′ .1 (violated-alike r r′ a [] .0 (unsatisfiable-iff r wf .0 h))
 
-pub counted-alike : CountedAlike
-counted-alike limit s s′ bytes bytes′ r r′ read read′ a = on (unsatisfiable r) refl (unsatisfiable r′) refl
+pub long-counted-alike : (limit : ℕ) (s s′ : List ℕ) → Bytes s → Bytes s′ → (r r′ : Rule) → ruleOf s ≡ accepted r → ruleOf s′ ≡ accepted r′
+    → RulesAlike r r′ → countedOf (synthesisOf limit s) ≡ countedOf (synthesisOf limit s′)
+long-counted-alike limit s s′ bytes bytes′ r r′ read read′ a = on (unsatisfiable r) refl (unsatisfiable r′) refl
   where
     wf : WellFormedFormula r
     wf = file-well-formed s bytes r read
