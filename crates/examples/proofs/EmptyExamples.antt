@@ -86,6 +86,7 @@ alike-rules : AlikeRules
 unfolding unsatisfiable firstOf answerOf entriesOf openedFalsities bit covers least
 alike-rules = record {
   differ = differ;
+  spread = λ f g. record { patterns = refl; formulas = refl };
   alike = differing-alike shorterRule longerRule differ;
   shorter = shorter;
   longer = longer;

@@ -144,8 +144,14 @@ abbrev pub HasAlikeRun : (s : List ℕ) → Type 0
 HasAlikeRun s = (table : List ℕ) → 512 ≤ length table → (output verdicts : ℕ) → 4 ≤ output → 4 ≤ verdicts
     → runOf most mark (tableLeft most mark s table) 2 start alikeScans output verdicts ≡ accepted alikeRun
 
+-- a rule with the same formula after the empty pattern in either part of a "both", the second after an issue of 5 too, all of it in a max
+abbrev pub spreadRule : (after : Formula) → Rule
+spreadRule f = rule alikePatterns (max (both (necessity 0 f) (necessity 1 (necessity 0 f))))
+
 pub record AlikeRules : Type 0 where
   pub differ : DifferAfterEmpty shorterRule longerRule
+  -- wherever the empty pattern stands, anything may follow it
+  pub spread : (f g : Formula) → DifferAfterEmpty (spreadRule f) (spreadRule g)
   pub alike : RulesAlike shorterRule longerRule
   -- {1, 3} and {1, 5}, and the empty set: other numbers, but the same lines
   pub shorter : Numbers shorterFile shorterRule (10 ∷ 0 ∷ []) alikeListing
