@@ -11,7 +11,7 @@ use Rattle.reading.specs.File.{recordsAt, formulaAt, formulaOf, ruleOf}
 use Rattle.reading.specs.Nodes.{whole, first}
 use Rattle.reading.proofs.Measures.Extents.{covers-none, no-extent}
 use Rattle.synthesis.specs.Violation.{coveredBy, ViolatesRule, by-falsity, by-code}
-use Rattle.synthesis.specs.Alike.{CoversNone, DifferAfterEmpty}
+use Rattle.synthesis.specs.Alike.{CoversNone, DifferAfterEmpty, same-necessity, same-falsity}
 use Rattle.synthesis.specs.Monitor.{mark}
 use Rattle.synthesis.specs.Answering.{firstOf, answerOf, unsatisfiable}
 use Rattle.synthesis.specs.Search.{explored, found}
@@ -86,6 +86,7 @@ alike-rules : AlikeRules
 unfolding unsatisfiable firstOf answerOf entriesOf openedFalsities bit covers least
 alike-rules = record {
   differ = differ;
+  renumbered = same-necessity {p = 0} {p′ = 1} (λ c. refl) same-falsity;
   spread = λ f g. record { patterns = refl; formulas = refl };
   alike = differing-alike shorterRule longerRule differ;
   shorter = shorter;

@@ -150,6 +150,8 @@ spreadRule f = rule alikePatterns (max (both (necessity 0 f) (necessity 1 (neces
 
 pub record AlikeRules : Type 0 where
   pub differ : DifferAfterEmpty shorterRule longerRule
+  -- patterns are compared by what they cover, and not by their numbers
+  pub renumbered : RulesAlike (rule (pattern 1 5 5 ∷ []) (necessity 0 falsity)) (rule alikePatterns (necessity 1 falsity))
   -- wherever the empty pattern stands, anything may follow it
   pub spread : (f g : Formula) → DifferAfterEmpty (spreadRule f) (spreadRule g)
   pub alike : RulesAlike shorterRule longerRule

@@ -67,7 +67,7 @@ PreviewListed =
     → (rule : NumberedRule) (at : ℕ)
     → listingLineAt rule (tableAfter mark (previewFillingOf s (length table)) table) n at ≡ listingLineAt rule (tableLeft most mark s table′) n at
 
--- So too over filled tables of two rules with the same patterns that differ only in formulas after empty ones.
+-- So too over the long tables of two rules with the same patterns that differ only in formulas after empty ones.
 abbrev pub ListedAlike : Type 0
 ListedAlike =
     (limit limit′ mark : ℕ) (s table : List ℕ) (r : Rule) (n : ℕ) (left : List ℕ) → Fills limit mark s table r n left

@@ -2,7 +2,7 @@
 use Rattle.synthesis.specs.AlikePromises.{AlikePromises}
 use Rattle.synthesis.proofs.EmptyPatterns.AlikeLaws.{violated-alike}
 use Rattle.synthesis.proofs.EmptyPatterns.Differing.{differing-alike}
-use Rattle.synthesis.proofs.EmptyPatterns.Places.{no-place-after-empty}
+use Rattle.synthesis.proofs.EmptyPatterns.Places.{all-after-empty, no-place-after-empty}
 use Rattle.synthesis.proofs.EmptyPatterns.Explaining.{explains-alike}
 use Rattle.synthesis.proofs.EmptyPatterns.Tables.{no-reason-after-empty, monitors-alike, short-tables-alike}
 use Rattle.synthesis.proofs.EmptyPatterns.SameTables.{tables-alike}
@@ -12,6 +12,7 @@ pub alike-promises : AlikePromises
 alike-promises = record {
   differing-alike = differing-alike;
   violated-alike = violated-alike;
+  all-after-empty = all-after-empty;
   no-place-after-empty = no-place-after-empty;
   counted-alike = counted-alike;
   explains-alike = explains-alike;

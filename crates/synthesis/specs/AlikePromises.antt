@@ -1,19 +1,20 @@
 -- What this crate promises of patterns with nothing in them, as statements over the definitions; proofs/ has a theorem of each of these types. The limit on
--- equations and the mark for dropped are any.
-use Prim.Native.Nat.{ℕ, _<_}
+-- equations and the mark for dropped are any, the limit up to the mark.
+use Prim.Native.Nat.{ℕ, suc, _+_, _<_}
 use mathlib.Core.Path.{_≡_}
 use mathlib.Core.Logic.{_↔_}
 use mathlib.Core.List.{List}
-use Rattle.reading.specs.Rule.{Rule, Bytes}
+use Rattle.reading.specs.Rule.{Formula, necessity, size, Rule, Bytes}
 use Rattle.reading.specs.File.{accepted, ruleOf}
-use Rattle.synthesis.specs.Violation.{ViolatesRule}
-use Rattle.synthesis.specs.Alike.{RulesAlike, DifferAfterEmpty, AfterEmpty}
+use Rattle.reading.specs.Nodes.{EnclosingMax, Node}
+use Rattle.synthesis.specs.Violation.{coveredBy, ViolatesRule}
+use Rattle.synthesis.specs.Alike.{CoversNone, RulesAlike, DifferAfterEmpty, AfterEmpty}
 use Rattle.synthesis.specs.Monitor.{Answer, Monitors, rowOf}
 use Rattle.synthesis.specs.Merging.{DropAlike}
 use Rattle.synthesis.specs.Building.{synthesisOf, previewOf, shortOf, countedOf, Fills, FillsShort}
 use Rattle.synthesis.specs.Reason.{ViolatesAt, explanationOf, reasonOf}
 use Rattle.synthesis.specs.declared.Reason.{Reason}
-use Rattle.synthesis.specs.declared.Reason.the-variants.{Kept, Node, Refused}
+use Rattle.synthesis.specs.declared.Reason.the-variants.{Kept, Node as AtNode, Refused}
 
 -- ---- violation
 
@@ -24,6 +25,12 @@ DifferingAlike = (r r′ : Rule) → DifferAfterEmpty r r′ → RulesAlike r r�
 -- Alike rules are violated by the same lists, accepted or not.
 abbrev pub ViolatedAlike : Type 0
 ViolatedAlike = (r r′ : Rule) → RulesAlike r r′ → (w : List ℕ) → ViolatesRule r w ↔ ViolatesRule r′ w
+
+-- Every node of the formula after an empty pattern stands after it.
+abbrev pub AllAfterEmpty : Type 0
+AllAfterEmpty =
+    (r : Rule) (k p : ℕ) (ms : List EnclosingMax) (f : Formula) → Node (r .formula) k ms (necessity p f) → CoversNone (coveredBy (r .patterns)) p
+    → (j : ℕ) → j < size f → AfterEmpty r (suc k + j)
 
 -- No node at which a list violates a rule stands after an empty pattern, also of a rule that isn't accepted.
 abbrev pub NoPlaceAfterEmpty : Type 0
@@ -57,7 +64,7 @@ ExplainsAlike =
 abbrev pub NoReasonAfterEmpty : Type 0
 NoReasonAfterEmpty =
     (limit : ℕ) (s : List ℕ) → Bytes s → (r : Rule) → ruleOf s ≡ accepted r
-    → (w : List ℕ) (c m : ℕ) → reasonOf (explanationOf limit s w c) ≡ Node m → AfterEmpty r m → ⊥
+    → (w : List ℕ) (c m : ℕ) → reasonOf (explanationOf limit s w c) ≡ AtNode m → AfterEmpty r m → ⊥
 
 -- ---- monitors
 
@@ -92,6 +99,7 @@ ShortTablesAlike =
 pub record AlikePromises : Type 1 where
   pub differing-alike : DifferingAlike
   pub violated-alike : ViolatedAlike
+  pub all-after-empty : AllAfterEmpty
   pub no-place-after-empty : NoPlaceAfterEmpty
   pub counted-alike : CountedAlike
   pub explains-alike : ExplainsAlike

@@ -12,7 +12,7 @@ use Rattle.reading.specs.Nodes.{EnclosingMax, Node, whole, first, second, after
 use Rattle.synthesis.specs.Violation.{coveredBy, Violates, by-falsity, by-first, by-second, by-code, by-body, by-variable}
 use Rattle.synthesis.specs.Alike.{AlikeButAfterEmpty, same-both, same-necessity, same-max, after-empty}
 use Rattle.synthesis.specs.Reason.{withOnly}
-use Rattle.synthesis.specs.AlikePromises.{NoPlaceAfterEmpty}
+use Rattle.synthesis.specs.AlikePromises.{AllAfterEmpty, NoPlaceAfterEmpty}
 use Rattle.synthesis.proofs.Reasons.Alone.{place-alone}
 use Rattle.synthesis.proofs.EmptyPatterns.AlikeLaws.{alike-same, formulas-violated-alike}
 
@@ -82,3 +82,15 @@ no-place-after-empty r w m v e =
     let (quiet, q, a) = silenced-around covered (r .formula) m (e .node) (omega (arith, e .after)) (omega (arith, e .inside))
     (there, tt, after-empty (e .empty) (e .empty)) in
     quiet-safe (formulas-violated-alike a w .0 (place-alone r v [] (r .formula) whole)) q tt
+
+pub all-after-empty : AllAfterEmpty
+all-after-empty r k p ms f node none j h = record {
+  k = k;
+  ms = ms;
+  pattern = p;
+  formula = f;
+  node = node;
+  empty = none;
+  after = omega arith;
+  inside = omega arith;
+}
