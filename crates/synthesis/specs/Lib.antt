@@ -1,6 +1,7 @@
 -- In the order in which to read them. `Arrays` and `Plans` serve the crate's own functions alone.
 pub mod Violation
 pub mod Alike
+pub mod Joined
 pub mod Monitor
 pub mod NodeSet
 pub mod Opening
@@ -15,5 +16,6 @@ pub mod Promises
 pub mod ShortPromises
 pub mod PreviewPromises
 pub mod AlikePromises
+pub mod JoinPromises
 pub mod Arrays
 pub mod Plans
