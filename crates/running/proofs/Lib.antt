@@ -13,6 +13,8 @@ pub mod DemandTwo
 pub mod SiftingAlike
 pub mod Reasons
 -- What the proofs of the functions use.
+pub mod ListTests
+pub mod PlaceLaws
 pub mod Ranges
 pub mod Overlays
 pub mod Stepping

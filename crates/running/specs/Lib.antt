@@ -1,4 +1,7 @@
--- In the order in which to read them.
+-- In the order in which to read them. `Places` serves the crate's own functions alone.
+pub mod Lists
 pub mod Running
 pub mod Calls
+pub mod Duty
 pub mod Promises
+pub mod Places

@@ -53,19 +53,26 @@ hasRoom scans output verdicts = leb (length scans) output && leb (length scans) 
 
 -- ---- the run
 
--- the state in which a run ends, the scans that it keeps, and its verdict on each scan
-pub record Run : Type 0 where
-  pub state : State
+-- The state in which a run ends, the scans that it keeps, and its verdict on each scan. The states are those of any monitor.
+pub record RunOver (S : Type 0) : Type 0 where
+  pub state : S
   pub kept : List ℕ
   pub verdicts : List ℕ
 
--- the run from a state over scans, by what the table answers to each
-abbrev pub runFrom : (mark : ℕ) → (table : List ℕ) → State → (scans : List ℕ) → Run
-runFrom mark table s scans = record {
-  state = ended (answerIn mark table) s scans;
-  kept = kept (answerIn mark table) s scans;
-  verdicts = verdicts (answerIn mark table) s scans;
+-- the run of a monitor from a state over scans, by what it answers to each
+abbrev pub runBy : {S : Type 0} → (answer : S → ℕ → Answer S) → S → (scans : List ℕ) → RunOver S
+runBy answer s scans = record {
+  state = ended answer s scans;
+  kept = kept answer s scans;
+  verdicts = verdicts answer s scans;
 }
+
+-- a run on a table
+abbrev pub Run : Type 0
+Run = RunOver State
+
+abbrev pub runFrom : (mark : ℕ) → (table : List ℕ) → State → (scans : List ℕ) → Run
+runFrom mark table s scans = runBy (answerIn mark table) s scans
 
 -- The outcome of a run with an output and verdicts of these sizes: 15 where they have no room for the scans, else 16 where the table, the count or the
 -- state is unfit, and else the run.
@@ -78,7 +85,7 @@ runOf limit mark table count s scans output verdicts =
 -- ---- what is handed back, and what is left in the buffers
 
 -- The answer of each outcome: fit, or the refusal with the paper's number and place.
-abbrev pub checkedOf : Outcome Run → Checked
+abbrev pub checkedOf : {A : Type 0} → Outcome A → Checked
 checkedOf (accepted y) = Fit
 checkedOf (refused number place) = Refused number place
 
@@ -90,14 +97,14 @@ occurrences x (y ∷ ys) = cond (eqb y x) (suc (occurrences x ys)) (occurrences 
 -- what a run from the state s hands back; a refused one, that state and counts of 0
 abbrev pub resultOf : State → Outcome Run → RunResult
 resultOf s (accepted y) = record { checked = checkedOf (accepted y); state = y .state; kept = length (y .kept); dropped = occurrences 1 (y .verdicts) }
-resultOf s (refused number place) = record { checked = checkedOf (refused number place); state = s; kept = 0; dropped = 0 }
+resultOf s (refused number place) = record { checked = checkedOf {A = Run} (refused number place); state = s; kept = 0; dropped = 0 }
 
 -- the scans that a run keeps and the verdicts that it gives; a refused one, none
-abbrev pub keptOf : Outcome Run → List ℕ
+abbrev pub keptOf : {S : Type 0} → Outcome (RunOver S) → List ℕ
 keptOf (accepted y) = y .kept
 keptOf (refused number place) = []
 
-abbrev pub verdictsOf : Outcome Run → List ℕ
+abbrev pub verdictsOf : {S : Type 0} → Outcome (RunOver S) → List ℕ
 verdictsOf (accepted y) = y .verdicts
 verdictsOf (refused number place) = []
 
@@ -105,8 +112,8 @@ verdictsOf (refused number place) = []
 abbrev pub overlay : (front buffer : List ℕ) → List ℕ
 overlay front buffer = front ++ drop (length front) buffer
 
-abbrev pub outputAfter : Outcome Run → List ℕ → List ℕ
+abbrev pub outputAfter : {S : Type 0} → Outcome (RunOver S) → List ℕ → List ℕ
 outputAfter outcome output = overlay (keptOf outcome) output
 
-abbrev pub verdictsAfter : Outcome Run → List ℕ → List ℕ
+abbrev pub verdictsAfter : {S : Type 0} → Outcome (RunOver S) → List ℕ → List ℕ
 verdictsAfter outcome verdicts = overlay (verdictsOf outcome) verdicts

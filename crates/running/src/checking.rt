@@ -49,7 +49,7 @@ fn is_well_formed(table: &[u8], count: usize) -> bool
 }
 
 // Whether it is, and the state's equation is one of them.
-fn fits(table: &[u8], count: usize, state: State) -> bool
+pub(crate) fn fits(table: &[u8], count: usize, state: State) -> bool
     ensures { λ r. ⌜ r ≡ fits most mark (now (table .entry)) count state ⌝ }
 {
     if !is_well_formed(table, count) {
@@ -59,7 +59,7 @@ fn fits(table: &[u8], count: usize, state: State) -> bool
 }
 
 // Whether an output and verdicts of these lengths have room for every scan.
-fn has_room(scans: &[u8], output: usize, verdicts: usize) -> bool
+pub(crate) fn has_room(scans: &[u8], output: usize, verdicts: usize) -> bool
     ensures { λ r. ⌜ r ≡ hasRoom (now (scans .entry)) output verdicts ⌝ }
 {
     if output < scans.len() {

@@ -16,7 +16,7 @@ pub(crate) struct End {
 }
 
 // The entry of an equation for a code, from the row of the equation; DROPPED where the row has none.
-fn entry(table: &[u8], equation: usize, code: u8) -> usize
+pub(crate) fn entry(table: &[u8], equation: usize, code: u8) -> usize
     ensures { λ r. ⌜ r ≡ getD (rowOf 256 (now (table .entry)) equation) code mark ⌝ }
     ensures { λ r. ⌜ r < 256 ⌝ }
 {
@@ -29,14 +29,14 @@ fn entry(table: &[u8], equation: usize, code: u8) -> usize
 }
 
 // One of two numbers.
-fn either(first: bool, a: usize, b: usize) -> usize
+pub(crate) fn either(first: bool, a: usize, b: usize) -> usize
     ensures { λ r. ⌜ r ≡ cond first a b ⌝ }
 {
     if first { a } else { b }
 }
 
 // One of two bytes.
-fn either_byte(first: bool, a: u8, b: u8) -> u8
+pub(crate) fn either_byte(first: bool, a: u8, b: u8) -> u8
     ensures { λ r. ⌜ r ≡ cond first a b ⌝ }
 {
     if first { a } else { b }

@@ -6,8 +6,10 @@ pub mod Tables
 pub mod Quotients
 pub mod Reasons
 pub mod EmptyPatterns
+pub mod Joins
 pub mod Functions
 pub mod Promises
 pub mod ShortPromises
 pub mod PreviewPromises
 pub mod AlikePromises
+pub mod JoinPromises
