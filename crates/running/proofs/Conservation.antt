@@ -4,13 +4,12 @@ use mathlib.Core.Path.{_≡_, refl, ap}
 use mathlib.Core.List.{List, [], _∷_}
 use native.Mathlib.Omega.{arith}
 use lib.ListN.{length, length-append}
-use Rattle.reading.specs.File.{refused}
+use Rattle.reading.specs.File.{accepted, refused}
 use Rattle.synthesis.specs.Monitor.{Answer, kept, verdicts}
 use Rattle.synthesis.proofs.Monitors.Runs.{run-induction, verdicts-length}
-use Rattle.running.specs.Running.{answerIn, occurrences}
+use Rattle.running.specs.Running.{answerIn, runBy, occurrences, resultOf}
 use Rattle.running.specs.Calls.{Call, History, withVerdict}
 use Rattle.running.specs.Promises.{Conserved, Conserves, CallsConserve}
-use Rattle.running.specs.declared.State.{State}
 use Rattle.running.proofs.Counting.{kept-dropped}
 use Rattle.running.proofs.WithVerdicts.{occurrences-append, with-append}
 use Rattle.running.proofs.RunCases.{run-cases}
@@ -40,22 +39,27 @@ module _ {E : Type 0} (answer : E → ℕ → Answer E) where
 
 -- ---- a call
 
-refused-conserved : (s : State) (scans : List ℕ) (number place : ℕ) → Conserved s scans (refused number place)
+-- any monitor's run
+pub run-conserved : {E : Type 0} (answer : E → ℕ → Answer E) (e : E) (scans : List ℕ)
+    → Conserved scans (accepted (runBy answer e scans)) (length (kept answer e scans)) (occurrences 1 (verdicts answer e scans))
+run-conserved answer e scans = record {
+  codes = run-splits answer e scans;
+  one-each = verdicts-length answer e scans;
+  kept = (refl, kept-zeros answer e scans);
+  dropped = refl;
+  all = kept-dropped answer e scans;
+}
+
+-- a refusal
+pub refused-conserved : {E : Type 0} (scans : List ℕ) (number place : ℕ) → Conserved {S = E} scans (refused number place) 0 0
 unfolding occurrences withVerdict
-refused-conserved s scans number place = record { codes = λ c. refl; one-each = refl; kept = (refl, refl); dropped = refl; all = refl }
+refused-conserved scans number place = record { codes = λ c. refl; one-each = refl; kept = (refl, refl); dropped = refl; all = refl }
 
 pub conserves : Conserves
 conserves limit mark table count s scans output verdicts =
-    let F = answerIn mark table in
-    run-cases limit mark table count s scans output verdicts (Conserved s scans)
-    (λ r. refused-conserved s scans 15 0) (λ r f. refused-conserved s scans 16 0)
-    (λ r f. record {
-      codes = run-splits F s scans;
-      one-each = verdicts-length F s scans;
-      kept = (refl, kept-zeros F s scans);
-      dropped = refl;
-      all = kept-dropped F s scans;
-    })
+    run-cases limit mark table count s scans output verdicts (λ o. Conserved scans o (resultOf s o .kept) (resultOf s o .dropped))
+    (λ r. refused-conserved scans 15 0) (λ r f. refused-conserved scans 16 0)
+    (λ r f. run-conserved (answerIn mark table) s scans)
 
 -- ---- any number of calls
 

@@ -1,38 +1,45 @@
 -- Two calls do what one call on both lists of scans does: the second run goes on in the state in which the first ended, which fits the table too.
-use Prim.Native.Nat.{ℕ}
-use mathlib.Core.Path.{_≡_, refl}
+use Prim.Native.Nat.{ℕ, _+_}
+use mathlib.Core.Path.{_≡_, refl, ap, _∙_}
 use mathlib.Core.Bool.{Bool, true, false}
 use mathlib.Core.List.{List, _++_}
-use lib.ListN.{length-append}
+use lib.ListN.{length, length-append}
 use Rattle.reading.specs.File.{accepted}
-use Rattle.synthesis.specs.Monitor.{kept, verdicts, ended}
+use Rattle.synthesis.specs.Monitor.{Answer, kept, verdicts, ended}
 use Rattle.synthesis.proofs.Monitors.Runs.{kept-append, verdicts-append, ended-append}
-use Rattle.running.specs.Running.{answerIn, fits, runFrom, runOf, resultOf}
+use Rattle.running.specs.Running.{answerIn, fits, runFrom, runOf, occurrences, resultOf}
 use Rattle.running.specs.Promises.{Together, TwoCalls}
 use Rattle.running.specs.declared.State.{State}
 use Rattle.running.proofs.WithVerdicts.{occurrences-append}
 use Rattle.running.proofs.RunCases.{run-unfit, run-fit}
 use Rattle.running.proofs.Tables.{fits-well-formed, well-formed-fits, ends-inside}
 
--- two runs, the second from where the first ended
+-- two runs of any monitor, the second from where the first ended
+pub record Joined {E : Type 0} (answer : E → ℕ → Answer E) (e : E) (v w : List ℕ) : Type 0 where
+  pub ends : ended answer e (v ++ w) ≡ ended answer (ended answer e v) w
+  pub keeps : kept answer e (v ++ w) ≡ kept answer e v ++ kept answer (ended answer e v) w
+  pub judges : verdicts answer e (v ++ w) ≡ verdicts answer e v ++ verdicts answer (ended answer e v) w
+  pub keeps-count : length (kept answer e (v ++ w)) ≡ length (kept answer e v) + length (kept answer (ended answer e v) w)
+  pub drops-count : occurrences 1 (verdicts answer e (v ++ w))
+      ≡ occurrences 1 (verdicts answer e v) + occurrences 1 (verdicts answer (ended answer e v) w)
+
+pub joined-runs : {E : Type 0} (answer : E → ℕ → Answer E) (e : E) (v w : List ℕ) → Joined answer e v w
+joined-runs answer e v w =
+    let e′ = ended answer e v in
+    record {
+      ends = ended-append answer e v w;
+      keeps = kept-append answer e v w;
+      judges = verdicts-append answer e v w;
+      keeps-count = ap length (kept-append answer e v w) ∙ length-append (kept answer e v) (kept answer e′ w);
+      drops-count = ap (occurrences 1) (verdicts-append answer e v w) ∙ occurrences-append 1 (verdicts answer e v) (verdicts answer e′ w);
+    }
+
 runFrom-together : (mark : ℕ) (table : List ℕ) (s : State) (v w : List ℕ)
     → Together s (accepted (runFrom mark table s v)) (accepted (runFrom mark table (ended (answerIn mark table) s v) w))
     (accepted (runFrom mark table s (v ++ w)))
 runFrom-together mark table s v w =
-    let F = answerIn mark table in
-    let e = ended F s v in
-    record {
-      checked = refl;
-      handed-back = rw (
-        ended-append F s v w,
-        kept-append F s v w,
-        verdicts-append F s v w,
-        length-append (kept F s v) (kept F e w),
-        occurrences-append 1 (verdicts F s v) (verdicts F e w),
-      );
-      kept = kept-append F s v w;
-      verdicts = verdicts-append F s v w;
-    }
+    let both = joined-runs (answerIn mark table) s v w in
+    record { checked = refl; handed-back = rw (both .ends, both .keeps-count, both .drops-count); kept = both .keeps; verdicts = both .judges }
 
 pub two-calls : TwoCalls
 two-calls limit mark table count s v w o₁ v₁ o₂ v₂ o₃ v₃ r₁ r₂ r₃ = on (fits limit mark table count s) refl

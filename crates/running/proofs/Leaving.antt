@@ -9,13 +9,11 @@ use lib.ListN.{length, drop, length-append, length-drop}
 use lib.Seq.{take-append-seam, drop-append-seam}
 use Rattle.reading.specs.File.{accepted}
 use Rattle.reading.proofs.Basics.AllLaws.{all-getD}
-use Rattle.synthesis.specs.Monitor.{verdicts}
+use Rattle.synthesis.specs.Monitor.{Answer, kept, verdicts}
 use Rattle.synthesis.proofs.Monitors.Runs.{verdicts-length}
 use Rattle.synthesis.proofs.Monitors.Verdicts.{verdicts-range}
-use Rattle.running.specs.Running.{answerIn, runFrom, resultOf, overlay}
-use Rattle.running.specs.Calls.{Call}
-use Rattle.running.specs.Promises.{RunUnchanged, RefusedUnchanged, OnlyFront, OnlyFronts, RestUnchanged}
-use Rattle.running.specs.declared.State.{State}
+use Rattle.running.specs.Running.{answerIn, runBy, resultOf, overlay}
+use Rattle.running.specs.Promises.{RunUnchanged, RefusedUnchanged, OnlyFront, Fronts, OnlyFronts, RestUnchanged}
 use Rattle.running.specs.declared.Checked.the-variants.{Fit, Refused}
 use Rattle.running.proofs.Counting.{kept-dropped}
 use Rattle.running.proofs.WithVerdicts.{kept-with}
@@ -41,20 +39,19 @@ overlay-front front buffer h = record {
   rest = drop-append-seam front (drop (length front) buffer);
 }
 
-runFrom-fronts : (mark : ℕ) (s : State) (c : Call) → length (c .scans) ≤ length (c .output) → length (c .scans) ≤ length (c .verdicts)
-    → OnlyFronts s c (accepted (runFrom mark (c .table) s (c .scans)))
-runFrom-fronts mark s c ro rv =
-    let F = answerIn mark (c .table) in
-    let w = c .scans in
-    let all = kept-dropped F s w in
-    let each = verdicts-length F s w in
+-- any monitor's run
+pub run-fronts : {E : Type 0} (answer : E → ℕ → Answer E) (e : E) (scans output judged : List ℕ) → length scans ≤ length output
+    → length scans ≤ length judged → Fronts scans output judged (accepted (runBy answer e scans)) (length (kept answer e scans))
+run-fronts answer e scans output judged ro rv =
+    let all = kept-dropped answer e scans in
+    let each = verdicts-length answer e scans in
     record {
       one-each = each;
-      zero-or-one = λ i h. all-getD (λ x. (x ≡ 0) ⊎ (x ≡ 1)) (verdicts F s w) i 0 (verdicts-range F s w) (inl refl);
-      kept-are = kept-with F s w;
+      zero-or-one = λ i h. all-getD (λ x. (x ≡ 0) ⊎ (x ≡ 1)) (verdicts answer e scans) i 0 (verdicts-range answer e scans) (inl refl);
+      kept-are = kept-with answer e scans;
       kept-count = refl;
-      output = overlay-front _ (c .output) (omega arith);
-      verdicts = overlay-front _ (c .verdicts) (omega arith);
+      output = overlay-front _ output (omega arith);
+      verdicts = overlay-front _ judged (omega arith);
     }
 
 pub rest-unchanged : RestUnchanged
@@ -63,4 +60,5 @@ rest-unchanged limit mark s c =
     (λ o. resultOf s o .checked ≡ Fit → OnlyFronts s c o)
     (λ r e. let z : _≡_ {A = ℕ} 0 1 = cc in absurd (omega arith))
     (λ r f e. let z : _≡_ {A = ℕ} 0 1 = cc in absurd (omega arith))
-    (λ r f e. let room = has-room-lengths (c .scans) (length (c .output)) (length (c .verdicts)) r in runFrom-fronts mark s c (room .0) (room .1))
+    (λ r f e. let room = has-room-lengths (c .scans) (length (c .output)) (length (c .verdicts)) r in
+    run-fronts (answerIn mark (c .table)) s (c .scans) (c .output) (c .verdicts) (room .0) (room .1))

@@ -12,6 +12,8 @@ pub mod BuiltTables
 pub mod DemandTwo
 pub mod SiftingAlike
 pub mod Reasons
+pub mod DutyCases
+pub mod TogetherLaws
 -- What the proofs of the functions use.
 pub mod ListTests
 pub mod PlaceLaws

@@ -3,5 +3,8 @@ pub mod Lists
 pub mod Running
 pub mod Calls
 pub mod Duty
+pub mod Spells
 pub mod Promises
+pub mod DutyPromises
+pub mod SpellPromises
 pub mod Places

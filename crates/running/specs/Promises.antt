@@ -18,7 +18,7 @@ use Rattle.synthesis.specs.Reason.{explanationOf, reasonOf}
 use Rattle.synthesis.specs.declared.Reason.{Reason}
 use Rattle.synthesis.specs.declared.Reason.the-variants.{Kept, Node}
 use Rattle.synthesis.specs.declared.Reason.the-variants as Reason′
-use Rattle.running.specs.Running.{moved, answerIn, hasRoom, Run, runFrom, runOf, checkedOf, occurrences, resultOf}
+use Rattle.running.specs.Running.{moved, answerIn, hasRoom, Run, RunOver, runFrom, runOf, checkedOf, occurrences, resultOf}
 use Rattle.running.specs.Running.{keptOf, verdictsOf, outputAfter, verdictsAfter}
 use Rattle.running.specs.Calls.{Call, History, taken, outcomeOf, Calls, OnTable, OnTableOrRefused, withVerdict, keptBefore}
 use Rattle.running.specs.declared.State.{State}
@@ -78,19 +78,20 @@ TwoCalls =
 
 -- ---- no scan is lost
 
--- 3. Of each code, the scans that a run took are those that it kept and those with verdict 1. The counts are as the verdicts say.
-pub record Conserved (s : State) (scans : List ℕ) (outcome : Outcome Run) : Type 0 where
+-- 3. Of each code, the scans that a run took are those that it kept and those with verdict 1. The counts that it hands back are as the verdicts say.
+pub record Conserved {S : Type 0} (scans : List ℕ) (outcome : Outcome (RunOver S)) (keeps drops : ℕ) : Type 0 where
   pub codes : (c : ℕ)
       → occurrences c (taken (checkedOf outcome) scans) ≡ occurrences c (keptOf outcome) + occurrences c (withVerdict 1 (verdictsOf outcome) scans)
   pub one-each : length (verdictsOf outcome) ≡ length (taken (checkedOf outcome) scans)
-  pub kept : (resultOf s outcome .kept ≡ length (keptOf outcome)) × (resultOf s outcome .kept ≡ occurrences 0 (verdictsOf outcome))
-  pub dropped : resultOf s outcome .dropped ≡ occurrences 1 (verdictsOf outcome)
-  pub all : resultOf s outcome .kept + resultOf s outcome .dropped ≡ length (taken (checkedOf outcome) scans)
+  pub kept : (keeps ≡ length (keptOf outcome)) × (keeps ≡ occurrences 0 (verdictsOf outcome))
+  pub dropped : drops ≡ occurrences 1 (verdictsOf outcome)
+  pub all : keeps + drops ≡ length (taken (checkedOf outcome) scans)
 
 abbrev pub Conserves : Type 0
 Conserves =
-    (limit mark : ℕ) (table : List ℕ) (count : ℕ) (s : State) (scans : List ℕ) (output verdicts : ℕ)
-    → Conserved s scans (runOf limit mark table count s scans output verdicts)
+    (limit mark : ℕ) (table : List ℕ) (count : ℕ) (s : State) (scans : List ℕ) (output verdicts : ℕ) →
+    let outcome = runOf limit mark table count s scans output verdicts in
+    Conserved scans outcome (resultOf s outcome .kept) (resultOf s outcome .dropped)
 
 -- So too after any number of calls, on any tables.
 abbrev pub CallsConserve : Type 0
@@ -160,13 +161,16 @@ pub record OnlyFront (front before after : List ℕ) : Type 0 where
 
 -- Any other run has one verdict a scan, 0 or 1, at the front of the verdicts, and the scans with verdict 0 at the front of the output, as many as it
 -- says. Behind these both buffers are as they were.
-pub record OnlyFronts (s : State) (c : Call) (outcome : Outcome Run) : Type 0 where
-  pub one-each : length (verdictsOf outcome) ≡ length (c .scans)
-  pub zero-or-one : (i : ℕ) → i < length (c .scans) → (getD (verdictsOf outcome) i 0 ≡ 0) ⊎ (getD (verdictsOf outcome) i 0 ≡ 1)
-  pub kept-are : keptOf outcome ≡ withVerdict 0 (verdictsOf outcome) (c .scans)
-  pub kept-count : resultOf s outcome .kept ≡ length (keptOf outcome)
-  pub output : OnlyFront (keptOf outcome) (c .output) (outputAfter outcome (c .output))
-  pub verdicts : OnlyFront (verdictsOf outcome) (c .verdicts) (verdictsAfter outcome (c .verdicts))
+pub record Fronts {S : Type 0} (scans before-output before-verdicts : List ℕ) (outcome : Outcome (RunOver S)) (keeps : ℕ) : Type 0 where
+  pub one-each : length (verdictsOf outcome) ≡ length scans
+  pub zero-or-one : (i : ℕ) → i < length scans → (getD (verdictsOf outcome) i 0 ≡ 0) ⊎ (getD (verdictsOf outcome) i 0 ≡ 1)
+  pub kept-are : keptOf outcome ≡ withVerdict 0 (verdictsOf outcome) scans
+  pub kept-count : keeps ≡ length (keptOf outcome)
+  pub output : OnlyFront (keptOf outcome) before-output (outputAfter outcome before-output)
+  pub verdicts : OnlyFront (verdictsOf outcome) before-verdicts (verdictsAfter outcome before-verdicts)
+
+abbrev pub OnlyFronts : State → Call → Outcome Run → Type 0
+OnlyFronts s c outcome = Fronts (c .scans) (c .output) (c .verdicts) outcome (resultOf s outcome .kept)
 
 abbrev pub RestUnchanged : Type 0
 RestUnchanged =

@@ -1,0 +1,140 @@
+-- What this crate promises of rules that come on and go off duty, over any calls at a desk, as statements over the definitions; proofs/ has a theorem of each of these types.
+-- Of a rule's table nothing is supposed but that it monitors the rule: long tables and short ones do. The limit on equations and the mark for dropped are any.
+use Prim.Native.Nat.{ℕ, _<_}
+use mathlib.Core.Path.{_≡_}
+use mathlib.Core.Logic.{_↔_, _⊎_}
+use mathlib.Core.List.{List, [], _∷_, _++_, map}
+use lib.ListN.{length, getD, take, drop}
+use Rattle.reading.specs.Rule.{Rule, All, WellFormedRule, Bytes}
+use Rattle.reading.specs.File.{Outcome}
+use Rattle.synthesis.specs.Violation.{ViolatesRule}
+use Rattle.synthesis.specs.Joined.{joined, Some}
+use Rattle.synthesis.specs.Monitor.{ended, Monitors, lookup}
+use Rattle.synthesis.specs.Building.{Fills, FillsShort}
+use Rattle.running.specs.Running.{start, RunOver, verdictsOf}
+use Rattle.running.specs.Calls.{History, Calls, OnTableOrRefused, withVerdict}
+use Rattle.running.specs.Duty.{onDuty, together, dutyRanOf}
+use Rattle.running.specs.Spells.{DutyCall, Event, Spell, Desk, newDesk, runAt, after, Each, LendsRows, OrderlyOrRefused, Quiet}
+use Rattle.running.specs.Promises.{Sifted, SameVerdicts}
+use Rattle.running.specs.DutyPromises.{SoundDuty, RestVacant}
+use Rattle.running.specs.declared.OnDuty.{OnDuty}
+use Rattle.running.specs.declared.Checked.the-variants.{Fit, Refused}
+
+-- ---- whose spells they are
+
+-- 1. After any calls from the start on, orderly or not, the spells are those of the rules on duty, by arrival, and the state is sound, with no rule in the other places.
+pub record SpellsOfDuty (desk : Desk) : Type 0 where
+  pub numbers : map (λ d. d .number) (onDuty (desk .duty)) ≡ map (λ s. s .number) (desk .spells)
+  pub bases : map (λ d. d .base) (onDuty (desk .duty)) ≡ map (λ s. s .base) (desk .spells)
+  pub counts : map (λ d. d .count) (onDuty (desk .duty)) ≡ map (λ s. s .count) (desk .spells)
+  pub sound : SoundDuty (desk .duty)
+  pub rest : RestVacant (desk .duty)
+
+abbrev pub SpellsOnDuty : Type 0
+SpellsOnDuty = (limit mark : ℕ) (es : List Event) → SpellsOfDuty (after limit mark newDesk es)
+
+-- ---- drops, by the rules alone
+
+-- What is supposed of the calls so far: from the start on, each is orderly or refused.
+abbrev pub OrderlyDay : (limit mark : ℕ) → List Event → Type 0
+OrderlyDay limit mark es = Each limit mark (OrderlyOrRefused limit mark) newDesk es
+
+-- 2. After such calls each rule is in the equation to which its own table leads by the scans kept since it came on.
+abbrev pub StandsBySpell : Type 0
+StandsBySpell =
+    (limit mark : ℕ) (es : List Event) → OrderlyDay limit mark es →
+    let desk = after limit mark newDesk es in
+    map (λ d. d .equation) (onDuty (desk .duty)) ≡ map (λ s. ended (lookup 256 mark (s .table)) 0 (s .kept)) (desk .spells)
+
+-- A scan of a run has verdict 1 exactly when for some rule on duty the scans kept since it came on, with this one after them, violate it.
+abbrev pub DropsBySpells : Desk → DutyCall → Outcome (RunOver (List OnDuty)) → Type 0
+DropsBySpells desk call outcome =
+    (i : ℕ) → i < length (call .scans) →
+    let keptOfRun = withVerdict 0 (take i (verdictsOf outcome)) (take i (call .scans)) in
+    (getD (verdictsOf outcome) i 0 ≡ 1)
+    ↔ Some (λ s. ViolatesRule (s .rule) ((s .kept ++ keptOfRun) ++ (getD (call .scans) i 0 ∷ []))) (desk .spells)
+
+-- So it is with each next run over bytes that lends the rows and isn't refused.
+abbrev pub DutyDropsExactly : Type 0
+DutyDropsExactly =
+    (limit mark : ℕ) (es : List Event) → OrderlyDay limit mark es → (call : DutyCall) → Bytes (call .scans) →
+    let desk = after limit mark newDesk es in
+    let outcome = runAt limit mark (desk .duty) call in
+    LendsRows desk call → dutyRanOf (desk .duty) outcome .checked ≡ Fit → DropsBySpells desk call outcome
+
+-- A run that lends the rows is never refused with 16.
+abbrev pub OnDutyNeverUnfit : Type 0
+OnDutyNeverUnfit =
+    (limit mark : ℕ) (es : List Event) → OrderlyDay limit mark es → (call : DutyCall) →
+    let desk = after limit mark newDesk es in
+    LendsRows desk call → dutyRanOf (desk .duty) (runAt limit mark (desk .duty) call) .checked ≡ Refused 16 0 → ⊥
+
+-- 3. The scans kept in a spell don't violate its rule, whether the spell goes on or is over.
+abbrev pub SpellsSafe : Type 0
+SpellsSafe =
+    (limit mark : ℕ) (es : List Event) → OrderlyDay limit mark es →
+    let desk = after limit mark newDesk es in
+    All (λ s. ViolatesRule (s .rule) (s .kept) → ⊥) (desk .spells ++ desk .over)
+
+-- ---- the join
+
+-- each rule on duty is in its first equation, and its table monitors its rule
+pub data Serves (mark : ℕ) (tables : List ℕ) : List OnDuty → List Rule → Type 0 where
+  none : Serves mark tables [] []
+  one : {d : OnDuty} {r : Rule} {ds : List OnDuty} {rs : List Rule} → d .equation ≡ 0 → Monitors r (lookup 256 mark (drop (d .base) tables)) 0
+      → Serves mark tables ds rs → Serves mark tables (d ∷ ds) (r ∷ rs)
+
+-- 4. Rules on duty that are all in their first equation are one monitor of the rule that joins theirs, accepted or not.
+abbrev pub DutyMonitors : Type 0
+DutyMonitors =
+    (mark : ℕ) (tables : List ℕ) (ds : List OnDuty) (r : Rule) (rs : List Rule) → All WellFormedRule (r ∷ rs) → Serves mark tables ds (r ∷ rs)
+    → Monitors (joined r rs) (together mark tables) ds
+
+-- what a desk has had since it was as another: scans, kept scans and verdicts
+abbrev pub since : (before now : Desk) → History
+since before now = record {
+  state = start;
+  scans = drop (length (before .scans)) (now .scans);
+  kept = drop (length (before .kept)) (now .kept);
+  verdicts = drop (length (before .verdicts)) (now .verdicts);
+}
+
+-- A day on which no scan was kept between the comings of the rules on duty, nor after the last of them, and later calls among which nobody comes on or goes off. The rules
+-- are r and rs, by arrival.
+pub record JoinDay (limit mark : ℕ) (es later : List Event) (r : Rule) (rs : List Rule) : Type 0 where
+  pub orderly : OrderlyDay limit mark es
+  pub none-kept : All (λ s. s .kept ≡ []) (after limit mark newDesk es .spells)
+  pub rules : map (λ s. s .rule) (after limit mark newDesk es .spells) ≡ r ∷ rs
+  pub well-formed : All WellFormedRule (r ∷ rs)
+  pub quiet : Each limit mark (λ desk e. OrderlyOrRefused limit mark desk e × Quiet limit mark desk e) (after limit mark newDesk es) later
+
+-- 5. Since then the rule that joins theirs, accepted or not, has dropped exactly what would violate it: demand 2 holds of it.
+abbrev pub JoinSifts : Type 0
+JoinSifts =
+    (limit mark : ℕ) (es later : List Event) (r : Rule) (rs : List Rule) → JoinDay limit mark es later r rs →
+    let desk = after limit mark newDesk es in
+    Sifted (joined r rs) (since desk (after limit mark desk later))
+
+-- So the verdicts and the kept scans are those of `run` from the start over the same scans, in any calls, on a table that filling leaves of a file that says the joined rule, the
+-- long one or the short one.
+abbrev pub JoinsAsOne : Type 0
+JoinsAsOne =
+    (limit mark : ℕ) (es later : List Event) (r : Rule) (rs : List Rule) → JoinDay limit mark es later r rs →
+    let desk = after limit mark newDesk es in
+    let had = since desk (after limit mark desk later) in
+    (limit′ mark′ : ℕ) (s table : List ℕ) (n : ℕ) (left : List ℕ)
+    → Fills limit′ mark′ s table (joined r rs) n left ⊎ FillsShort limit′ mark′ s table (joined r rs) n left
+    → (h : History) → Calls limit′ mark′ (OnTableOrRefused limit′ mark′ left n) h → h .scans ≡ had .scans → SameVerdicts had h
+
+-- ---- all of these
+
+-- The theorem `spell-promises` has this type, so that each promise has its proof.
+pub record SpellPromises : Type 0 where
+  pub spells-on-duty : SpellsOnDuty
+  pub stands-by-spell : StandsBySpell
+  pub duty-drops-exactly : DutyDropsExactly
+  pub on-duty-never-unfit : OnDutyNeverUnfit
+  pub spells-safe : SpellsSafe
+  pub duty-monitors : DutyMonitors
+  pub join-sifts : JoinSifts
+  pub joins-as-one : JoinsAsOne
