@@ -14,9 +14,11 @@ pub mod SiftingAlike
 pub mod Reasons
 pub mod DutyCases
 pub mod TogetherLaws
+pub mod DutyMonitors
 -- What the proofs of the functions use.
 pub mod ListTests
 pub mod PlaceLaws
+pub mod RosterLaws
 pub mod Ranges
 pub mod Overlays
 pub mod Stepping
