@@ -13,9 +13,9 @@ use Rattle.reading.specs.File.{accepted}
 use Rattle.synthesis.specs.Monitor.{mark, most}
 use Rattle.synthesis.specs.Building.{tableLeft, Fills}
 use Rattle.synthesis.specs.Joined.{joined}
-use Rattle.running.specs.Running.{start, moved, Run, runOf}
-use Rattle.running.specs.Duty.{vacant, dutyOf, nobody, atStart, movedTo}
-use Rattle.running.specs.Spells.{DutyCall, Coming, Event, runs, comes, goes, Desk, newDesk, after, answered}
+use Rattle.running.specs.Running.{start, moved, runOf}
+use Rattle.running.specs.Duty.{dutyOf, atStart, movedTo}
+use Rattle.running.specs.Spells.{Event, runs, comes, goes, Desk, newDesk, after, answered}
 use Rattle.running.specs.SpellPromises.{OrderlyDay, JoinDay}
 use Rattle.running.specs.declared.OnDuty.{OnDuty}
 use Rattle.running.specs.declared.Duty.{Duty}
@@ -75,8 +75,10 @@ abbrev pub day : List Event
 day = comings ++ (runOver morning ∷ goes 9 ∷ runOver (64 ∷ 0 ∷ []) ∷ raceComes ∷ runOver (64 ∷ 0 ∷ []) ∷ [])
 
 -- the rules on duty, each in an equation
-abbrev pub hold race : (equation : ℕ) → OnDuty
+abbrev pub hold : (equation : ℕ) → OnDuty
 hold e = movedTo (atStart 7 0 2) e
+
+abbrev pub race : (equation : ℕ) → OnDuty
 race e = movedTo (atStart 9 512 2) e
 
 pub record DutyDay : Type 0 where

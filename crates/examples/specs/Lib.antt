@@ -14,4 +14,5 @@ pub mod TableExamples
 pub mod FamilyExamples
 pub mod PreviewExamples
 pub mod EmptyExamples
+pub mod DutyExamples
 pub mod Promises

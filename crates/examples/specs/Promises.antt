@@ -17,6 +17,7 @@ use Rattle.examples.specs.TableExamples.{TableExamples}
 use Rattle.examples.specs.FamilyExamples.{FamilyExamples}
 use Rattle.examples.specs.PreviewExamples.{PreviewExamples}
 use Rattle.examples.specs.EmptyExamples.{EmptyExamples}
+use Rattle.examples.specs.DutyExamples.{DutyExamples}
 
 pub record Promises : Type 1 where
   pub paper-examples : PaperExamples
@@ -34,3 +35,4 @@ pub record Promises : Type 1 where
   pub family-examples : FamilyExamples
   pub preview-examples : PreviewExamples
   pub empty-examples : EmptyExamples
+  pub duty-examples : DutyExamples

@@ -21,6 +21,9 @@ pub mod PlaceLaws
 pub mod RosterLaws
 pub mod Ranges
 pub mod Overlays
+pub mod Entries
+pub mod Buffers
 pub mod Stepping
+pub mod ServingSteps
 pub mod Outcomes
 pub mod Promises

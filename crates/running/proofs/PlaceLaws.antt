@@ -1,13 +1,13 @@
 -- The places of the rules on duty, of which the code looks at one after another: the rules in the first n places, one place more at a time.
 use Prim.Native.Nat.{ℕ, zero, suc, _+_, _-_, _≤_, _<_}
-use mathlib.Core.Path.{_≡_, refl, sym, _∙_, ap}
+use mathlib.Core.Path.{_≡_, refl, sym, _∙_}
 use mathlib.Core.List.{List, [], _∷_, _++_}
 use native.Mathlib.Omega.{arith}
 use native.Mathlib.Numerals.{add-one}
-use lib.ListN.{length, getD, take, set, replicate, length-append, List·getD-append}
-use lib.Seq.{take-all, take-suc, append-snoc, set-append-seam}
-use Rattle.reading.specs.Numbered.{padded}
-use Rattle.running.specs.Duty.{vacant, inPlaces}
+use lib.ListN.{length, getD, take, set, length-append, List·getD-append}
+use lib.Seq.{take-all, take-suc, getD-set-same, getD-set-other}
+use Rattle.running.specs.Duty.{vacant, inPlaces, movedTo}
+use Rattle.running.specs.Places.{standing}
 use Rattle.running.specs.declared.OnDuty.{OnDuty}
 
 -- ---- the first n places
@@ -31,16 +31,28 @@ module _ (l rest : List OnDuty) where
   pub places-of : (n : ℕ) → length l ≡ n → inPlaces n (l ++ rest) ≡ l
   places-of n e = places-take n (omega arith) ∙ take-all n l (omega arith)
 
--- ---- one rule more
+-- ---- the equations apart from the rules
 
--- one more goes into the place behind the others
-pub padded-set : {A : Type 0} (k : ℕ) (none : A) (l : List A) (x : A) → length l < k
-    → set (padded k none l) (length l) x ≡ padded k none (l ++ (x ∷ []))
-padded-set {A} k none l x h = go (k - length l) refl
-  where
-    go : (m : ℕ) → k - length l ≡ m
-        → set (l ++ replicate (k - length l) none) (length l) x ≡ (l ++ (x ∷ [])) ++ replicate (k - length (l ++ (x ∷ []))) none
-    go zero e = absurd (omega arith)
-    go (suc m) e =
-        let rest : k - length (l ++ (x ∷ [])) ≡ m = rw (length-append l (x ∷ [])) (omega arith) in
-        rw (e, rest, set-append-seam, append-snoc)
+pub standing-more : (i : ℕ) (places : List OnDuty) (equations : List ℕ)
+    → standing (i + 1) places equations ≡ standing i places equations ++ (movedTo (getD places i vacant) (getD equations i 0) ∷ [])
+unfolding standing
+standing-more i places equations = rw add-one
+
+pub standing-length : (n : ℕ) (places : List OnDuty) (equations : List ℕ) → length (standing n places equations) ≡ n
+unfolding standing
+standing-length zero places equations = refl
+standing-length (suc n) places equations = length-append (standing n places equations) (_ ∷ []) ∙ rw (standing-length n places equations, add-one)
+
+-- an equation behind the first i says nothing of them
+standing-set : (i k : ℕ) (places : List OnDuty) (equations : List ℕ) (e : ℕ) → i ≤ k
+    → standing i places (set equations k e) ≡ standing i places equations
+unfolding standing
+standing-set zero k places equations e h = refl
+standing-set (suc i) k places equations e h =
+    rw (standing-set i k places equations e (omega arith), getD-set-other equations k i e 0 (λ q. omega arith))
+
+-- so one that is set in the next place adds its rule
+pub standing-next : (i : ℕ) (places : List OnDuty) (equations : List ℕ) (e : ℕ) → i < length equations
+    → standing (i + 1) places (set equations i e) ≡ standing i places equations ++ (movedTo (getD places i vacant) e ∷ [])
+standing-next i places equations e h =
+    rw (standing-more i places (set equations i e), standing-set i i places equations e (omega arith), getD-set-same equations i e 0)

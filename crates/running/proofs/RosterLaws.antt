@@ -11,13 +11,14 @@ use borrow.Author.Tests.{leb-true, eqb-true, eqb-false, eq-eqb, ne-eqb, lt-leb}
 use lib.ListN.{length, getD, set, take, drop, length-append, length-drop, drop-of-length-le}
 use lib.Seq.{take-all, set-getD}
 use Rattle.reading.specs.Numbered.{padded}
+use Rattle.reading.proofs.RecordLists.RecordsRead.{set-padded}
 use Rattle.running.specs.Lists.{any}
 use Rattle.running.specs.Running.{entriesInRange, isWellFormed, fits}
 use Rattle.running.specs.Duty.{vacant, inPlaces, onDuty, isOn, areDistinct, isSound, without, fitsAt}
 use Rattle.running.specs.declared.OnDuty.{OnDuty}
 use Rattle.running.specs.declared.Duty.{Duty}
 use Rattle.running.proofs.ListTests.{any-last, filter-last}
-use Rattle.running.proofs.PlaceLaws.{places-more, padded-set}
+use Rattle.running.proofs.PlaceLaws.{places-more}
 
 -- ---- the tests
 
@@ -43,13 +44,6 @@ distinct-last (x ∷ ds) d =
 pub sound-count : (duty : Duty) → isSound duty ≡ true → duty .count ≤ 4
 sound-count duty e = leb-true (duty .count) 4 (and-eq-true-iff (leb (duty .count) 4) (areDistinct (onDuty duty)) .0 e .0)
 
--- ---- the places
-
--- one more goes into the place behind n others
-pub padded-next : {A : Type 0} (k : ℕ) (none : A) (l : List A) (x : A) (n : ℕ) → length l ≡ n → n < k
-    → set (padded k none l) n x ≡ padded k none (l ++ (x ∷ []))
-padded-next k none l x n e h = rw (← e) (padded-set k none l x (omega arith))
-
 -- ---- those that stay
 
 module _ (number : ℕ) (rules : List OnDuty) where
@@ -70,7 +64,7 @@ module _ (number : ℕ) (rules : List OnDuty) where
     next-if true q = record {
       few = omega arith;
       places-are = rw (without-more true q, h .places-are)
-          (padded-next 4 vacant (without number (inPlaces i rules)) (getD rules i vacant) count (sym (h .count-is)) (omega arith));
+          (set-padded 4 count vacant (getD rules i vacant) (without number (inPlaces i rules)) (sym (h .count-is)) (omega arith));
       count-is = rw (without-more true q, length-append) (ap (λ (n : ℕ). n + 1) (h .count-is));
     }
     next-if false q = record {

@@ -8,7 +8,7 @@ use native.Mathlib.Omega.{arith}
 use Rattle.synthesis.specs.Joined.{Some}
 use Rattle.synthesis.specs.Monitor.{Answer, dropped, next, cases}
 use Rattle.running.specs.Lists.{any}
-use Rattle.running.specs.Duty.{ownAnswer, wouldDrop, someDrops, movedTo, movedBy, together}
+use Rattle.running.specs.Duty.{ownAnswer, someDrops, movedTo, movedBy, together}
 use Rattle.running.specs.declared.OnDuty.{OnDuty}
 
 module _ (mark : ℕ) (tables : List ℕ) (c : ℕ) where

@@ -14,7 +14,7 @@ use Rattle.synthesis.specs.Building.{Fills, FillsShort}
 use Rattle.running.specs.Running.{start, RunOver, verdictsOf}
 use Rattle.running.specs.Calls.{History, Calls, OnTableOrRefused, withVerdict}
 use Rattle.running.specs.Duty.{onDuty, together, dutyRanOf}
-use Rattle.running.specs.Spells.{DutyCall, Event, Spell, Desk, newDesk, runAt, after, Each, LendsRows, OrderlyOrRefused, Quiet}
+use Rattle.running.specs.Spells.{DutyCall, Event, Desk, newDesk, runAt, after, Each, LendsRows, OrderlyOrRefused, Quiet}
 use Rattle.running.specs.Promises.{Sifted, SameVerdicts}
 use Rattle.running.specs.DutyPromises.{SoundDuty, RestVacant}
 use Rattle.running.specs.declared.OnDuty.{OnDuty}

@@ -7,10 +7,10 @@ use borrow.Author.Needs.{needs}
 use borrow.Author.Tests.{le-leb, lt-leb}
 use lib.ListN.{length-append}
 use Rattle.reading.specs.File.{accepted, refuse}
+use Rattle.reading.proofs.RecordLists.RecordsRead.{set-padded}
 use Rattle.synthesis.specs.Monitor.{mark, most}
 use Rattle.running.specs.Duty.{vacant, onDuty, isOn, fitsAt, atStart, comingOf}
 use Rattle.running.proofs.PlaceLaws.{places-length}
-use Rattle.running.proofs.RosterLaws.{padded-next}
 use Rattle.running.proofs.come_on.Statement.{statement}
 use Rattle.running.proofs.come_on.Tie as tie
 
@@ -90,7 +90,7 @@ returns-5 c =
     let l = onDuty (x .duty) in
     let n = places-length (x .duty .count) (x .duty .rules) in
     rw (passed (on .before .before), ← on .is-on .ensures, fit .before .if3 .left, ← fit .fits-at .ensures, c .before .if4 .left)
-    (rw (c .only-first .ensures, padded-next 4 vacant l rule (x .duty .count) n (omega arith), length-append l (rule ∷ []), n))
+    (rw (c .only-first .ensures, set-padded 4 (x .duty .count) vacant rule l n (omega arith), length-append l (rule ∷ []), n))
 
 pub come-on-spec : {M : Type 1} → statement M
 come-on-spec =

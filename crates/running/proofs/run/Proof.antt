@@ -1,10 +1,9 @@
 -- `run` meets its contract.
-use native.Mathlib.Omega.{arith}
 use borrow.Author.Needs.{needs}
 use lib.ListN.{length}
 use Rattle.synthesis.specs.Monitor.{mark, most}
-use Rattle.running.specs.Running.{answerIn, runOf}
-use Rattle.running.proofs.Counting.{kept-dropped}
+use Rattle.running.specs.Running.{answerIn, runOf, resultOf}
+use Rattle.running.proofs.Counting.{kept-few, rest-dropped}
 use Rattle.running.proofs.Outcomes.{Passed, passed, refused-leaves, accepted-leaves}
 use Rattle.running.proofs.run.Statement.{statement}
 use Rattle.running.proofs.run.Tie as tie
@@ -29,9 +28,10 @@ enum-told-2 c = search needs
 returns : tie.Need-returns
 returns c =
     let x = c .before .before .before .before .before .before .before .args in
-    refused-leaves (x .state)
+    let told = c .enum-told2 .given .1 in
+    refused-leaves (resultOf (x .state)) (x .output .now) (x .verdicts .now)
     (runOf most mark (x .table .now) (x .count) (x .state) (x .scans .now) (length (x .output .now)) (length (x .verdicts .now)))
-    (c .before .before .check .ensures) (c .enum-told2 .given .1) (x .output .now) (x .verdicts .now)
+    (c .before .before .check .ensures) told (rw told)
 
 follow-requires : tie.Need-follow-requires
 follow-requires c κs =
@@ -42,7 +42,7 @@ sub-dropped : tie.Need-sub-dropped
 sub-dropped c =
     let f = c .before .before .before .before .before in
     let x = f .before .before .before .before .before .before .before .before .before .before .args in
-    omega (arith, f .follow .ensures .1 .0, kept-dropped (answerIn mark (x .table .now)) (x .state) (x .scans .now))
+    kept-few (answerIn mark (x .table .now)) (x .state) (x .scans .now) (f .follow .ensures .1 .0)
 
 same-length : tie.Need-same-length
 same-length c = search needs
@@ -56,8 +56,9 @@ returns-2 c =
     let t = f .before .before .before in
     let x = t .before .before .before .before .before .before .before .args in
     let e = f .follow .ensures in
-    accepted-leaves mark (x .table .now) (x .state) (x .scans .now) (fit t .is) (t .enum-told .given .1) (e .0) (e .1 .0)
-    (x .output .now) (x .verdicts .now) (e .1 .1 .0) (e .1 .1 .1)
+    let rest = rest-dropped (answerIn mark (x .table .now)) (x .state) (x .scans .now) (e .1 .0) in
+    accepted-leaves (resultOf (x .state)) (x .output .now) (x .verdicts .now) (fit t .is) (rw (t .enum-told .given .1, e .0, rest, e .1 .0))
+    (e .1 .1 .0) (e .1 .1 .1)
 
 pub run-spec : {M : Type 1} → statement M
 run-spec =

@@ -74,7 +74,7 @@ loop-again c =
     (c .either2 .ensures)
 
 add-kept : tie.Need-add-kept Inv-loop μ-loop
-add-kept c = omega (arith, loop-again c .few)
+add-kept c = omega (arith, loop-again c .filled .few)
 
 same-length : tie.Need-same-length Inv-loop μ-loop
 same-length c = search needs

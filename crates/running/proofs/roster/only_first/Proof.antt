@@ -4,9 +4,9 @@ use mathlib.Core.Path.{_≡_}
 use native.Mathlib.Omega.{arith}
 use borrow.Author.Needs.{needs}
 use Rattle.reading.specs.Numbered.{padded}
+use Rattle.reading.proofs.RecordLists.RecordsRead.{set-padded}
 use Rattle.running.specs.Duty.{vacant, inPlaces}
 use Rattle.running.proofs.PlaceLaws.{places-more, places-length}
-use Rattle.running.proofs.RosterLaws.{padded-next}
 use Rattle.running.proofs.roster.only_first.Statement.{statement}
 use Rattle.running.proofs.roster.only_first.Tie as tie
 
@@ -48,7 +48,7 @@ loop-again c =
     let i = l .loop .i in (
       search needs,
       search needs,
-      rw (places-more i (x .t1), l .loop .inv .2) (padded-next 4 vacant (inPlaces i (x .t1)) _ i (places-length i (x .t1)) (omega arith)),
+      rw (places-more i (x .t1), l .loop .inv .2) (set-padded 4 i vacant _ (inPlaces i (x .t1)) (places-length i (x .t1)) (omega arith)),
     )
 
 returns : tie.Need-returns Inv-loop μ-loop
