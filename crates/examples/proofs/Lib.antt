@@ -29,4 +29,5 @@ pub mod FamilyExamples
 pub mod PreviewExamples
 pub mod EmptyCounts
 pub mod EmptyExamples
+pub mod DutyExamples
 pub mod Promises

@@ -15,6 +15,7 @@ use Rattle.examples.proofs.TableExamples.{table-examples}
 use Rattle.examples.proofs.FamilyExamples.{family-examples}
 use Rattle.examples.proofs.PreviewExamples.{preview-examples}
 use Rattle.examples.proofs.EmptyExamples.{empty-examples}
+use Rattle.examples.proofs.DutyExamples.{duty-examples}
 
 pub promises : Promises
 promises = record {
@@ -33,4 +34,5 @@ promises = record {
   family-examples = family-examples;
   preview-examples = preview-examples;
   empty-examples = empty-examples;
+  duty-examples = duty-examples;
 }
