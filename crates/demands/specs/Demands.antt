@@ -21,10 +21,14 @@ use Rattle.synthesis.specs.ShortPromises.{RefusesAlike}
 use Rattle.synthesis.specs.PreviewPromises.{SameAtDesk}
 use Rattle.synthesis.specs.declared.Counted.the-variants as Counted
 use Rattle.synthesis.specs.declared.Reason.the-variants as Reason
-use Rattle.running.specs.Running.{resultOf}
+use Rattle.running.specs.Running.{checkedOf, resultOf}
 use Rattle.running.specs.Calls.{Call, History, Calls, OnTable, OnTableOrRefused}
-use Rattle.running.specs.Promises.{SiftsOn, ReasonsOn, RunUnchanged, OnlyFronts}
+use Rattle.running.specs.Duty.{changedOf, dutyRanOf}
+use Rattle.running.specs.Spells.{DutyCall, Coming}
+use Rattle.running.specs.Promises.{SiftsOn, ReasonsOn, RunUnchanged, Fronts, OnlyFronts}
+use Rattle.running.specs.DutyPromises.{DutyUnchanged}
 use Rattle.running.specs.declared.State.{State}
+use Rattle.running.specs.declared.Duty.{Duty}
 use Rattle.running.specs.declared.Checked.the-variants as Checked
 use Rattle.enforcement.specs.Model.{Bisimilar, suppressing, monitored}
 use Rattle.models.specs.Phone.{Phone, modelOf, PhoneWithinLimits, encodePhone, phoneOf}
@@ -35,7 +39,9 @@ use Rattle.models.specs.declared.Judged.{Judged}
 use Rattle.models.specs.declared.Judged.the-variants as Judged′
 use Rattle.demands.specs.Outcomes.{counting, explaining, filling, tableFilled, previewCounting, previewFilling, previewTableFilled}
 use Rattle.demands.specs.Outcomes.{shortCounting, shortFilling, shortTableFilled, running, judging, tableAfterJudging, RefusedIff, IfRefused}
+use Rattle.demands.specs.Outcomes.{comingOn, goingOff, runningOnDuty}
 use Rattle.demands.specs.Refusals.{DeskRefused, PageRefused, ExplainRefused, FillRefused, RunRefused, JudgeRefused}
+use Rattle.demands.specs.Refusals.{ComeRefused, GoRefused, DutyRunRefused}
 
 -- ---- demand 1
 
@@ -54,16 +60,24 @@ pub record RefusesExactly : Type 1 where
   pub fill-short : (s table : List ℕ) → Bytes s
       → RefusedIff (countedOf (shortFilling s table)) Counted.Refused (FillRefused (DeskRefused s) (countedOf (shortCounting s)) (length table))
   pub run : (s : State) (c : Call) → RefusedIff (resultOf s (running s c) .checked) Checked.Refused (RunRefused s c)
+  pub come-on : (d : Duty) (x : Coming) → RefusedIff (changedOf d (comingOn d x) .checked) Checked.Refused (ComeRefused d x)
+  pub go-off : (d : Duty) (number : ℕ) → RefusedIff (changedOf d (goingOff d number) .checked) Checked.Refused (GoRefused d number)
+  pub check-on-duty : (d : Duty) (c : DutyCall) → RefusedIff (checkedOf (runningOnDuty d c)) Checked.Refused (DutyRunRefused d c)
+  pub run-on-duty : (d : Duty) (c : DutyCall) → RefusedIff (dutyRanOf d (runningOnDuty d c) .checked) Checked.Refused (DutyRunRefused d c)
   pub read-model : (f : List ℕ) → Bytes f → RefusedIff (modelReadingOf (phoneOf f) .answer) Reading.Refused (ModelFault f)
   pub judge : (s table f : List ℕ) → Bytes s → Bytes f → (answer : Judged) → JudgedAs (judging s table f) answer
       → RefusedIff answer Judged′.Refused (JudgeRefused s (countedOf (counting s)) (length table) f)
 
--- A refused call changes no lent buffer, and a refused run hands back the state that it was given and counts of 0.
+-- A refused call changes no lent buffer, and hands back the state that it was given, a refused run with counts of 0.
 pub record LeavesUnchanged : Type 0 where
   pub fill : (s table : List ℕ) → IfRefused (countedOf (filling s table)) Counted.Refused (TableUnchanged mark table (filling s table))
   pub fill-preview : (s table : List ℕ) → IfRefused (countedOf (previewFilling s table)) Counted.Refused (TableUnchanged mark table (previewFilling s table))
   pub fill-short : (s table : List ℕ) → IfRefused (countedOf (shortFilling s table)) Counted.Refused (TableUnchanged mark table (shortFilling s table))
   pub run : (s : State) (c : Call) → IfRefused (resultOf s (running s c) .checked) Checked.Refused (RunUnchanged s c (running s c))
+  pub come-on : (d : Duty) (x : Coming) → IfRefused (changedOf d (comingOn d x) .checked) Checked.Refused (changedOf d (comingOn d x) .duty ≡ d)
+  pub go-off : (d : Duty) (number : ℕ) → IfRefused (changedOf d (goingOff d number) .checked) Checked.Refused (changedOf d (goingOff d number) .duty ≡ d)
+  pub run-on-duty : (d : Duty) (c : DutyCall)
+      → IfRefused (dutyRanOf d (runningOnDuty d c) .checked) Checked.Refused (DutyUnchanged d (c .output) (c .verdicts) (runningOnDuty d c))
   pub judge : (s table f : List ℕ) (answer : Judged) → JudgedAs (judging s table f) answer
       → IfRefused answer Judged′.Refused (tableAfterJudging s table f ≡ table)
 
@@ -76,6 +90,8 @@ pub record LeavesTheRest : Type 0 where
   pub fill-short : (s table : List ℕ) (n : ℕ) → countedOf (shortFilling s table) ≡ Counted.Equations n
       → SameAfterRows n table (shortTableFilled s table)
   pub run : (s : State) (c : Call) → resultOf s (running s c) .checked ≡ Checked.Fit → OnlyFronts s c (running s c)
+  pub run-on-duty : (d : Duty) (c : DutyCall) → dutyRanOf d (runningOnDuty d c) .checked ≡ Checked.Fit
+      → Fronts (c .scans) (c .output) (c .verdicts) (runningOnDuty d c) (dutyRanOf d (runningOnDuty d c) .kept)
   pub judge : (s table f : List ℕ) (answer : Judged) → JudgedAs (judging s table f) answer → (answer ≡ Judged′.Meets) ⊎ (answer ≡ Judged′.Breaks)
       → tableAfterJudging s table f ≡ tableFilled s table
 

@@ -9,9 +9,13 @@ use Rattle.reading.specs.File.{Outcome}
 use Rattle.synthesis.specs.Monitor.{mark, most}
 use Rattle.synthesis.specs.Building.{Synthesis, synthesisOf, fillingOf, tableAfter, tableLeft, shortOf, shortFillingOf, previewOf, previewFillingOf}
 use Rattle.synthesis.specs.Reason.{explanationOf}
-use Rattle.running.specs.Running.{Run}
+use Rattle.running.specs.Running.{Run, RunOver}
 use Rattle.running.specs.Calls.{Call, outcomeOf}
+use Rattle.running.specs.Duty.{goingOf}
+use Rattle.running.specs.Spells.{DutyCall, Coming, runAt, comingAt}
 use Rattle.running.specs.declared.State.{State}
+use Rattle.running.specs.declared.OnDuty.{OnDuty}
+use Rattle.running.specs.declared.Duty.{Duty}
 use Rattle.models.specs.Judging.{RuleAndModel, judgingOf, tableJudged}
 
 -- ---- outcomes
@@ -54,6 +58,16 @@ shortTableFilled s table = tableAfter mark (shortFilling s table) table
 -- a call of a run with this state
 abbrev pub running : State → Call → Outcome Run
 running s c = outcomeOf most mark s c
+
+-- a rule that comes on duty or goes off, and a run on duty, where these rules are on duty
+abbrev pub comingOn : Duty → Coming → Outcome (List OnDuty)
+comingOn d x = comingAt most mark d x
+
+abbrev pub goingOff : Duty → (number : ℕ) → Outcome (List OnDuty)
+goingOff d number = goingOf d number
+
+abbrev pub runningOnDuty : Duty → DutyCall → Outcome (RunOver (List OnDuty))
+runningOnDuty d c = runAt most mark d c
 
 -- judging a model file under a rule file, with a table for the rows
 abbrev pub judging : (s table f : List ℕ) → Outcome RuleAndModel

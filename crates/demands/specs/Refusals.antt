@@ -4,7 +4,7 @@ use Prim.Native.Nat.{ℕ, _+_, _*_, _≤_, _<_}
 use mathlib.Core.Path.{_≡_}
 use mathlib.Core.Logic.{_⊎_}
 use mathlib.Core.List.{List}
-use lib.ListN.{length, getD}
+use lib.ListN.{length, getD, drop}
 use Rattle.reading.specs.Rule.{Rule, RuleWithinLimits, encode}
 use Rattle.reading.specs.Faults.{Fault as RuleFault}
 use Rattle.synthesis.specs.Monitor.{mark, most}
@@ -13,8 +13,12 @@ use Rattle.synthesis.specs.Reason.{FirstViolated}
 use Rattle.synthesis.specs.Promises.{Closed}
 use Rattle.synthesis.specs.declared.Counted.{Counted}
 use Rattle.synthesis.specs.declared.Counted.the-variants.{Equations}
+use Rattle.running.specs.Running.{start, moved}
 use Rattle.running.specs.Calls.{Call}
+use Rattle.running.specs.Spells.{DutyCall, Coming}
+use Rattle.running.specs.DutyPromises.{ruleIn, SoundDuty, OnDutyUnder}
 use Rattle.running.specs.declared.State.{State}
+use Rattle.running.specs.declared.Duty.{Duty}
 use Rattle.enforcement.specs.Model.{Model, Finite, Satisfies}
 use Rattle.models.specs.Faults.{Fault as ModelFault}
 use Rattle.models.specs.Promises.{Acceptable}
@@ -66,6 +70,34 @@ pub data RunRefused (s : State) (c : Call) : (number place : ℕ) → Type 0 whe
   short-buffer : (length (c .output) < length (c .scans)) ⊎ (length (c .verdicts) < length (c .scans)) → RunRefused s c 15 0
   -- 16: the buffers are long enough, and the table, the count or the state is unfit
   unfit : length (c .scans) ≤ length (c .output) → length (c .scans) ≤ length (c .verdicts) → Unfit (c .table) (c .count) s → RunRefused s c 16 0
+
+-- coming on duty, where these rules are on duty
+pub data ComeRefused (d : Duty) (x : Coming) : (number place : ℕ) → Type 0 where
+  -- 16: over four rules are on duty, or two under one number
+  unsound : (SoundDuty d → ⊥) → ComeRefused d x 16 0
+  -- 19: four are
+  fifth : SoundDuty d → d .count ≡ 4 → ComeRefused d x 19 0
+  -- 20: fewer are, and one of them under this number
+  known : SoundDuty d → d .count < 4 → OnDutyUnder (x .number) d → ComeRefused d x 20 0
+  -- 16: none of them is, and the table is unfit for its count
+  unfit-table : SoundDuty d → d .count < 4 → (OnDutyUnder (x .number) d → ⊥) → Unfit (drop (x .base) (x .tables)) (x .count) start → ComeRefused d x 16 0
+
+-- going off duty
+pub data GoRefused (d : Duty) (which : ℕ) : (number place : ℕ) → Type 0 where
+  -- 16: as above
+  unsound : (SoundDuty d → ⊥) → GoRefused d which 16 0
+  -- 21: no rule is on duty under this number
+  absent : SoundDuty d → (OnDutyUnder which d → ⊥) → GoRefused d which 21 0
+
+-- running on duty, and the check of such a run
+pub data DutyRunRefused (d : Duty) (c : DutyCall) : (number place : ℕ) → Type 0 where
+  -- 15: a buffer is shorter than the scans
+  short-buffer : (length (c .output) < length (c .scans)) ⊎ (length (c .verdicts) < length (c .scans)) → DutyRunRefused d c 15 0
+  -- 16: the buffers are long enough, and over four rules are on duty, or two under one number
+  unsound : length (c .scans) ≤ length (c .output) → length (c .scans) ≤ length (c .verdicts) → (SoundDuty d → ⊥) → DutyRunRefused d c 16 0
+  -- 16: they aren't, and the table, the count or the equation of one of them is unfit
+  unfit-rule : length (c .scans) ≤ length (c .output) → length (c .scans) ≤ length (c .verdicts) → SoundDuty d → (i : ℕ) → i < d .count
+      → Unfit (drop (ruleIn d i .base) (c .tables)) (ruleIn d i .count) (moved start (ruleIn d i .equation)) → DutyRunRefused d c 16 0
 
 -- judging a model file under a rule file, with a table of so many bytes, where counting gives this answer
 pub data JudgeRefused (s : List ℕ) (counted : Counted) (capacity : ℕ) (f : List ℕ) : (number place : ℕ) → Type 1 where

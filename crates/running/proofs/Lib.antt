@@ -14,6 +14,12 @@ pub mod SiftingAlike
 pub mod Reasons
 pub mod DutyCases
 pub mod TogetherLaws
+pub mod SoundStates
+pub mod ComingAndGoing
+pub mod TogetherRuns
+pub mod DutyRuns
+pub mod OneOnDuty
+pub mod DutyCalls
 pub mod DutyMonitors
 -- What the proofs of the functions use.
 pub mod ListTests
@@ -27,3 +33,4 @@ pub mod Stepping
 pub mod ServingSteps
 pub mod Outcomes
 pub mod Promises
+pub mod DutyPromises

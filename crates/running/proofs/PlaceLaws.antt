@@ -2,10 +2,11 @@
 use Prim.Native.Nat.{ℕ, zero, suc, _+_, _-_, _≤_, _<_}
 use mathlib.Core.Path.{_≡_, refl, sym, _∙_}
 use mathlib.Core.List.{List, [], _∷_, _++_}
+use native.Mathlib.Decide.{decLt}
 use native.Mathlib.Omega.{arith}
 use native.Mathlib.Numerals.{add-one}
 use lib.ListN.{length, getD, take, set, length-append, List·getD-append}
-use lib.Seq.{take-all, take-suc, getD-set-same, getD-set-other}
+use lib.Seq.{take-all, take-suc, getD-at, getD-set-same, getD-set-other}
 use Rattle.running.specs.Duty.{vacant, inPlaces, movedTo}
 use Rattle.running.specs.Places.{standing}
 use Rattle.running.specs.declared.OnDuty.{OnDuty}
@@ -20,6 +21,21 @@ pub places-length : (n : ℕ) (places : List OnDuty) → length (inPlaces n plac
 unfolding inPlaces
 places-length zero places = refl
 places-length (suc n) places = length-append (inPlaces n places) (getD places n vacant ∷ []) ∙ rw (places-length n places, add-one)
+
+pub places-at : (n : ℕ) (places : List OnDuty) (i : ℕ) → i < n → getD (inPlaces n places) i vacant ≡ getD places i vacant
+unfolding inPlaces
+places-at zero places i h = absurd (omega arith)
+places-at (suc n) places i h = on (decLt i n) (places-at n places i)
+  where
+    last : List OnDuty
+    last = getD places n vacant ∷ []
+
+    on : Dec (i < n) → (i < n → getD (inPlaces n places) i vacant ≡ getD places i vacant)
+        → getD (inPlaces n places ++ last) i vacant ≡ getD places i vacant
+    on (yes k) rest = List·getD-append (inPlaces n places) last vacant i (omega (arith, places-length n places)) ∙ rest k
+    on (no k) rest =
+        let is : i ≡ n = omega arith in
+        rw is (getD-at (inPlaces n places) (getD places n vacant) [] vacant n (places-length n places))
 
 -- where a list fills the first n places, these are the list
 module _ (l rest : List OnDuty) where

@@ -20,7 +20,7 @@ use Rattle.running.proofs.Tables.{fits-well-formed, well-formed-fits, a
 -- ---- room for the scans
 
 module _ (scans : List ℕ) (output verdicts : ℕ) where
-  lengths-has-room : length scans ≤ output → length scans ≤ verdicts → hasRoom scans output verdicts ≡ true
+  pub lengths-has-room : length scans ≤ output → length scans ≤ verdicts → hasRoom scans output verdicts ≡ true
   lengths-has-room h k = rw (le-leb (length scans) output h, le-leb (length scans) verdicts k)
 
   pub has-room-lengths : hasRoom scans output verdicts ≡ true → (length scans ≤ output) × (length scans ≤ verdicts)
@@ -28,14 +28,14 @@ module _ (scans : List ℕ) (output verdicts : ℕ) where
       let both = and-eq-true-iff (leb (length scans) output) (leb (length scans) verdicts) .0 e in
       (leb-true (length scans) output (both .0), leb-true (length scans) verdicts (both .1))
 
-  no-room-short : hasRoom scans output verdicts ≡ false → (output < length scans) ⊎ (verdicts < length scans)
+  pub no-room-short : hasRoom scans output verdicts ≡ false → (output < length scans) ⊎ (verdicts < length scans)
   no-room-short e = on (leb (length scans) output) refl
     where
       on : (b : Bool) → leb (length scans) output ≡ b → (output < length scans) ⊎ (verdicts < length scans)
       on true q = inr (leb-false (length scans) verdicts (rw q at e))
       on false q = inl (leb-false (length scans) output q)
 
-  short-no-room : (output < length scans) ⊎ (verdicts < length scans) → hasRoom scans output verdicts ≡ false
+  pub short-no-room : (output < length scans) ⊎ (verdicts < length scans) → hasRoom scans output verdicts ≡ false
   short-no-room (inl h) = rw (lt-leb (length scans) output h)
   short-no-room (inr h) = on (leb (length scans) output) refl
     where

@@ -1,34 +1,30 @@
 -- One scan under all rules on duty: some rule would drop it where the test says so, and else each rule goes on by its own answer.
 use Prim.Native.Nat.{ℕ}
 use mathlib.Core.Path.{_≡_, refl, sym, _∙_}
-use mathlib.Core.Logic.{_↔_, _⊎_, inl, inr}
-use mathlib.Core.Bool.{Bool, true, false, _||_, true≢false, false≢true}
-use mathlib.Core.List.{List, [], _∷_, map}
+use mathlib.Core.Logic.{_↔_}
+use mathlib.Core.Bool.{Bool, true, false, true≢false, false≢true}
+use mathlib.Core.List.{List, map}
 use native.Mathlib.Omega.{arith}
 use Rattle.synthesis.specs.Joined.{Some}
 use Rattle.synthesis.specs.Monitor.{Answer, dropped, next, cases}
-use Rattle.running.specs.Lists.{any}
-use Rattle.running.specs.Duty.{ownAnswer, someDrops, movedTo, movedBy, together}
+use Rattle.running.specs.Duty.{ownAnswer, wouldDrop, someDrops, movedTo, movedBy, together}
 use Rattle.running.specs.declared.OnDuty.{OnDuty}
+use Rattle.running.proofs.ListTests.{any-some}
 
 module _ (mark : ℕ) (tables : List ℕ) (c : ℕ) where
   -- a rule's own answer is dropped
   abbrev pub OwnDrop : OnDuty → Type 0
   OwnDrop d = ownAnswer mark tables c d ≡ dropped
 
-  pub some-drops : (ds : List OnDuty) → (someDrops mark tables ds c ≡ true) ↔ Some OwnDrop ds
-  unfolding any
-  some-drops [] = (λ e. absurd (false≢true e), λ none. absurd none)
-  some-drops (d ∷ ds) = on (ownAnswer mark tables c d) refl (some-drops ds)
+  would-drop : (d : OnDuty) → (wouldDrop mark tables c d ≡ true) ↔ OwnDrop d
+  would-drop d = on (ownAnswer mark tables c d)
     where
-      on : (a : Answer ℕ) → ownAnswer mark tables c d ≡ a → (someDrops mark tables ds c ≡ true) ↔ Some OwnDrop ds
-          → ((cases a true (λ e. false) || someDrops mark tables ds c) ≡ true) ↔ (OwnDrop d ⊎ Some OwnDrop ds)
-      on dropped q rest = (λ e. inl q, λ s. refl)
-      on (next k) q rest = (λ e. inr (rest .0 e), λ s. back s)
-        where
-          back : OwnDrop d ⊎ Some OwnDrop ds → someDrops mark tables ds c ≡ true
-          back (inl z) = absurd (let o : _≡_ {A = ℕ} 0 1 = cc in omega arith)
-          back (inr s) = rest .1 s
+      on : (a : Answer ℕ) → (cases a true (λ e. false) ≡ true) ↔ (a ≡ dropped)
+      on dropped = (λ e. refl, λ e. refl)
+      on (next k) = (λ e. absurd (false≢true e), λ e. absurd (let o : _≡_ {A = ℕ} 0 1 = cc in omega arith))
+
+  pub some-drops : (ds : List OnDuty) → (someDrops mark tables ds c ≡ true) ↔ Some OwnDrop ds
+  some-drops = any-some (wouldDrop mark tables c) OwnDrop would-drop
 
   pub together-drops : (ds : List OnDuty) → (together mark tables ds c ≡ dropped) ↔ Some OwnDrop ds
   together-drops ds = on (someDrops mark tables ds c) refl

@@ -38,6 +38,7 @@ pub record OneMore (mark : ℕ) (tables : List ℕ) (c : ℕ) (before after : Ru
 pub record KeepsTogether (mark : ℕ) (tables : List ℕ) : Type 0 where
   pub one-more : (ds : List OnDuty) (w : List ℕ) (c : ℕ)
       → OneMore mark tables c (runBy (together mark tables) ds w) (runBy (together mark tables) ds (w ++ (c ∷ [])))
+  pub nothing : (ds : List OnDuty) → runBy (together mark tables) ds [] ≡ record { state = ds; kept = []; verdicts = [] }
   pub nobody : (w : List ℕ) → runBy (together mark tables) [] w ≡ record { state = []; kept = w; verdicts = replicate (length w) 0 }
 
 -- ---- refusals of comings and goings, and who is then on duty
