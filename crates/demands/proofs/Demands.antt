@@ -29,6 +29,8 @@ use Rattle.running.proofs.BuiltTables.{never-unfit, short-never-unfit}
 use Rattle.running.proofs.Leaving as leaving
 use Rattle.running.proofs.DemandTwo.{drops-exactly, short-drops-exactly}
 use Rattle.running.proofs.Reasons.{reasons-of-runs, short-reasons-of-runs}
+use Rattle.running.proofs.ComingAndGoing.{comes, goes}
+use Rattle.running.proofs.DutyCalls.{duty-refused-unchanged, duty-rest-unchanged}
 use Rattle.models.specs.Phone.{modelOf}
 use Rattle.models.proofs.Phones.PhoneCodes.{phone-codes}
 use Rattle.models.proofs.Files.Encoding.{accepts-phones, encode-bytes, answers-accepted, phone-within-limits}
@@ -46,6 +48,7 @@ use Rattle.demands.proofs.RefusedOnPage.{count-preview-refused}
 use Rattle.demands.proofs.RefusedReasons.{explain-refused}
 use Rattle.demands.proofs.UnfitTables.{unfit-not-fit}
 use Rattle.demands.proofs.RefusedCalls.{run-refused, run-fit, judge-refused}
+use Rattle.demands.proofs.RefusedOnDuty.{come-refused, go-refused, check-refused, duty-run-refused}
 
 -- ---- demand 1
 
@@ -73,6 +76,10 @@ demand-one = record {
     fill-short = λ s table bytes.
         fill-refused (DeskRefused s) (shortCounting s) (shortFilling s table) (length table) (count-short-refused s bytes) (short-fills-as-counted most s (length table));
     run = run-refused;
+    come-on = come-refused;
+    go-off = go-refused;
+    check-on-duty = check-refused;
+    run-on-duty = duty-run-refused;
     read-model = models.refuses-at-the-fault;
     judge = judge-refused;
   };
@@ -81,6 +88,9 @@ demand-one = record {
     fill-preview = preview-refused-unchanged;
     fill-short = short-refused-unchanged most mark;
     run = leaving.refused-unchanged most mark;
+    come-on = λ d x. comes most mark d (x .number) (x .tables) (x .base) (x .count) .refused;
+    go-off = λ d number. goes d number .refused;
+    run-on-duty = λ d c. duty-refused-unchanged most mark (c .tables) d (c .scans) (c .output) (c .verdicts);
     judge = λ s table f answer judged number place. judging.refused-unchanged most mark s f table answer judged .refused;
   };
   rest = record {
@@ -88,6 +98,7 @@ demand-one = record {
     fill-preview = preview-rest;
     fill-short = short-counted-rest most mark;
     run = leaving.rest-unchanged most mark;
+    run-on-duty = λ d c. duty-rest-unchanged most mark (c .tables) d (c .scans) (c .output) (c .verdicts);
     judge = λ s table f answer judged. judging.refused-unchanged most mark s f table answer judged .judged;
   };
 }

@@ -18,6 +18,14 @@ pub mod SoundStates
 pub mod ComingAndGoing
 pub mod TogetherRuns
 pub mod DutyRuns
+pub mod Alongside
+pub mod Standing
+pub mod DutyDrops
+pub mod Days
+pub mod DutyDays
+pub mod SpellDays
+pub mod SiftedMore
+pub mod JoinedDays
 pub mod OneOnDuty
 pub mod DutyCalls
 pub mod DutyMonitors
@@ -34,3 +42,4 @@ pub mod ServingSteps
 pub mod Outcomes
 pub mod Promises
 pub mod DutyPromises
+pub mod SpellPromises

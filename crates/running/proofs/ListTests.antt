@@ -43,6 +43,17 @@ module _ {A : Type 0} (test : A → Bool) where
 
   -- ---- what the tests mean
 
+  -- where not all pass, one fails
+  pub all-fails : (l : List A) → all test l ≡ false → Some (λ x. test x ≡ false) l
+  unfolding all
+  all-fails [] e = absurd (true≢false e)
+  all-fails (x ∷ l) e = on (test x) refl e (all-fails l)
+    where
+      on : (b : Bool) → test x ≡ b → (b && all test l) ≡ false → (all test l ≡ false → Some (λ x. test x ≡ false) l)
+          → (test x ≡ false) ⊎ Some (λ x. test x ≡ false) l
+      on true q e rest = inr (rest e)
+      on false q e rest = inl q
+
   pub all-passes : (l : List A) → (all test l ≡ true) ↔ All (λ x. test x ≡ true) l
   unfolding all
   all-passes [] = (λ e. tt, λ a. refl)
@@ -74,6 +85,15 @@ module _ {A : Type 0} (test : A → Bool) where
   unfolding filter
   filter-all [] all = refl
   filter-all (x ∷ l) all = rw (all .0, filter-all l (all .1))
+
+  pub filter-keeps : (P : A → Type 0) (l : List A) → All P l → All P (filter test l)
+  unfolding filter
+  filter-keeps P [] each = tt
+  filter-keeps P (x ∷ l) each = on (test x) (filter-keeps P l (each .1))
+    where
+      on : (b : Bool) → All P (filter test l) → All P (cond b (x ∷ filter test l) (filter test l))
+      on true rest = (each .0, rest)
+      on false rest = rest
 
   -- where only one fails, all others, in their order
   pub filter-one : (none : A) (l : List A) (i : ℕ) → i < length l → test (getD l i none) ≡ false
@@ -108,6 +128,11 @@ module _ {A : Type 0} (test : A → Bool) where
           → any test (cond (not b) (x ∷ filter (λ x. not (test x)) l) (filter (λ x. not (test x)) l)) ≡ false
       on true q rest = rest
       on false q rest = rw (q, rest)
+
+-- what each element lacks, none has
+pub none-has : {A : Type 0} (P : A → Type 0) (l : List A) → All (λ x. P x → ⊥) l → Some P l → ⊥
+none-has P [] lacks some = some
+none-has P (x ∷ l) lacks some = ⊎-elim (lacks .0) (none-has P l (lacks .1)) some
 
 -- ---- by index
 

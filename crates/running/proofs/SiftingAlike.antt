@@ -68,7 +68,7 @@ sifted-alike r r′ violated h h′ one other scans =
 
 -- ---- filled tables
 
-filled-sifts : (limit mark : ℕ) (s table : List ℕ) (r : Rule) (n : ℕ) (left : List ℕ)
+pub filled-sifts : (limit mark : ℕ) (s table : List ℕ) (r : Rule) (n : ℕ) (left : List ℕ)
     → Fills limit mark s table r n left ⊎ FillsShort limit mark s table r n left → SiftsOn limit mark r n left
 filled-sifts limit mark s table r n left (inl fills) = drops-exactly limit mark s table r n left fills
 filled-sifts limit mark s table r n left (inr fills) = short-drops-exactly limit mark s table r n left fills

@@ -44,6 +44,14 @@ module _ (mark : ℕ) (tables : List ℕ) (c : ℕ) where
       on true q = absurd (none (some-drops ds .0 q))
       on false q = rw q
 
+  -- where all go on, none is dropped
+  pub together-next : (ds ds′ : List OnDuty) → together mark tables ds c ≡ next ds′
+      → (Some OwnDrop ds → ⊥) × (ds′ ≡ map (movedBy mark tables c) ds)
+  together-next ds ds′ q = (none, cc (together-moves ds none))
+    where
+      none : Some OwnDrop ds → ⊥
+      none s = let z : _≡_ {A = ℕ} 0 1 = cc (together-drops ds .1 s) in omega arith
+
   -- where a rule goes by a scan that it keeps
   pub moved-by : (d : OnDuty) (e : ℕ) → ownAnswer mark tables c d ≡ next e → movedBy mark tables c d ≡ movedTo d e
   moved-by d e q = rw q

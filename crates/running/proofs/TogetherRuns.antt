@@ -15,7 +15,7 @@ use Rattle.running.specs.Running.{RunOver, runBy}
 use Rattle.running.specs.Duty.{vacant, ownAnswer, movedTo, movedBy, together}
 use Rattle.running.specs.DutyPromises.{EachMoves, KeepsTogether, FitRule}
 use Rattle.running.specs.declared.OnDuty.{OnDuty}
-use Rattle.running.proofs.TogetherLaws.{OwnDrop, together-drops, together-moves, moved-by}
+use Rattle.running.proofs.TogetherLaws.{OwnDrop, together-drops, together-moves, together-next, moved-by}
 use Rattle.running.proofs.ListTests.{some-at}
 
 -- ---- one scan more
@@ -57,13 +57,7 @@ module _ (mark : ℕ) (tables : List ℕ) where
   }
 
   next-moves : (c : ℕ) (ds ds′ : List OnDuty) → together mark tables ds c ≡ next ds′ → EachMoves mark tables c ds ds′
-  next-moves c ds ds′ q = rw is at (each-moves c ds none)
-    where
-      none : Some (OwnDrop mark tables c) ds → ⊥
-      none s = let z : _≡_ {A = ℕ} 0 1 = cc (together-drops mark tables c ds .1 s) in omega arith
-
-      is : map (movedBy mark tables c) ds ≡ ds′
-      is = cc (together-moves mark tables c ds none)
+  next-moves c ds ds′ q = let (none, is) = together-next mark tables c ds ds′ q in rw is (each-moves c ds none)
 
 -- ---- what stays through a run
 
