@@ -10,7 +10,7 @@ use lib.ListN.{length, drop}
 use Rattle.reading.specs.File.{Outcome, accepted, refused}
 use Rattle.synthesis.specs.Monitor.{mark, most}
 use Rattle.running.specs.Running.{start, moved, hasRoom, RunOver, checkedOf}
-use Rattle.running.specs.Duty.{onDuty, fitsAt, atStart, changedOf, dutyRanOf}
+use Rattle.running.specs.Duty.{vacant, onDuty, fitsAt, atStart, changedOf, dutyRanOf}
 use Rattle.running.specs.Spells.{DutyCall, Coming}
 use Rattle.running.specs.DutyPromises.{ruleIn, Comes, RunsOnDuty}
 use Rattle.running.specs.declared.OnDuty.{OnDuty}
@@ -102,7 +102,7 @@ module _ (d : Duty) (c : DutyCall) where
       (λ r. as-answered (DutyRunRefused d c) (DutyRunRefused.short-buffer (no-room-short (c .scans) (length (c .output)) (length (c .verdicts)) r)) number place)
       (λ r s. as-answered (DutyRunRefused d c) (DutyRunRefused.unsound (room r .0) (room r .1) (unsound d .0 s)) number place)
       (λ r s t.
-      let (i, h, bad) = some-at (λ x. fitsAt most mark (c .tables) x ≡ false) _ (onDuty d) .0 (all-fails (fitsAt most mark (c .tables)) (onDuty d) t) in
+      let (i, h, bad) = some-at (λ x. fitsAt most mark (c .tables) x ≡ false) vacant (onDuty d) .0 (all-fails (fitsAt most mark (c .tables)) (onDuty d) t) in
       let k : i < d .count = listed d i .0 h in
       as-answered (DutyRunRefused d c)
       (DutyRunRefused.unfit-rule (room r .0) (room r .1) (sound d .0 s) i k (rule-unfit (c .tables) (ruleIn d i) (rw (duty-at d i k) at bad))) number place)
