@@ -26,6 +26,7 @@ pub mod DutyDays
 pub mod SpellDays
 pub mod SiftedMore
 pub mod JoinedDays
+pub mod FilledInPlace
 pub mod OneOnDuty
 pub mod DutyCalls
 pub mod DutyMonitors

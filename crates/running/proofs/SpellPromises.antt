@@ -1,6 +1,7 @@
 -- Each promise on a day of rules on duty, by its theorem.
 use Rattle.running.specs.SpellPromises.{SpellPromises}
 use Rattle.running.proofs.DutyDays.{spells-on-duty}
+use Rattle.running.proofs.FilledInPlace.{fills-for-duty}
 use Rattle.running.proofs.SpellDays.{stands-by-spell, duty-drops-exactly, on-duty-never-unfit, spells-safe}
 use Rattle.running.proofs.DutyMonitors.{duty-monitors}
 use Rattle.running.proofs.JoinedDays.{join-sifts, joins-as-one}
@@ -8,6 +9,7 @@ use Rattle.running.proofs.JoinedDays.{join-sifts, joins-as-one}
 pub spell-promises : SpellPromises
 spell-promises = record {
   spells-on-duty = spells-on-duty;
+  fills-for-duty = fills-for-duty;
   stands-by-spell = stands-by-spell;
   duty-drops-exactly = duty-drops-exactly;
   on-duty-never-unfit = on-duty-never-unfit;

@@ -1,6 +1,6 @@
 -- What this crate promises of rules that come on and go off duty, over any calls at a desk, as statements over the definitions; proofs/ has a theorem of each of these types.
 -- Of a rule's table nothing is supposed but that it monitors the rule: long tables and short ones do. The limit on equations and the mark for dropped are any.
-use Prim.Native.Nat.{ℕ, _<_}
+use Prim.Native.Nat.{ℕ, _+_, _*_, _≤_, _<_}
 use mathlib.Core.Path.{_≡_}
 use mathlib.Core.Logic.{_↔_, _⊎_}
 use mathlib.Core.List.{List, [], _∷_, _++_, map}
@@ -10,6 +10,7 @@ use Rattle.reading.specs.File.{Outcome}
 use Rattle.synthesis.specs.Violation.{ViolatesRule}
 use Rattle.synthesis.specs.Joined.{joined, Some}
 use Rattle.synthesis.specs.Monitor.{ended, Monitors, lookup}
+use Rattle.synthesis.specs.Table.{WellFormedTable}
 use Rattle.synthesis.specs.Building.{Fills, FillsShort}
 use Rattle.running.specs.Running.{start, RunOver, verdictsOf}
 use Rattle.running.specs.Calls.{History, Calls, OnTableOrRefused, withVerdict}
@@ -33,13 +34,30 @@ pub record SpellsOfDuty (desk : Desk) : Type 0 where
 abbrev pub SpellsOnDuty : Type 0
 SpellsOnDuty = (limit mark : ℕ) (es : List Event) → SpellsOfDuty (after limit mark newDesk es)
 
+-- ---- tables that are filled in place
+
+-- 2. What a desk lends after it has filled a table in place, from any base inside of what it lends, by the long or the short filling: with the count that was answered the table is
+-- fit to come on, and monitors the rule of the file, which is well formed. No other byte has changed, so the rows of other rules are as they were, if they lie elsewhere.
+pub record FilledInPlace (limit mark : ℕ) (tables : List ℕ) (base : ℕ) (r : Rule) (n : ℕ) (lent : List ℕ) : Type 0 where
+  pub table : WellFormedTable limit mark n (drop base lent)
+  pub monitors : Monitors r (lookup 256 mark (drop base lent)) 0
+  pub rule : WellFormedRule r
+  pub before : take base lent ≡ take base tables
+  pub behind : drop (base + 256 * n) lent ≡ drop (base + 256 * n) tables
+
+abbrev pub FillsForDuty : Type 0
+FillsForDuty =
+    (limit mark : ℕ) (s tables : List ℕ) (base : ℕ) (r : Rule) (n : ℕ) (left : List ℕ) → base ≤ length tables
+    → Fills limit mark s (drop base tables) r n left ⊎ FillsShort limit mark s (drop base tables) r n left
+    → FilledInPlace limit mark tables base r n (take base tables ++ left)
+
 -- ---- drops, by the rules alone
 
 -- What is supposed of the calls so far: from the start on, each is orderly or refused.
 abbrev pub OrderlyDay : (limit mark : ℕ) → List Event → Type 0
 OrderlyDay limit mark es = Each limit mark (OrderlyOrRefused limit mark) newDesk es
 
--- 2. After such calls each rule is in the equation to which its own table leads by the scans kept since it came on.
+-- 3. After such calls each rule is in the equation to which its own table leads by the scans kept since it came on.
 abbrev pub StandsBySpell : Type 0
 StandsBySpell =
     (limit mark : ℕ) (es : List Event) → OrderlyDay limit mark es →
@@ -69,7 +87,7 @@ OnDutyNeverUnfit =
     let desk = after limit mark newDesk es in
     LendsRows desk call → dutyRanOf (desk .duty) (runAt limit mark (desk .duty) call) .checked ≡ Refused 16 0 → ⊥
 
--- 3. The scans kept in a spell don't violate its rule, whether the spell goes on or is over.
+-- 4. The scans kept in a spell don't violate its rule, whether the spell goes on or is over.
 abbrev pub SpellsSafe : Type 0
 SpellsSafe =
     (limit mark : ℕ) (es : List Event) → OrderlyDay limit mark es →
@@ -84,7 +102,7 @@ pub data Serves (mark : ℕ) (tables : List ℕ) : List OnDuty → List Rule →
   one : {d : OnDuty} {r : Rule} {ds : List OnDuty} {rs : List Rule} → d .equation ≡ 0 → Monitors r (lookup 256 mark (drop (d .base) tables)) 0
       → Serves mark tables ds rs → Serves mark tables (d ∷ ds) (r ∷ rs)
 
--- 4. Rules on duty that are all in their first equation are one monitor of the rule that joins theirs, accepted or not.
+-- 5. Rules on duty that are all in their first equation are one monitor of the rule that joins theirs, accepted or not.
 abbrev pub DutyMonitors : Type 0
 DutyMonitors =
     (mark : ℕ) (tables : List ℕ) (ds : List OnDuty) (r : Rule) (rs : List Rule) → All WellFormedRule (r ∷ rs) → Serves mark tables ds (r ∷ rs)
@@ -108,7 +126,7 @@ pub record JoinDay (limit mark : ℕ) (es later : List Event) (r : Rule) (rs : L
   pub well-formed : All WellFormedRule (r ∷ rs)
   pub quiet : Each limit mark (λ desk e. OrderlyOrRefused limit mark desk e × Quiet limit mark desk e) (after limit mark newDesk es) later
 
--- 5. Since then the rule that joins theirs, accepted or not, has dropped exactly what would violate it: demand 2 holds of it.
+-- 6. Since then the rule that joins theirs, accepted or not, has dropped exactly what would violate it: demand 2 holds of it.
 abbrev pub JoinSifts : Type 0
 JoinSifts =
     (limit mark : ℕ) (es later : List Event) (r : Rule) (rs : List Rule) → JoinDay limit mark es later r rs →
@@ -131,6 +149,7 @@ JoinsAsOne =
 -- The theorem `spell-promises` has this type, so that each promise has its proof.
 pub record SpellPromises : Type 0 where
   pub spells-on-duty : SpellsOnDuty
+  pub fills-for-duty : FillsForDuty
   pub stands-by-spell : StandsBySpell
   pub duty-drops-exactly : DutyDropsExactly
   pub on-duty-never-unfit : OnDutyNeverUnfit
