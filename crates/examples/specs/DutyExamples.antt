@@ -139,10 +139,10 @@ pub record DutyRefusals : Type 0 where
   pub known : answer (holdAs 1 ∷ []) (coming 1 0 2) ≡ Refused 20 0
   pub twice : answer (holdAs 1 ∷ holdAs 1 ∷ []) (coming 2 0 2) ≡ Refused 16 0
   pub twice-run : answer (holdAs 1 ∷ holdAs 1 ∷ []) (runOver []) ≡ Refused 16 0
-  -- 20 comes before 16 for the table: no equations, a row too many, the end of what is lent, and behind it
+  -- 20 comes before 16 for the table: no equations, a row more than there are, the end of what is lent, and behind it
   pub known-first : answer (holdAs 1 ∷ []) (coming 1 0 0) ≡ Refused 20 0
   pub no-equations : answer [] (coming 1 0 0) ≡ Refused 16 0
-  pub no-fourth-row : answer [] (coming 1 512 3) ≡ Refused 16 0
+  pub no-third-row : answer [] (coming 1 512 3) ≡ Refused 16 0
   pub at-end : answer [] (coming 1 1024 1) ≡ Refused 16 0
   pub behind-end : answer [] (coming 1 4096 1) ≡ Refused 16 0
   -- nobody to go off
