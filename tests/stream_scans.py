@@ -52,32 +52,43 @@ def distances(kept, codes):
     return distance
 
 
-def steered(random, rule, length, rate):
-    """So many scans. Where a scan can be dropped, about that share of them are. After most of the others a scan can
-    be dropped again, at once or later."""
-    sifting = Sifting(rule)
-    codes = candidates(random, rule)
-    kept = reached(sifting, codes)
-    distance = distances(kept, codes)
+class Steering:
+    """Picks scans for a rule among some codes, by what the kept scans leave of the rule."""
 
-    @cache
-    def choices(left):
-        dropped = [code for code in codes if code not in kept[left]]
-        lasting = [code for code, then in kept[left].items() if then in distance]
-        nearer = [code for code in lasting if distance[kept[left][code]] < distance[left]]
-        return dropped, nearer, lasting, list(kept[left])
+    def __init__(self, rule, codes):
+        self.sifting = Sifting(rule)
+        self.codes = codes
+        self.kept = reached(self.sifting, codes)
+        self.distance = distances(self.kept, codes)
+        self.choices = cache(self.choices)
 
-    scans = []
-    for _ in range(length):
-        dropped, nearer, lasting, any_kept = choices(sifting.left)
+    def choices(self, left):
+        """The codes that are dropped; the kept ones that lead nearer to a drop; those after which one can come; and all kept ones."""
+        kept, distance = self.kept[left], self.distance
+        dropped = [code for code in self.codes if code not in kept]
+        lasting = [code for code, then in kept.items() if then in distance]
+        nearer = [code for code in lasting if distance[kept[code]] < distance[left]]
+        return dropped, nearer, lasting, list(kept)
+
+    def pick(self, random, left, rate):
+        dropped, nearer, lasting, any_kept = self.choices(left)
         if random.random() < rate:
             some = dropped or nearer or lasting or any_kept
         elif random.randrange(40) > 0:
             some = lasting or any_kept or dropped
         else:
             some = any_kept or dropped
-        scans.append(random.choice(some))
-        sifting.sift(scans[-1:])
+        return random.choice(some)
+
+
+def steered(random, rule, length, rate):
+    """So many scans. Where a scan can be dropped, about that share of them are. After most of the others a scan can
+    be dropped again, at once or later."""
+    steering = Steering(rule, candidates(random, rule))
+    scans = []
+    for _ in range(length):
+        scans.append(steering.pick(random, steering.sifting.left, rate))
+        steering.sifting.sift(scans[-1:])
     return bytes(scans)
 
 

@@ -25,8 +25,8 @@ def prepared(size, first, step):
     return bytearray((cycle(first, step) * (size // 256 + 1))[:size])
 
 
-class Script:
-    """Holds what the records so far have set, as the program does. The tally has how often each answer came."""
+class Records:
+    """Records of bytes for a table, which the script holds as the program does. The tally has how often each answer came."""
 
     def __init__(self):
         self.stdin = bytearray()
@@ -34,8 +34,6 @@ class Script:
         self.tally = Counter()
         self.turn = 0
         self.table = bytearray(MOST_BYTES)
-        self.count = 0
-        self.state = 0
 
     def record(self, kind, *body):
         self.stdin += kind + b"".join(body)
@@ -48,6 +46,19 @@ class Script:
     def write(self, place, content):
         self.table[place : place + len(content)] = content
         self.record(b"w", three_bytes(place), three_bytes(len(content)), content)
+
+    def buffers(self, *sizes):
+        """The output and the verdicts, of these sizes, as the program prepares them for the next record."""
+        return prepared(sizes[0], self.turn % 256, 7), prepared(sizes[1], self.turn % 251, 11)
+
+
+class Script(Records):
+    """Holds also the count and the state that the records so far have set."""
+
+    def __init__(self):
+        super().__init__()
+        self.count = 0
+        self.state = 0
 
     def fill(self, data):
         counted = fill(data, self.table)
@@ -74,8 +85,7 @@ class Script:
 
     def call(self, scans, lent, output_size, verdicts_size):
         """A call with so many bytes of the table and of each buffer. Gives what it returns, and the buffers then."""
-        output = prepared(output_size, self.turn % 256, 7)
-        verdicts = prepared(verdicts_size, self.turn % 251, 11)
+        output, verdicts = self.buffers(output_size, verdicts_size)
         ran = run(self.table[:lent], self.count, self.state, scans, output, verdicts)
         self.state = ran.state
         self.lines.append(f"{ran} {digest(output)} {digest(verdicts)}")

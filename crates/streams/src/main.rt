@@ -11,17 +11,19 @@
 // COUNT and EQUATION are eight bytes, FIRST and STEP one, the other numbers three, highest first. The input ends after the last record.
 mod printing;
 
-use libc::STDIN_FILENO;
-use printing::print_buffers;
-use printing::print_filled;
 use printing::print_ran;
 use running::State;
 use testing::Head;
 use testing::filled_count;
 use testing::prepare;
+use testing::print_digests;
+use testing::print_filled;
 use testing::read_byte;
 use testing::read_long;
+use testing::read_part;
+use testing::read_prepared;
 use testing::read_size;
+use testing::read_whole;
 
 // What the records so far have set, the table left aside.
 struct Held {
@@ -36,33 +38,20 @@ enum Step {
 }
 
 fn take_bytes(held: Held, table: &mut [u8]) -> Step {
-    let first = read_byte();
-    let step = read_byte();
-    prepare(table, first as u64, step, 255);
+    read_prepared(table);
     Step::Next(held)
 }
 
-fn read_part(held: Held, part: &mut [u8]) -> Step {
-    if io::read_full(STDIN_FILENO, part) < part.len() {
+fn take_part(held: Held, table: &mut [u8]) -> Step {
+    if !read_part(table) {
         return Step::Ended;
     }
     Step::Next(held)
 }
 
-fn take_part(held: Held, table: &mut [u8]) -> Step {
-    let Head::Number(at) = read_size(table.len()) else {
-        return Step::Ended;
-    };
-    let Head::Number(n) = read_size(table.len() - at) else {
-        return Step::Ended;
-    };
-    let end = at + n;
-    read_part(held, &mut table[at..end])
-}
-
 // Fills the space with a rule file, and the table from it.
 fn read_rule(space: &mut [u8], table: &mut [u8]) -> Step {
-    if io::read_full(STDIN_FILENO, space) < space.len() {
+    if !read_whole(space) {
         return Step::Ended;
     }
     let filled = synthesis::fill(space, table);
@@ -114,14 +103,14 @@ fn call(
     verdicts: &mut [u8],
     turn: u64,
 ) -> Step {
-    if io::read_full(STDIN_FILENO, scans) < scans.len() {
+    if !read_whole(scans) {
         return Step::Ended;
     }
     prepare(output, turn, 7, 255);
     prepare(verdicts, turn % 251, 11, 255);
     let ran = running::run(table, held.count, held.state, scans, output, verdicts);
     print_ran(ran);
-    print_buffers(output, verdicts);
+    print_digests(output, verdicts);
     let state = ran.state;
     Step::Next(Held {
         count: held.count,

@@ -3,6 +3,7 @@ mod digests;
 mod numbers;
 mod preparing;
 mod printing;
+mod records;
 
 pub use digests::digest;
 pub use numbers::Head;
@@ -12,5 +13,10 @@ pub use numbers::read_size;
 pub use preparing::prepare;
 pub use printing::filled_count;
 pub use printing::print_counted;
+pub use printing::print_digests;
 pub use printing::print_field;
+pub use printing::print_filled;
 pub use printing::print_refusal;
+pub use records::read_part;
+pub use records::read_prepared;
+pub use records::read_whole;

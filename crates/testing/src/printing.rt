@@ -1,4 +1,5 @@
 // Parts of a printed line.
+use crate::digests::digest;
 use libc::STDOUT_FILENO;
 use synthesis::Counted;
 ghost use mathlib.Core.Path.{_≡_};
@@ -29,6 +30,19 @@ pub fn print_counted(answer: Counted) {
             print_refusal(number, place);
         }
     }
+}
+
+// Prints a line with what filling answers.
+pub fn print_filled(answer: Counted) {
+    print_counted(answer);
+    io::write_all(STDOUT_FILENO, b"\n");
+}
+
+// Ends a line with the digests of two buffers.
+pub fn print_digests(output: &[u8], verdicts: &[u8]) {
+    print_field(digest(0, output));
+    print_field(digest(0, verdicts));
+    io::write_all(STDOUT_FILENO, b"\n");
 }
 
 // How many equations filling answered, and so how many rows it wrote.

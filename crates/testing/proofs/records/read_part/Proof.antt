@@ -1,8 +1,8 @@
--- `streams::take_part` is safe and ends. The part that is lent on has the place and the length that were read.
+-- `records::read_part` is safe and ends. The part that is lent on has the place and the length that were read.
 use native.Mathlib.Omega.{arith}
 use borrow.Author.Needs.{needs}
-use Rattle.streams.proofs.take_part.Statement.{statement}
-use Rattle.streams.proofs.take_part.Tie as tie
+use Rattle.testing.proofs.records.read_part.Statement.{statement}
+use Rattle.testing.proofs.records.read_part.Tie as tie
 
 read-size-requires : tie.Need-read-size-requires
 read-size-requires c κs = search needs
@@ -31,22 +31,22 @@ enum-told-2 c = search needs
 returns-2 : tie.Need-returns-2
 returns-2 c = search needs
 
-part-read-part-end : tie.Need-part-read-part-end
-part-read-part-end c =
+part-read-whole-end : tie.Need-part-read-whole-end
+part-read-whole-end c =
     let s = c .before in
     omega (arith, sub-read-size (s .before .before .before), rw (s .n .given .1) at (s .before .before .read-size2 .ensures))
 
 add-end : tie.Need-add-end
-add-end c = omega (arith, part-read-part-end c)
+add-end c = omega (arith, part-read-whole-end c)
 
-sub-read-part : tie.Need-sub-read-part
-sub-read-part c = search needs
+sub-read-whole : tie.Need-sub-read-whole
+sub-read-whole c = search needs
 
-part-read-part-start : tie.Need-part-read-part-start
-part-read-part-start c = search needs
+part-read-whole-start : tie.Need-part-read-whole-start
+part-read-whole-start c = search needs
 
-read-part-requires : tie.Need-read-part-requires
-read-part-requires c κs = search needs
+read-whole-requires : tie.Need-read-whole-requires
+read-whole-requires c κs = search needs
 
 same-length : tie.Need-same-length
 same-length c = search needs
@@ -54,8 +54,8 @@ same-length c = search needs
 returns-3 : tie.Need-returns-3
 returns-3 c = search needs
 
-pub take-part-spec : {M : Type 1} → statement M
-take-part-spec =
+pub read-part-spec : {M : Type 1} → statement M
+read-part-spec =
     tie.close
     (tie.spec
     read-size-requires
@@ -68,9 +68,9 @@ take-part-spec =
     enum-told-2
     returns-2
     add-end
-    sub-read-part
-    part-read-part-start
-    part-read-part-end
-    read-part-requires
+    sub-read-whole
+    part-read-whole-start
+    part-read-whole-end
+    read-whole-requires
     same-length
     returns-3)
