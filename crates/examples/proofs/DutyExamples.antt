@@ -18,10 +18,10 @@ use Rattle.synthesis.specs.Building.{equationsOf, synthesisOf, fillingOf, table
 use Rattle.synthesis.specs.Joined.{joined}
 use Rattle.synthesis.proofs.Tables.Built.{table-monitors}
 use Rattle.running.specs.Lists.{any, all, filter}
-use Rattle.running.specs.Running.{entriesInRange, isWellFormed, fits, start, runOf}
-use Rattle.running.specs.Duty.{inPlaces, dutyOf, areDistinct, comingOf, goingOf, dutyRunOf}
+use Rattle.running.specs.Running.{entriesInRange, isWellFormed, fits, runOf}
+use Rattle.running.specs.Duty.{inPlaces, areDistinct, comingOf, goingOf, dutyRunOf}
 use Rattle.running.specs.SpellPromises.{OrderlyDay, JoinDay}
-use Rattle.examples.specs.DutyExamples.{holdFile, holdRule, raceFile, raceRule, bothFile, lent, comings, morning, runOver, day}
+use Rattle.examples.specs.DutyExamples.{holdFile, holdRule, raceFile, raceRule, bothFile, raceRows, lent, comings, morning, runOver, day}
 use Rattle.examples.specs.DutyExamples.{DutyDay, DutyJoin, DutyRefusals, DutyExamples}
 use Rattle.examples.proofs.FileAnswers.{reads, reads-fills}
 
@@ -33,13 +33,21 @@ fills : (s : List ℕ) (r : Rule) → ruleOf s ≡ accepted r → unsatisfiable 
 fills s r read satisfiable bytes n count few table room =
     reads-fills s r n (rw count at (reads s r read satisfiable (equationsOf most r) refl (omega arith))) bytes table room
 
-hold-fills : Fills most mark holdFile (replicate 512 0 ++ tableLeft most mark raceFile (replicate 512 0)) holdRule 2 lent
-unfolding recordsAt formulaAt formulaOf ruleOf firstOf answerOf unsatisfiable explored found equationsOf bit covers
-hold-fills = fills holdFile holdRule refl refl (search arith) 2 refl (omega arith) _ (omega arith)
+race-filled : tableLeft most mark raceFile (replicate 512 0) ≡ raceRows
+unfolding recordsAt formulaAt formulaOf ruleOf firstOf answerOf unsatisfiable explored found entriesOf rows filled equationsOf synthesisOf fillingOf bit covers
+race-filled = refl
 
-race-fills : Fills most mark raceFile (replicate 512 0) raceRule 2 (tableLeft most mark raceFile (replicate 512 0))
+hold-filled : tableLeft most mark holdFile (replicate 512 0 ++ raceRows) ≡ lent
+unfolding recordsAt formulaAt formulaOf ruleOf firstOf answerOf unsatisfiable explored found entriesOf rows filled equationsOf synthesisOf fillingOf bit covers
+hold-filled = refl
+
+race-fills : Fills most mark raceFile (replicate 512 0) raceRule 2 raceRows
 unfolding recordsAt formulaAt formulaOf ruleOf firstOf answerOf unsatisfiable explored found equationsOf bit covers
-race-fills = fills raceFile raceRule refl refl (search arith) 2 refl (omega arith) (replicate 512 0) (omega arith)
+race-fills = rw race-filled at (fills raceFile raceRule refl refl (search arith) 2 refl (omega arith) (replicate 512 0) (omega arith))
+
+hold-fills : Fills most mark holdFile (replicate 512 0 ++ raceRows) holdRule 2 lent
+unfolding recordsAt formulaAt formulaOf ruleOf firstOf answerOf unsatisfiable explored found equationsOf bit covers
+hold-fills = rw hold-filled at (fills holdFile holdRule refl refl (search arith) 2 refl (omega arith) (replicate 512 0 ++ raceRows) (omega arith))
 
 both-fills : Fills most mark bothFile (replicate 1024 0) (joined holdRule (raceRule ∷ [])) 4 (tableLeft most mark bothFile (replicate 1024 0))
 unfolding recordsAt formulaAt formulaOf ruleOf firstOf answerOf unsatisfiable explored found equationsOf bit covers
@@ -48,14 +56,10 @@ both-fills = fills bothFile (joined holdRule (raceRule ∷ [])) refl refl (searc
 -- ---- the monitors
 
 hold-monitors : Monitors holdRule (lookup 256 mark (drop 0 lent)) 0
-hold-monitors = table-monitors most mark holdFile _ holdRule 2 lent hold-fills
-
-race-there : drop 512 lent ≡ tableLeft most mark raceFile (replicate 512 0)
-unfolding recordsAt formulaAt formulaOf ruleOf firstOf answerOf unsatisfiable explored found entriesOf rows filled equationsOf synthesisOf fillingOf bit covers rowOf
-race-there = refl
+hold-monitors = table-monitors most mark holdFile (replicate 512 0 ++ raceRows) holdRule 2 lent hold-fills
 
 race-monitors : Monitors raceRule (lookup 256 mark (drop 512 lent)) 0
-race-monitors = rw race-there (table-monitors most mark raceFile (replicate 512 0) raceRule 2 _ race-fills)
+race-monitors = table-monitors most mark raceFile (replicate 512 0) raceRule 2 raceRows race-fills
 
 -- ---- the day
 
@@ -69,7 +73,7 @@ orderly-comings : OrderlyDay most mark comings
 orderly-comings = (inl hold-monitors, (inl race-monitors, tt))
 
 orderly-day : OrderlyDay most mark day
-unfolding recordsAt formulaAt formulaOf ruleOf firstOf answerOf unsatisfiable explored found entriesOf rows filled equationsOf synthesisOf fillingOf bit covers rowOf any all filter entriesInRange isWellFormed fits inPlaces areDistinct comingOf goingOf dutyRunOf
+unfolding rowOf any all filter entriesInRange isWellFormed fits inPlaces areDistinct comingOf goingOf dutyRunOf
 orderly-day = (
   inl hold-monitors,
   (
@@ -82,8 +86,10 @@ orderly-day = (
 )
 
 duty-day : DutyDay
-unfolding recordsAt formulaAt formulaOf ruleOf firstOf answerOf unsatisfiable explored found entriesOf rows filled equationsOf synthesisOf fillingOf bit covers rowOf any all filter entriesInRange isWellFormed fits inPlaces areDistinct comingOf goingOf dutyRunOf
+unfolding rowOf any all filter entriesInRange isWellFormed fits inPlaces areDistinct comingOf goingOf dutyRunOf
 duty-day = record {
+  race-filled = race-filled;
+  hold-filled = hold-filled;
   came = refl;
   at-noon = refl;
   judged = refl;
@@ -101,23 +107,23 @@ well-formed : (s : List ℕ) (r : Rule) → Bytes s → ruleOf s ≡ accepted r 
 well-formed s r bytes read = accepts-encodings s bytes r .0 read .0 .well-formed
 
 join-day : JoinDay most mark comings (runOver morning ∷ []) holdRule (raceRule ∷ [])
-unfolding recordsAt formulaAt formulaOf ruleOf firstOf answerOf unsatisfiable explored found entriesOf rows filled equationsOf synthesisOf fillingOf bit covers rowOf any all filter entriesInRange isWellFormed fits inPlaces areDistinct comingOf goingOf dutyRunOf
+unfolding rowOf any all filter entriesInRange isWellFormed fits inPlaces areDistinct comingOf goingOf dutyRunOf
 join-day = record {
   orderly = orderly-comings;
   none-kept = (refl, (refl, tt));
   rules = refl;
-  well-formed = (well-formed holdFile holdRule (search arith) refl, (well-formed raceFile raceRule (search arith) refl, tt));
+  well-formed = (well-formed holdFile holdRule (search arith) (hold-fills .read), (well-formed raceFile raceRule (search arith) (race-fills .read), tt));
   quiet = ((inl (morning-bytes, (refl, (refl, tt))), tt), tt);
 }
 
 duty-join : DutyJoin
-unfolding recordsAt formulaAt formulaOf ruleOf firstOf answerOf unsatisfiable explored found entriesOf rows filled equationsOf synthesisOf fillingOf bit covers rowOf any all filter entriesInRange isWellFormed fits inPlaces areDistinct comingOf goingOf dutyRunOf runOf
+unfolding recordsAt formulaAt formulaOf ruleOf firstOf answerOf unsatisfiable explored found entriesOf rows filled equationsOf synthesisOf fillingOf bit covers rowOf entriesInRange isWellFormed fits runOf
 duty-join = record { join = both-fills; one-run = refl; join-day = join-day }
 
 -- ---- refusals
 
 duty-refusals : DutyRefusals
-unfolding recordsAt formulaAt formulaOf ruleOf firstOf answerOf unsatisfiable explored found entriesOf rows filled equationsOf synthesisOf fillingOf bit covers rowOf any all filter entriesInRange isWellFormed fits inPlaces areDistinct comingOf goingOf dutyRunOf
+unfolding rowOf any all filter entriesInRange isWellFormed fits inPlaces areDistinct comingOf goingOf dutyRunOf
 duty-refusals = record {
   fourth = refl;
   fifth = refl;

@@ -49,9 +49,19 @@ bothFile =
 
 -- ---- the day
 
--- What is lent: the table of the hold rule from 0 on, that of the race rule from 512 on. Each has two rows.
+-- The two rows of each rule. Hold rule: in its first equation a cancel leads to the second, in which issues are dropped and a sync leads back.
+abbrev pub holdRows : List ℕ
+holdRows =
+    replicate 32 0 ++ replicate 32 1 ++ replicate 192 0
+    ++ replicate 32 255 ++ replicate 96 1 ++ replicate 32 0 ++ replicate 96 1
+
+-- Race rule: a handover leads to the second equation, in which collects are dropped and every other code leads back.
+abbrev pub raceRows : List ℕ
+raceRows = replicate 224 0 ++ replicate 32 1 ++ replicate 64 0 ++ replicate 32 255 ++ replicate 128 0 ++ replicate 32 1
+
+-- What is lent: the table of the hold rule from 0 on, that of the race rule from 512 on.
 abbrev pub lent : List ℕ
-lent = tableLeft most mark holdFile (replicate 512 0 ++ tableLeft most mark raceFile (replicate 512 0))
+lent = holdRows ++ raceRows
 
 abbrev pub holdComes : Event
 holdComes = comes (record { number = 7; tables = lent; base = 0; count = 2; rule = holdRule })
@@ -82,6 +92,9 @@ abbrev pub race : (equation : ℕ) → OnDuty
 race e = movedTo (atStart 9 512 2) e
 
 pub record DutyDay : Type 0 where
+  -- the race rule is filled in at 512, and then the hold rule at 0
+  pub race-filled : tableLeft most mark raceFile (replicate 512 0) ≡ raceRows
+  pub hold-filled : tableLeft most mark holdFile (replicate 512 0 ++ raceRows) ≡ lent
   pub came : after most mark newDesk comings .duty ≡ dutyOf (hold 0 ∷ race 0 ∷ [])
   pub at-noon : after most mark newDesk (comings ++ (runOver morning ∷ [])) .duty ≡ dutyOf (hold 1 ∷ race 1 ∷ [])
   pub judged : after most mark newDesk (comings ++ (runOver morning ∷ [])) .verdicts ≡ 0 ∷ 0 ∷ 1 ∷ 1 ∷ 0 ∷ 0 ∷ 0 ∷ 0 ∷ 0 ∷ []
