@@ -1,4 +1,5 @@
--- What coming on, going off and running on duty refuse: a refusal is that of one of the checks, in their order, and each check holds exactly of what its clause says.
+-- What coming on, going off and running on duty refuse: a refusal is that of one of the checks, in their order, and each check holds exactly of what
+-- its clause says.
 use Prim.Native.Nat.{ℕ, _≤_, _<_}
 use mathlib.Core.Path.{_≡_, refl}
 use mathlib.Core.Logic.{inl, inr}

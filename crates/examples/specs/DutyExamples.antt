@@ -1,9 +1,9 @@
--- Rules on duty. The hold rule: after a cancel no issue until a sync. The race rule, for a day with a street race: no collect right after a handover. Their join is accepted,
--- and so the day below can be held against one run on the join's table.
+-- Rules on duty. The hold rule: after a cancel no issue until a sync. The race rule, for a day with a street race: no collect right after a handover.
+-- Their join is accepted, and so the day below can be held against one run on the join's table.
 --
--- What a lazy program would do with these scans: one that asks the first rule only keeps the collect 64; one that lets a dropped scan move the rules that would have kept it keeps
--- it too, since the issue 0 before it, which the hold rule drops, would take the race rule on; one that puts the others back when a rule goes off, or doesn't put a rule that comes
--- on again to its first equation, differs in the last run.
+-- What a lazy program would do with these scans: one that asks the first rule only keeps the collect 64; one that lets a dropped scan move the rules
+-- that would have kept it keeps it too, since the issue 0 before it, which the hold rule drops, would take the race rule on; one that puts the others
+-- back when a rule goes off, or doesn't put a rule that comes on again to its first equation, differs in the last run.
 use Prim.Native.Nat.{ℕ}
 use mathlib.Core.Path.{_≡_}
 use mathlib.Core.List.{List, [], _∷_, _++_, map}
@@ -73,14 +73,16 @@ raceComes = comes (record { number = 9; tables = lent; base = 512; count = 2; ru
 abbrev pub runOver : List ℕ → Event
 runOver scans = runs (record { tables = lent; scans = scans; output = replicate (length scans) 0; verdicts = replicate (length scans) 0 })
 
--- The hold rule is at work after the cancel 32, and the race rule after the handover 224: the issue 0 and the collect 64 are dropped. After the sync 128 both are kept.
+-- The hold rule is at work after the cancel 32, and the race rule after the handover 224: the issue 0 and the collect 64 are dropped. After the sync
+-- 128 both are kept.
 abbrev pub morning : List ℕ
 morning = 32 ∷ 224 ∷ 0 ∷ 64 ∷ 128 ∷ 0 ∷ 64 ∷ 32 ∷ 224 ∷ []
 
 abbrev pub comings : List Event
 comings = holdComes ∷ raceComes ∷ []
 
--- The race rule goes off while it is at work; a collect passes, an issue is still dropped. Then the rule comes on again, last and in its first equation, so that the next collect passes.
+-- The race rule goes off while it is at work; a collect passes, an issue is still dropped. Then the rule comes on again, last and in its first
+-- equation, so that the next collect passes.
 abbrev pub day : List Event
 day = comings ++ (runOver morning ∷ goes 9 ∷ runOver (64 ∷ 0 ∷ []) ∷ raceComes ∷ runOver (64 ∷ 0 ∷ []) ∷ [])
 

@@ -1,4 +1,5 @@
--- What a desk has after any number of events: induction over them. A refused one changes nothing, and any other is a run of all rules, a coming or a going.
+-- What a desk has after any number of events: induction over them. A refused one changes nothing, and any other is a run of all rules, a coming or a
+-- going.
 use Prim.Native.Nat.{ℕ}
 use mathlib.Core.Path.{_≡_, refl, sym, subst}
 use mathlib.Core.Logic.{_⊎_, inl, inr}

@@ -1,4 +1,5 @@
--- The ways of a coming, of a going and of a run on duty, by their tests: each refusal, and what comes of none. What holds in each way, holds of the outcome.
+-- The ways of a coming, of a going and of a run on duty, by their tests: each refusal, and what comes of none. What holds in each way, holds of the
+-- outcome.
 use Prim.Native.Nat.{ℕ}
 use mathlib.Core.Path.{_≡_, refl}
 use mathlib.Core.Bool.{Bool, true, false, not}

@@ -1,5 +1,5 @@
--- After any events, orderly or not, the spells are those of the rules on duty and the state is sound: a coming adds a rule and its spell under a new number,
--- a going takes both away, and a run leaves each rule its number, base and count.
+-- After any events, orderly or not, the spells are those of the rules on duty and the state is sound: a coming adds a rule and its spell under a new
+-- number, a going takes both away, and a run leaves each rule its number, base and count.
 use Prim.Native.Nat.{ℕ, _<_}
 use mathlib.Core.Path.{_≡_, refl, sym, _∙_}
 use mathlib.Core.Bool.{not}

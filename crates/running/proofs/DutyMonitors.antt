@@ -1,5 +1,5 @@
--- The rules on duty are one monitor: it suppresses something of exactly the lists of which the monitor of one of them does, by induction on the list. So in their first
--- equations they are a monitor of the rule that joins theirs, which exactly the lists violate that violate one of the rules.
+-- The rules on duty are one monitor: it suppresses something of exactly the lists of which the monitor of one of them does, by induction on the list.
+-- So in their first equations they are a monitor of the rule that joins theirs, which exactly the lists violate that violate one of the rules.
 use Prim.Native.Nat.{ℕ}
 use mathlib.Core.Path.{_≡_, refl}
 use mathlib.Core.Logic.{_↔_, _⊎_, inl, inr, ⊎-elim, ⊎-map}

@@ -1,5 +1,5 @@
--- Who is on duty, rule by rule: what one more rule behind the others adds to the tests and to the places, and a rule whose table begins at any place of what
--- is lent. Each is a law of lists, by induction or by what is in the library.
+-- Who is on duty, rule by rule: what one more rule behind the others adds to the tests and to the places, and a rule whose table begins at any place
+-- of what is lent. Each is a law of lists, by induction or by what is in the library.
 use Prim.Native.Nat.{ℕ, zero, suc, _+_, _-_, _*_, _≤_, _<_}
 use mathlib.Core.Path.{_≡_, refl, sym, _∙_, ap}
 use mathlib.Core.Bool.{Bool, true, false, not, cond, _&&_, _||_, and-false, and-eq-true-iff}

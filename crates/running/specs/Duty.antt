@@ -1,5 +1,5 @@
--- Rules on duty, up to four of them in order of arrival: who comes on and goes off, and runs under all of them. Their tables are parts of one lent list, each
--- from a place of the desk's choosing on. The limit on equations and the mark for dropped are any; the paper's are `most` and `mark`.
+-- Rules on duty, up to four of them in order of arrival: who comes on and goes off, and runs under all of them. Their tables are parts of one lent
+-- list, each from a place of the desk's choosing on. The limit on equations and the mark for dropped are any; the paper's are `most` and `mark`.
 use Prim.Native.Nat.{ℕ, zero, suc}
 use mathlib.Core.Bool.{Bool, true, false, not, cond, _&&_}
 use mathlib.Core.List.{List, [], _∷_, _++_, map}
@@ -110,8 +110,8 @@ changedOf d (refused number place) = record { checked = checkedOf {A = List OnDu
 
 -- ---- runs
 
--- The outcome of a run on duty with an output and verdicts of these sizes: 15 where they have no room for the scans, else 16 where the state is unsound, else 16
--- where a rule is unfit, and else the run of all rules together.
+-- The outcome of a run on duty with an output and verdicts of these sizes: 15 where they have no room for the scans, else 16 where the state is
+-- unsound, else 16 where a rule is unfit, and else the run of all rules together.
 unfoldable pub dutyRunOf : (limit mark : ℕ) → (tables : List ℕ) → Duty → (scans : List ℕ) → (output verdicts : ℕ) → Outcome (RunOver (List OnDuty))
 dutyRunOf limit mark tables d scans output verdicts =
     refuse (not (hasRoom scans output verdicts)) 15 0

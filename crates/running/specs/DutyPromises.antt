@@ -1,5 +1,6 @@
--- What this crate promises of rules on duty, call by call, as statements over the definitions; proofs/ has a theorem of each of these types. The limit on equations
--- and the mark for dropped are any; with `most` and `mark` these are the terms of the contracts of `come_on`, `go_off`, `check_on_duty` and `run_on_duty`.
+-- What this crate promises of rules on duty, call by call, as statements over the definitions; proofs/ has a theorem of each of these types. The
+-- limit on equations and the mark for dropped are any; with `most` and `mark` these are the terms of the contracts of `come_on`, `go_off`,
+-- `check_on_duty` and `run_on_duty`.
 use Prim.Native.Nat.{ℕ, suc, _+_, _*_, _≤_, _<_}
 use mathlib.Core.Path.{_≡_}
 use mathlib.Core.Logic.{_↔_, _⊎_}
@@ -26,8 +27,8 @@ pub record EachMoves (mark : ℕ) (tables : List ℕ) (c : ℕ) (ds ds′ : List
   pub moves : (i : ℕ) → i < length ds
       → (e : ℕ) × (ownAnswer mark tables c (getD ds i vacant) ≡ next e) × (getD ds′ i vacant ≡ movedTo (getD ds i vacant) e)
 
--- 1. On any tables, of a run and the run over one scan more: where the entry of some rule is dropped, so is the scan, and no rule moves. Else the scan is kept, and
--- every rule goes to its entry. With nobody on duty every scan is kept.
+-- 1. On any tables, of a run and the run over one scan more: where the entry of some rule is dropped, so is the scan, and no rule moves. Else the
+-- scan is kept, and every rule goes to its entry. With nobody on duty every scan is kept.
 pub record OneMore (mark : ℕ) (tables : List ℕ) (c : ℕ) (before after : RunOver (List OnDuty)) : Type 0 where
   pub drops : Some (λ d. ownAnswer mark tables c d ≡ dropped) (before .state)
       → after ≡ record { state = before .state; kept = before .kept; verdicts = before .verdicts ++ (1 ∷ []) }
@@ -75,8 +76,8 @@ pub record LeavesPlace (d : Duty) (i : ℕ) (d′ : Duty) : Type 0 where
   pub behind : (j : ℕ) → i ≤ j → j < d′ .count → ruleIn d′ j ≡ ruleIn d (suc j)
   pub rest : RestVacant d′
 
--- 2. A coming is refused with 16 for an unsound state, then with 19 where four rules are on duty, then with 20 where its number is on duty, then with 16 where its table
--- isn't well formed; else it is last, in its first equation. A refusal hands back the duty that it was given.
+-- 2. A coming is refused with 16 for an unsound state, then with 19 where four rules are on duty, then with 20 where its number is on duty, then with
+-- 16 where its table isn't well formed; else it is last, in its first equation. A refusal hands back the duty that it was given.
 pub record Comes (limit mark : ℕ) (d : Duty) (number : ℕ) (tables : List ℕ) (base count : ℕ) (changed : Changed) : Type 0 where
   pub unfit : (changed .checked ≡ Refused 16 0)
       ↔ ((SoundDuty d → ⊥)
@@ -88,7 +89,8 @@ pub record Comes (limit mark : ℕ) (d : Duty) (number : ℕ) (tables : List ℕ
   pub last : changed .checked ≡ Fit → ComesLast d (atStart number base count) (changed .duty)
   pub refused : (n place : ℕ) → changed .checked ≡ Refused n place → changed .duty ≡ d
 
--- A going is refused with 16 for an unsound state, then with 21 where its number isn't on duty; else the rule with the number leaves its place, and the number is free.
+-- A going is refused with 16 for an unsound state, then with 21 where its number isn't on duty; else the rule with the number leaves its place, and
+-- the number is free.
 pub record Goes (d : Duty) (number : ℕ) (changed : Changed) : Type 0 where
   pub unfit : (changed .checked ≡ Refused 16 0) ↔ (SoundDuty d → ⊥)
   pub absent : (changed .checked ≡ Refused 21 0) ↔ (SoundDuty d × (OnDutyUnder number d → ⊥))
@@ -97,7 +99,8 @@ pub record Goes (d : Duty) (number : ℕ) (changed : Changed) : Type 0 where
   pub free : changed .checked ≡ Fit → SoundDuty (changed .duty) × (OnDutyUnder number (changed .duty) → ⊥)
   pub refused : (n place : ℕ) → changed .checked ≡ Refused n place → changed .duty ≡ d
 
--- A going makes room: after it a rule comes on with any number that wasn't on duty, or with the one that went off, if its table is well formed. It is last, in its first equation.
+-- A going makes room: after it a rule comes on with any number that wasn't on duty, or with the one that went off, if its table is well formed. It is
+-- last, in its first equation.
 pub record MakesRoom (limit mark : ℕ) (d : Duty) (number : ℕ) : Type 0 where
   pub taken : changedOf d (goingOf d number) .checked ≡ Fit → (number′ : ℕ) (tables : List ℕ) (base count : ℕ)
       → (number′ ≡ number) ⊎ (OnDutyUnder number′ d → ⊥) → WellFormedTable limit mark count (drop base tables) →
@@ -117,8 +120,8 @@ pub record FitDuty (limit mark : ℕ) (tables : List ℕ) (d : Duty) : Type 0 wh
   pub sound : SoundDuty d
   pub rules : (i : ℕ) → i < d .count → FitRule limit mark tables (ruleIn d i)
 
--- 15 is for buffers that are too short, and comes first; 16 for an unsound state and for an unfit rule. Any other run is that of all rules together. It goes by the entry
--- of each rule, and leaves each rule fit, under its number, with its base and count.
+-- 15 is for buffers that are too short, and comes first; 16 for an unsound state and for an unfit rule. Any other run is that of all rules together.
+-- It goes by the entry of each rule, and leaves each rule fit, under its number, with its base and count.
 pub record RunsOnDuty (limit mark : ℕ) (tables : List ℕ) (d : Duty) (scans : List ℕ) (output verdicts : ℕ) : Type 0 where
   pub short : (checkedOf (dutyRunOf limit mark tables d scans output verdicts) ≡ Refused 15 0)
       ↔ ((output < length scans) ⊎ (verdicts < length scans))

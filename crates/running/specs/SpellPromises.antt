@@ -1,5 +1,6 @@
--- What this crate promises of rules that come on and go off duty, over any calls at a desk, as statements over the definitions; proofs/ has a theorem of each of these types.
--- Of a rule's table nothing is supposed but that it monitors the rule: long tables and short ones do. The limit on equations and the mark for dropped are any.
+-- What this crate promises of rules that come on and go off duty, over any calls at a desk, as statements over the definitions; proofs/ has a theorem
+-- of each of these types. Of a rule's table nothing is supposed but that it monitors the rule: long tables and short ones do. The limit on equations
+-- and the mark for dropped are any.
 use Prim.Native.Nat.{ℕ, _+_, _*_, _≤_, _<_}
 use mathlib.Core.Path.{_≡_}
 use mathlib.Core.Logic.{_↔_, _⊎_}
@@ -23,7 +24,8 @@ use Rattle.running.specs.declared.Checked.the-variants.{Fit, Refused}
 
 -- ---- whose spells they are
 
--- 1. After any calls from the start on, orderly or not, the spells are those of the rules on duty, by arrival, and the state is sound, with no rule in the other places.
+-- 1. After any calls from the start on, orderly or not, the spells are those of the rules on duty, by arrival, and the state is sound, with no rule
+-- in the other places.
 pub record SpellsOfDuty (desk : Desk) : Type 0 where
   pub numbers : map (λ d. d .number) (onDuty (desk .duty)) ≡ map (λ s. s .number) (desk .spells)
   pub bases : map (λ d. d .base) (onDuty (desk .duty)) ≡ map (λ s. s .base) (desk .spells)
@@ -36,8 +38,9 @@ SpellsOnDuty = (limit mark : ℕ) (es : List Event) → SpellsOfDuty (after limi
 
 -- ---- tables that are filled in place
 
--- 2. What a desk lends after it has filled a table in place, from any base inside of what it lends, by the long or the short filling: with the count that was answered the table is
--- fit to come on, and monitors the rule of the file, which is well formed. No other byte has changed, so the rows of other rules are as they were, if they lie elsewhere.
+-- 2. What a desk lends after it has filled a table in place, from any base inside of what it lends, by the long or the short filling: with the count
+-- that was answered the table is fit to come on, and monitors the rule of the file, which is well formed. No other byte has changed, so the rows of
+-- other rules are as they were, if they lie elsewhere.
 pub record FilledInPlace (limit mark : ℕ) (tables : List ℕ) (base : ℕ) (r : Rule) (n : ℕ) (lent : List ℕ) : Type 0 where
   pub table : WellFormedTable limit mark n (drop base lent)
   pub monitors : Monitors r (lookup 256 mark (drop base lent)) 0
@@ -117,8 +120,8 @@ since before now = record {
   verdicts = drop (length (before .verdicts)) (now .verdicts);
 }
 
--- A day on which no scan was kept between the comings of the rules on duty, nor after the last of them, and later calls among which nobody comes on or goes off. The rules
--- are r and rs, by arrival.
+-- A day on which no scan was kept between the comings of the rules on duty, nor after the last of them, and later calls among which nobody comes on
+-- or goes off. The rules are r and rs, by arrival.
 pub record JoinDay (limit mark : ℕ) (es later : List Event) (r : Rule) (rs : List Rule) : Type 0 where
   pub orderly : OrderlyDay limit mark es
   pub none-kept : All (λ s. s .kept ≡ []) (after limit mark newDesk es .spells)
@@ -133,8 +136,8 @@ JoinSifts =
     let desk = after limit mark newDesk es in
     Sifted (joined r rs) (since desk (after limit mark desk later))
 
--- So the verdicts and the kept scans are those of `run` from the start over the same scans, in any calls, on a table that filling leaves of a file that says the joined rule, the
--- long one or the short one.
+-- So the verdicts and the kept scans are those of `run` from the start over the same scans, in any calls, on a table that filling leaves of a file
+-- that says the joined rule, the long one or the short one.
 abbrev pub JoinsAsOne : Type 0
 JoinsAsOne =
     (limit mark : ℕ) (es later : List Event) (r : Rule) (rs : List Rule) → JoinDay limit mark es later r rs →

@@ -1,5 +1,5 @@
--- What happens at a desk whose rules come on and go off duty, call by call, and what the desk then has: who is on duty, and of each spell of a rule on duty the
--- scans kept in it. All of it is told from what the calls are handed and what they hand back; no equation is looked at.
+-- What happens at a desk whose rules come on and go off duty, call by call, and what the desk then has: who is on duty, and of each spell of a rule
+-- on duty the scans kept in it. All of it is told from what the calls are handed and what they hand back; no equation is looked at.
 use Prim.Native.Nat.{ℕ, _*_}
 use mathlib.Core.Path.{_≡_}
 use mathlib.Core.Logic.{_⊎_}
@@ -44,8 +44,8 @@ pub data Event : Type 0 where
 
 -- ---- spells
 
--- A rule's spell on duty: its number, where its table begins and how many equations it has, what was lent from there on when the rule came on, the rule, and the
--- scans kept since.
+-- A rule's spell on duty: its number, where its table begins and how many equations it has, what was lent from there on when the rule came on, the
+-- rule, and the scans kept since.
 pub record Spell : Type 0 where
   pub number : ℕ
   pub base : ℕ
@@ -64,8 +64,8 @@ longer w s = record { number = s .number; base = s .base; count = s .count; tabl
 
 -- ---- what a desk has
 
--- The state of the rules on duty, their spells by arrival, the spells that are over, and of all runs that weren't refused the scans, and the kept scans and the verdicts
--- as they are read from the buffers.
+-- The state of the rules on duty, their spells by arrival, the spells that are over, and of all runs that weren't refused the scans, and the kept
+-- scans and the verdicts as they are read from the buffers.
 pub record Desk : Type 0 where
   pub duty : Duty
   pub spells : List Spell

@@ -1,4 +1,5 @@
-// Runs the monitor of a table over scans, in any number of calls, or those of up to four rules that are on duty. The definitions that the contracts cite stand in specs/.
+// Runs the monitor of a table over scans, in any number of calls, or those of up to four rules that are on duty. The definitions that the contracts
+// cite stand in specs/.
 mod checking;
 mod following;
 mod roster;
@@ -137,8 +138,8 @@ fn unchanged(number: u8, duty: Duty) -> Changed
     }
 }
 
-// A rule comes on under a number, with `count` equations, whose table begins at `base` of what is lent. It is the last, and in its first equation. A refused
-// call hands back the state that it was given.
+// A rule comes on under a number, with `count` equations, whose table begins at `base` of what is lent. It is the last, and in its first equation. A
+// refused call hands back the state that it was given.
 pub fn come_on(duty: Duty, number: u8, tables: &[u8], base: usize, count: usize) -> Changed
     ensures { λ r. ⌜ r ≡ changedOf duty (comingOf most mark duty number (now (tables .entry)) base count) ⌝ }
 {
@@ -215,8 +216,8 @@ pub fn check_on_duty(
     Checked::Fit
 }
 
-// Runs the monitors of all rules on duty over scans: a scan is kept when none of them would drop it, and then moves all of them. The buffers are written as by
-// `run`. A refused call changes nothing and hands back the state that it was given.
+// Runs the monitors of all rules on duty over scans: a scan is kept when none of them would drop it, and then moves all of them. The buffers are
+// written as by `run`. A refused call changes nothing and hands back the state that it was given.
 pub fn run_on_duty(
     tables: &[u8],
     duty: Duty,
