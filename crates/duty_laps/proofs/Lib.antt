@@ -1,0 +1,2 @@
+-- How much a lap can add to the sums.
+pub mod LapCounts
