@@ -101,7 +101,7 @@ sound-event limit mark desk (runs call) h =
     duty-run-ways limit mark (call .tables) d (call .scans) o v (λ o. SoundState (dutyRanOf d o .duty)) (λ short. h) (λ a b n. h)
     (λ a b fit. record {
       sound = fit-after limit mark (call .tables) d (call .scans) fit .sound;
-      rest = Runs.runs limit mark (call .tables) d (call .scans) o v .ends fit .1;
+      rest = rest-vacant (ended (together mark (call .tables)) (onDuty d) (call .scans)) (fit-after limit mark (call .tables) d (call .scans) fit .sound .few);
     })
 sound-event limit mark desk (comes x) h =
     let came = Ways.comes limit mark (desk .duty) (x .number) (x .tables) (x .base) (x .count) in

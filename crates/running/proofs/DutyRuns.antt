@@ -20,7 +20,7 @@ use Rattle.running.specs.declared.Duty.{Duty}
 use Rattle.running.specs.declared.Checked.the-variants.{Refused}
 use Rattle.running.proofs.DutyCases.{duty-run-cases}
 use Rattle.running.proofs.Refusals.{has-room-lengths, no-room-short}
-use Rattle.running.proofs.SoundStates.{fails, duty-of-at, rest-vacant, duty-length, duty-at, listed, sound, unsound, fit-rules}
+use Rattle.running.proofs.SoundStates.{fails, duty-of-rules, duty-of-at, rest-vacant, duty-length, duty-at, listed, sound, unsound, fit-rules}
 use Rattle.running.proofs.TogetherRuns.{rules-stay}
 
 -- ---- the three ways
@@ -113,9 +113,10 @@ runs limit mark tables d scans output verdicts = record {
   entries = λ x fit c b.
       let table = drop (x .base) tables in
       rw (row-at table (x .equation) c mark (well-formed-row (fit .table) (x .equation) (fit .equation)) b, getD-drop);
-  ends = λ is.
+  ends = λ h k is. rw (duty-run-fit limit mark tables d scans output verdicts h k is)
       let few = is .sound .few in
       let same = left-length limit mark tables d scans in (
+        duty-of-rules (left limit mark tables d scans),
         same,
         rest-vacant (left limit mark tables d scans) (omega arith),
         λ i h. let at = left-at limit mark tables d scans i h in (at .2 (is .rules i h), (at .0, at .1)),

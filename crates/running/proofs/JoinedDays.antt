@@ -130,7 +130,8 @@ join-sifts limit mark es later r rs day =
     (joint-first limit mark r rs (day .well-formed) desk (standing-after es (day .orderly)) (day .rules) (day .none-kept)) (day .quiet) .sifted
 
 pub joins-as-one : JoinsAsOne
-joins-as-one limit mark es later r rs day limit′ mark′ s table n left fills h calls same =
+joins-as-one limit mark es later r rs day q both limit′ mark′ s table n left fills h calls same =
     let desk = after limit mark newDesk es in
-    sifted-alike (joined r rs) (joined r rs) (λ w. (λ v. v, λ v. v)) (since desk (after limit mark desk later)) h (join-sifts limit mark es later r rs day)
-    (filled-sifts limit′ mark′ s table (joined r rs) n left fills h calls) (sym same)
+    let join = join-violates r rs (day .well-formed) in
+    sifted-alike (joined r rs) q (λ w. (λ v. both w .1 (join w .0 v), λ v. join w .1 (both w .0 v))) (since desk (after limit mark desk later)) h (join-sifts limit mark es later r rs day)
+    (filled-sifts limit′ mark′ s table q n left fills h calls) (sym same)

@@ -132,9 +132,10 @@ pub record RunsOnDuty (limit mark : ℕ) (tables : List ℕ) (d : Duty) (scans :
   pub rules : (length (onDuty d) ≡ d .count) × ((i : ℕ) → i < d .count → getD (onDuty d) i vacant ≡ ruleIn d i)
   pub entries : (x : OnDuty) → FitRule limit mark tables x → (c : ℕ) → c < 256
       → ownAnswer mark tables c x ≡ meaning mark (getD tables (x .base + (256 * x .equation + c)) 0)
-  pub ends : FitDuty limit mark tables d →
-      let d′ = dutyOf (runBy (together mark tables) (onDuty d) scans .state) in
-      (d′ .count ≡ d .count)
+  pub ends : length scans ≤ output → length scans ≤ verdicts → FitDuty limit mark tables d →
+      let d′ = dutyRanOf d (dutyRunOf limit mark tables d scans output verdicts) .duty in
+      (onDuty d′ ≡ runBy (together mark tables) (onDuty d) scans .state)
+      × (d′ .count ≡ d .count)
       × RestVacant d′
       × ((i : ℕ) → i < d .count
       → FitRule limit mark tables (ruleIn d′ i) × ((e : ℕ) × (ruleIn d′ i ≡ movedTo (ruleIn d i) e)))

@@ -45,6 +45,9 @@ pub record FilledInPlace (limit mark : ℕ) (tables : List ℕ) (base : ℕ) (r 
   pub table : WellFormedTable limit mark n (drop base lent)
   pub monitors : Monitors r (lookup 256 mark (drop base lent)) 0
   pub rule : WellFormedRule r
+  -- so it is wherever the rows later stand, whatever is lent beside them
+  pub rows : (base′ : ℕ) (lent′ : List ℕ) → take (256 * n) (drop base′ lent′) ≡ take (256 * n) (drop base lent)
+      → WellFormedTable limit mark n (drop base′ lent′) × Monitors r (lookup 256 mark (drop base′ lent′)) 0
   pub before : take base lent ≡ take base tables
   pub behind : drop (base + 256 * n) lent ≡ drop (base + 256 * n) tables
 
@@ -143,8 +146,9 @@ JoinsAsOne =
     (limit mark : ℕ) (es later : List Event) (r : Rule) (rs : List Rule) → JoinDay limit mark es later r rs →
     let desk = after limit mark newDesk es in
     let had = since desk (after limit mark desk later) in
+    (q : Rule) → ((w : List ℕ) → ViolatesRule q w ↔ Some (λ p. ViolatesRule p w) (r ∷ rs)) →
     (limit′ mark′ : ℕ) (s table : List ℕ) (n : ℕ) (left : List ℕ)
-    → Fills limit′ mark′ s table (joined r rs) n left ⊎ FillsShort limit′ mark′ s table (joined r rs) n left
+    → Fills limit′ mark′ s table q n left ⊎ FillsShort limit′ mark′ s table q n left
     → (h : History) → Calls limit′ mark′ (OnTableOrRefused limit′ mark′ left n) h → h .scans ≡ had .scans → SameVerdicts had h
 
 -- ---- all of these
