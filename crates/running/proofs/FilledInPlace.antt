@@ -11,7 +11,7 @@ use Rattle.reading.proofs.Accepting.Accepted.{accepts-encodings}
 use Rattle.synthesis.specs.Monitor.{Monitors, lookup}
 use Rattle.synthesis.specs.Table.{WellFormedTable}
 use Rattle.synthesis.proofs.Tables.WellFormedTables.{lookup-inside, same-row, same-rows-well-formed}
-use Rattle.synthesis.proofs.Monitors.Renaming.{renamed-suppresses}
+use Rattle.synthesis.proofs.Monitors.Renaming.{renamed-monitors}
 use Rattle.synthesis.proofs.Tables.Built.{table-monitors, built-well-formed, table-rest}
 use Rattle.synthesis.proofs.Quotients.ShortFillings.{short-monitors, short-in-range, short-rest}
 use Rattle.running.specs.SpellPromises.{FilledInPlace, FillsForDuty}
@@ -19,18 +19,15 @@ use Rattle.running.specs.SpellPromises.{FilledInPlace, FillsForDuty}
 -- a table with the rows of another
 rows-monitor : (limit mark n : ℕ) (r : Rule) (table other : List ℕ) → WellFormedTable limit mark n table → Monitors r (lookup 256 mark table) 0
     → take (256 * n) other ≡ take (256 * n) table → WellFormedTable limit mark n other × Monitors r (lookup 256 mark other) 0
-rows-monitor limit mark n r table other wf monitors same =
-    (
-      same-rows-well-formed wf other same,
-      λ w bytes.
-      let alike = renamed-suppresses 256 (λ k. k < n) (lookup 256 mark table) (lookup 256 mark other) (λ k. k)
+rows-monitor limit mark n r table other wf monitors same = (
+  same-rows-well-formed wf other same,
+  renamed-monitors r (λ k. k < n) (lookup 256 mark table) (lookup 256 mark other) (λ k. k)
       (record {
         invariant = λ k k′ c ok b q. lookup-inside wf k c k′ ok q;
         drops = λ k c ok b q. rw (same-row wf other same k ok) q;
         follows = λ k k′ c ok b q. rw (same-row wf other same k ok) q;
-      }) 0 w (wf .some) bytes in
-      (λ v. alike .0 (monitors w bytes .0 v), λ l. monitors w bytes .1 (alike .1 l)),
-    )
+      }) 0 (wf .some) monitors,
+)
 
 filled-in-place : (limit mark : ℕ) (s tables : List ℕ) (base : ℕ) (r : Rule) (n : ℕ) (left : List ℕ) → base ≤ length tables → Bytes s
     → ruleOf s ≡ accepted r → WellFormedTable limit mark n left → Monitors r (lookup 256 mark left) 0

@@ -16,7 +16,7 @@ use Rattle.running.specs.Calls.{History, noCalls, withVerdict}
 use Rattle.running.specs.Duty.{onDuty, together}
 use Rattle.running.specs.Spells.{DutyCall, Spell, longer, Desk, newDesk, after, OrderlyOrRefused, LendsRows, Quiet}
 use Rattle.running.specs.Promises.{Sifted}
-use Rattle.running.specs.SpellPromises.{since, JoinSifts, JoinsAsOne}
+use Rattle.running.specs.SpellPromises.{since, JoinSifts, JoinsAsOne, JoinsHowever}
 use Rattle.running.proofs.ListTests.{none-has}
 use Rattle.running.proofs.SiftingAlike.{sifted-alike, filled-sifts}
 use Rattle.running.proofs.Alongside.{Along, along-some, along-change, along-with, along-mapped}
@@ -129,9 +129,12 @@ join-sifts limit mark es later r rs day =
     kept-after (stays-joint limit mark r rs (day .well-formed) desk) desk later
     (joint-first limit mark r rs (day .well-formed) desk (standing-after es (day .orderly)) (day .rules) (day .none-kept)) (day .quiet) .sifted
 
-pub joins-as-one : JoinsAsOne
-joins-as-one limit mark es later r rs day q both limit′ mark′ s table n left fills h calls same =
+pub joins-however : JoinsHowever
+joins-however limit mark es later r rs day q says limit′ mark′ s table n left fills h calls same =
     let desk = after limit mark newDesk es in
-    let join = join-violates r rs (day .well-formed) in
-    sifted-alike (joined r rs) q (λ w. (λ v. both w .1 (join w .0 v), λ v. join w .1 (both w .0 v))) (since desk (after limit mark desk later)) h (join-sifts limit mark es later r rs day)
-    (filled-sifts limit′ mark′ s table q n left fills h calls) (sym same)
+    let joins = join-violates r rs (day .well-formed) in
+    sifted-alike (joined r rs) q (λ w. (λ v. says w .1 (joins w .0 v), λ v. joins w .1 (says w .0 v))) (since desk (after limit mark desk later)) h
+    (join-sifts limit mark es later r rs day) (filled-sifts limit′ mark′ s table q n left fills h calls) (sym same)
+
+pub joins-as-one : (limit mark : ℕ) → JoinsAsOne limit mark
+joins-as-one limit mark es later r rs day = joins-however limit mark es later r rs day (joined r rs) (join-violates r rs (day .well-formed))

@@ -66,7 +66,7 @@ pub stands-by-spell : StandsBySpell
 stands-by-spell limit mark es day =
     along-same (λ d. d .equation) (λ s. ended (lookup 256 mark (s .table)) 0 (s .kept)) (λ d s r. sym (r .ends)) (standing-after es day .along)
 
-pub spells-safe : SpellsSafe
+pub spells-safe : (limit mark : ℕ) → SpellsSafe limit mark
 spells-safe limit mark es day =
     let desk = after limit mark newDesk es in
     let h = standing-after es day in
@@ -85,7 +85,7 @@ module _ (limit mark : ℕ) (es : List Event) (day : OrderlyDay limit mark es) (
         rules = fit-rules limit mark (call .tables) d .0 (all-passes (fitsAt limit mark (call .tables)) (onDuty d) .1 fit);
       }
 
-pub duty-drops-exactly : DutyDropsExactly
+pub duty-drops-exactly : (limit mark : ℕ) → DutyDropsExactly limit mark
 duty-drops-exactly limit mark es day call bytes lends =
     let desk = after limit mark newDesk es in
     duty-run-ways limit mark (call .tables) (desk .duty) (call .scans) (length (call .output)) (length (call .verdicts))
@@ -94,7 +94,7 @@ duty-drops-exactly limit mark es day call bytes lends =
     (λ a b n e. absurd (n (fit-duty limit mark es day call lends)))
     (λ a b fit e. run-drops-by-spells desk call bytes (lent limit mark es day call lends))
 
-pub on-duty-never-unfit : OnDutyNeverUnfit
+pub on-duty-never-unfit : (limit mark : ℕ) → OnDutyNeverUnfit limit mark
 on-duty-never-unfit limit mark es day call lends =
     let d = after limit mark newDesk es .duty in
     duty-run-ways limit mark (call .tables) d (call .scans) (length (call .output)) (length (call .verdicts))

@@ -4,7 +4,7 @@ use Rattle.running.proofs.DutyDays.{spells-on-duty}
 use Rattle.running.proofs.FilledInPlace.{fills-for-duty}
 use Rattle.running.proofs.SpellDays.{stands-by-spell, duty-drops-exactly, on-duty-never-unfit, spells-safe}
 use Rattle.running.proofs.DutyMonitors.{duty-monitors}
-use Rattle.running.proofs.JoinedDays.{join-sifts, joins-as-one}
+use Rattle.running.proofs.JoinedDays.{join-sifts, joins-as-one, joins-however}
 
 pub spell-promises : SpellPromises
 spell-promises = record {
@@ -17,4 +17,5 @@ spell-promises = record {
   duty-monitors = duty-monitors;
   join-sifts = join-sifts;
   joins-as-one = joins-as-one;
+  joins-however = joins-however;
 }

@@ -79,24 +79,24 @@ DropsBySpells desk call outcome =
     ↔ Some (λ s. ViolatesRule (s .rule) ((s .kept ++ keptOfRun) ++ (getD (call .scans) i 0 ∷ []))) (desk .spells)
 
 -- So it is with each next run over bytes that lends the rows and isn't refused.
-abbrev pub DutyDropsExactly : Type 0
-DutyDropsExactly =
-    (limit mark : ℕ) (es : List Event) → OrderlyDay limit mark es → (call : DutyCall) → Bytes (call .scans) →
+abbrev pub DutyDropsExactly : (limit mark : ℕ) → Type 0
+DutyDropsExactly limit mark =
+    (es : List Event) → OrderlyDay limit mark es → (call : DutyCall) → Bytes (call .scans) →
     let desk = after limit mark newDesk es in
     let outcome = runAt limit mark (desk .duty) call in
     LendsRows desk call → dutyRanOf (desk .duty) outcome .checked ≡ Fit → DropsBySpells desk call outcome
 
 -- A run that lends the rows is never refused with 16.
-abbrev pub OnDutyNeverUnfit : Type 0
-OnDutyNeverUnfit =
-    (limit mark : ℕ) (es : List Event) → OrderlyDay limit mark es → (call : DutyCall) →
+abbrev pub OnDutyNeverUnfit : (limit mark : ℕ) → Type 0
+OnDutyNeverUnfit limit mark =
+    (es : List Event) → OrderlyDay limit mark es → (call : DutyCall) →
     let desk = after limit mark newDesk es in
     LendsRows desk call → dutyRanOf (desk .duty) (runAt limit mark (desk .duty) call) .checked ≡ Refused 16 0 → ⊥
 
 -- 4. The scans kept in a spell don't violate its rule, whether the spell goes on or is over.
-abbrev pub SpellsSafe : Type 0
-SpellsSafe =
-    (limit mark : ℕ) (es : List Event) → OrderlyDay limit mark es →
+abbrev pub SpellsSafe : (limit mark : ℕ) → Type 0
+SpellsSafe limit mark =
+    (es : List Event) → OrderlyDay limit mark es →
     let desk = after limit mark newDesk es in
     All (λ s. ViolatesRule (s .rule) (s .kept) → ⊥) (desk .spells ++ desk .over)
 
@@ -114,7 +114,7 @@ DutyMonitors =
     (mark : ℕ) (tables : List ℕ) (ds : List OnDuty) (r : Rule) (rs : List Rule) → All WellFormedRule (r ∷ rs) → Serves mark tables ds (r ∷ rs)
     → Monitors (joined r rs) (together mark tables) ds
 
--- what a desk has had since it was as another: scans, kept scans and verdicts
+-- What a desk has had since it was as another: scans, kept scans and verdicts. There is no state of a run; `start` stands for it.
 abbrev pub since : (before now : Desk) → History
 since before now = record {
   state = start;
@@ -139,17 +139,26 @@ JoinSifts =
     let desk = after limit mark newDesk es in
     Sifted (joined r rs) (since desk (after limit mark desk later))
 
--- So the verdicts and the kept scans are those of `run` from the start over the same scans, in any calls, on a table that filling leaves of a file
--- that says the joined rule, the long one or the short one.
-abbrev pub JoinsAsOne : Type 0
-JoinsAsOne =
+-- So the verdicts and the kept scans are those of `run` from the start over the same scans, in any calls, on a table that filling leaves of a rule q, the
+-- long one or the short one,
+abbrev pub AsOneRun : Desk → Desk → Rule → Type 0
+AsOneRun before now q =
+    (limit mark : ℕ) (s table : List ℕ) (n : ℕ) (left : List ℕ) → Fills limit mark s table q n left ⊎ FillsShort limit mark s table q n left
+    → (h : History) → Calls limit mark (OnTableOrRefused limit mark left n) h → h .scans ≡ since before now .scans → SameVerdicts (since before now) h
+
+-- where q is the rule that joins theirs,
+abbrev pub JoinsAsOne : (limit mark : ℕ) → Type 0
+JoinsAsOne limit mark =
+    (es later : List Event) (r : Rule) (rs : List Rule) → JoinDay limit mark es later r rs →
+    let desk = after limit mark newDesk es in
+    AsOneRun desk (after limit mark desk later) (joined r rs)
+
+-- and where q is any other rule that exactly the lists violate that violate one of theirs: with shared patterns, say, or joined in another order.
+abbrev pub JoinsHowever : Type 0
+JoinsHowever =
     (limit mark : ℕ) (es later : List Event) (r : Rule) (rs : List Rule) → JoinDay limit mark es later r rs →
     let desk = after limit mark newDesk es in
-    let had = since desk (after limit mark desk later) in
-    (q : Rule) → ((w : List ℕ) → ViolatesRule q w ↔ Some (λ p. ViolatesRule p w) (r ∷ rs)) →
-    (limit′ mark′ : ℕ) (s table : List ℕ) (n : ℕ) (left : List ℕ)
-    → Fills limit′ mark′ s table q n left ⊎ FillsShort limit′ mark′ s table q n left
-    → (h : History) → Calls limit′ mark′ (OnTableOrRefused limit′ mark′ left n) h → h .scans ≡ had .scans → SameVerdicts had h
+    (q : Rule) → ((w : List ℕ) → ViolatesRule q w ↔ Some (λ p. ViolatesRule p w) (r ∷ rs)) → AsOneRun desk (after limit mark desk later) q
 
 -- ---- all of these
 
@@ -158,9 +167,10 @@ pub record SpellPromises : Type 0 where
   pub spells-on-duty : SpellsOnDuty
   pub fills-for-duty : FillsForDuty
   pub stands-by-spell : StandsBySpell
-  pub duty-drops-exactly : DutyDropsExactly
-  pub on-duty-never-unfit : OnDutyNeverUnfit
-  pub spells-safe : SpellsSafe
+  pub duty-drops-exactly : (limit mark : ℕ) → DutyDropsExactly limit mark
+  pub on-duty-never-unfit : (limit mark : ℕ) → OnDutyNeverUnfit limit mark
+  pub spells-safe : (limit mark : ℕ) → SpellsSafe limit mark
   pub duty-monitors : DutyMonitors
   pub join-sifts : JoinSifts
-  pub joins-as-one : JoinsAsOne
+  pub joins-as-one : (limit mark : ℕ) → JoinsAsOne limit mark
+  pub joins-however : JoinsHowever

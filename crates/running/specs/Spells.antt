@@ -160,12 +160,13 @@ IsRefused limit mark desk e = (number place : ℕ) × (answered limit mark desk 
 abbrev pub LendsRows : Desk → DutyCall → Type 0
 LendsRows desk call = All (λ s. take (256 * s .count) (drop (s .base) (call .tables)) ≡ take (256 * s .count) (s .table)) (desk .spells)
 
--- Runs are over bytes, and lend the rows; who comes on has a table that monitors its rule. Any other event is refused.
+-- Runs are over bytes, and lend the rows; who comes on has a table that monitors its rule.
 abbrev pub Orderly : (mark : ℕ) → Desk → Event → Type 0
 Orderly mark desk (runs call) = Bytes (call .scans) × LendsRows desk call
 Orderly mark desk (comes x) = Monitors (x .rule) (lookup 256 mark (drop (x .base) (x .tables))) 0
 Orderly mark desk (goes number) = Unit
 
+-- Any other event is refused.
 abbrev pub OrderlyOrRefused : (limit mark : ℕ) → Desk → Event → Type 0
 OrderlyOrRefused limit mark desk e = Orderly mark desk e ⊎ IsRefused limit mark desk e
 

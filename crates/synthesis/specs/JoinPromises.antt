@@ -6,8 +6,7 @@ use Rattle.reading.specs.Rule.{Rule, All, WellFormedRule}
 use Rattle.synthesis.specs.Violation.{ViolatesRule}
 use Rattle.synthesis.specs.Joined.{joined, Some}
 
--- Joined rules are well formed where each of them is. So a file that says their join is refused for its length, for too many patterns, nodes or
--- equations, or since no model satisfies one of them, and for nothing else.
+-- The join of well-formed rules is well formed, with any number of patterns and nodes.
 abbrev pub JoinWellFormed : Type 0
 JoinWellFormed = (r : Rule) (rs : List Rule) → All WellFormedRule (r ∷ rs) → WellFormedRule (joined r rs)
 
