@@ -31,6 +31,8 @@ use Rattle.running.proofs.DemandTwo.{drops-exactly, short-drops-exactly}
 use Rattle.running.proofs.Reasons.{reasons-of-runs, short-reasons-of-runs}
 use Rattle.running.proofs.ComingAndGoing.{comes, goes}
 use Rattle.running.proofs.DutyCalls.{duty-refused-unchanged, duty-rest-unchanged}
+use Rattle.running.proofs.SpellDays.{duty-drops-exactly, on-duty-never-unfit, spells-safe}
+use Rattle.running.proofs.JoinedDays.{joins-as-one}
 use Rattle.models.specs.Phone.{modelOf}
 use Rattle.models.proofs.Phones.PhoneCodes.{phone-codes}
 use Rattle.models.proofs.Files.Encoding.{accepts-phones, encode-bytes, answers-accepted, phone-within-limits}
@@ -42,7 +44,7 @@ use Rattle.models.proofs.Judgments.TablesEnforce.{tables-enforce, short-tables-
 use Rattle.demands.specs.Outcomes.{counting, filling, previewCounting, previewFilling, previewTableFilled}
 use Rattle.demands.specs.Outcomes.{shortCounting, shortFilling, shortTableFilled, running}
 use Rattle.demands.specs.Refusals.{DeskRefused, PageRefused, RunRefused, short-buffer, unfit}
-use Rattle.demands.specs.Demands.{DemandOne, DemandTwo, DemandTwoShort, DemandTwoPreview, DemandThree}
+use Rattle.demands.specs.Demands.{DemandOne, DemandTwo, DemandTwoShort, DemandTwoPreview, DemandTwoDuty, DemandThree}
 use Rattle.demands.proofs.Refused.{count-refused, count-short-refused, fill-refused}
 use Rattle.demands.proofs.RefusedOnPage.{count-preview-refused}
 use Rattle.demands.proofs.RefusedReasons.{explain-refused}
@@ -165,6 +167,14 @@ demand-two-preview = record {
   fills = preview-fills-accepted;
   as-counted = λ s table. preview-fills-as-counted s (length table);
   with-room = λ s table. preview-fills-exactly s (length table);
+}
+
+pub demand-two-duty : DemandTwoDuty
+demand-two-duty = record {
+  drops = duty-drops-exactly most mark;
+  never-unfit = on-duty-never-unfit most mark;
+  safe = spells-safe most mark;
+  joins = joins-as-one most mark;
 }
 
 -- ---- demand 3

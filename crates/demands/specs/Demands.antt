@@ -27,6 +27,7 @@ use Rattle.running.specs.Duty.{changedOf, dutyRanOf}
 use Rattle.running.specs.Spells.{DutyCall, Coming}
 use Rattle.running.specs.Promises.{SiftsOn, ReasonsOn, RunUnchanged, Fronts, OnlyFronts}
 use Rattle.running.specs.DutyPromises.{DutyUnchanged}
+use Rattle.running.specs.SpellPromises.{DutyDropsExactly, OnDutyNeverUnfit, SpellsSafe, JoinsAsOne}
 use Rattle.running.specs.declared.State.{State}
 use Rattle.running.specs.declared.Duty.{Duty}
 use Rattle.running.specs.declared.Checked.the-variants as Checked
@@ -169,6 +170,15 @@ pub record DemandTwoPreview : Type 1 where
       → (r : Rule) × Fills most mark s table r n (previewTableFilled s table)
   pub as-counted : (s table : List ℕ) → FillsAsCounted (previewCounting s) (previewFilling s table) (length table)
   pub with-room : (s table : List ℕ) → Bytes s → FillsWithRoom previewLimit s (previewCounting s) (previewFilling s table) (length table)
+
+-- The same of rules on duty, after any orderly calls. A scan is dropped exactly when for some of them the scans kept since it came on, followed by it,
+-- violate it. No run that lends the rows with which they came on is refused with 16. What is kept in a spell doesn't violate its rule. And rules between
+-- whose comings no scan was kept filter as the rule does that joins them.
+pub record DemandTwoDuty : Type 0 where
+  pub drops : DutyDropsExactly most mark
+  pub never-unfit : OnDutyNeverUnfit most mark
+  pub safe : SpellsSafe most mark
+  pub joins : JoinsAsOne most mark
 
 -- ---- demand 3
 
