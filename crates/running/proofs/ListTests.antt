@@ -14,7 +14,12 @@ use Rattle.synthesis.specs.Joined.{Some}
 use Rattle.running.specs.Lists.{any, all, filter}
 
 module _ {A : Type 0} (test : A → Bool) where
-  -- ---- one more element
+  -- ---- one more list, and one more element
+
+  pub any-append : (l m : List A) → any test (l ++ m) ≡ (any test l || any test m)
+  unfolding any
+  any-append [] m = refl
+  any-append (x ∷ l) m = rw (any-append l m) (sym (or-assoc (test x) (any test l) (any test m)))
 
   pub any-last : (l : List A) (x : A) → any test (l ++ (x ∷ [])) ≡ (any test l || test x)
   unfolding any

@@ -1,6 +1,6 @@
 -- The loop over the scans under several rules: it goes by their equations, and in these the rules are where the run of all of them stands.
 use Prim.Native.Nat.{ℕ, _+_, _≤_, _<_}
-use mathlib.Core.Path.{_≡_, refl, _∙_, ap}
+use mathlib.Core.Path.{_≡_, refl, _∙_}
 use mathlib.Core.Bool.{Bool, true, false, cond}
 use mathlib.Core.List.{List, map}
 use native.Mathlib.Omega.{arith}
@@ -23,15 +23,15 @@ module _ (mark : ℕ) (tables : List ℕ) (n : ℕ) (rules : List OnDuty) (outpu
   -- what the iteration writes and goes on with is told by equations, as its calls tell it
   pub after-next : (output buffer equations : List ℕ) (keeps i : ℕ) → After output buffer equations keeps i → i < length scans
       → length scans ≤ length output₀ → length scans ≤ length buffer₀
-      → (drops : Bool) (moves : List ℕ) → drops ≡ someDrops mark tables (standing n rules equations) (getD scans i 0)
-      → standing n rules moves ≡ map (movedBy mark tables (getD scans i 0)) (standing n rules equations)
-      → {x v k : ℕ} {equations′ : List ℕ} → x ≡ cond drops (getD output keeps 0) (getD scans i 0) → v ≡ cond drops 1 0 → k ≡ cond drops 0 1
-      → equations′ ≡ cond drops equations moves
+      → (drops : Bool) {equations′ : List ℕ} → drops ≡ someDrops mark tables (standing n rules equations) (getD scans i 0)
+      → standing n rules equations′
+      ≡ cond drops (standing n rules equations) (map (movedBy mark tables (getD scans i 0)) (standing n rules equations))
+      → {x v k : ℕ} → x ≡ cond drops (getD output keeps 0) (getD scans i 0) → v ≡ cond drops 1 0 → k ≡ cond drops 0 1
       → After (set output keeps x) (set buffer i v) equations′ (keeps + k) (i + 1)
-  after-next output buffer equations keeps i h more ro rb drops moves ed em ex ev ek ee =
+  after-next output buffer equations keeps i h more ro rb drops ed em ex ev ek =
       let d : F at (getD scans i 0) ≡ cond drops dropped (next onward) = rw (ed, h .stand) in
       record {
-        stand = rw (ee, stands-next F (inPlaces n rules) scans i more drops onward d) (stand-next drops);
+        stand = rw (stands-next F (inPlaces n rules) scans i more drops onward d) (rw (h .stand) at em);
         filled = filled-next F (inPlaces n rules) output₀ buffer₀ scans output buffer keeps i (h .filled) more ro rb drops onward d ex ev ek;
       }
     where
@@ -44,10 +44,6 @@ module _ (mark : ℕ) (tables : List ℕ) (n : ℕ) (rules : List OnDuty) (outpu
       -- where all rules go if none of them drops the scan
       onward : List OnDuty
       onward = map (movedBy mark tables (getD scans i 0)) at
-
-      stand-next : (b : Bool) → standing n rules (cond b equations moves) ≡ cond b at onward
-      stand-next true = h .stand
-      stand-next false = em ∙ ap (map (movedBy mark tables (getD scans i 0))) (h .stand)
 
 -- ---- how many they are
 

@@ -248,11 +248,11 @@ pub fn run_on_duty(
     let end = follow_all(tables, rules, count, scans, output, verdicts);
     let rules = end.rules;
     let kept = end.kept;
-    let dropped = scans.len() - kept;
+    let lost = scans.len() - kept;
     DutyRan {
         checked,
         duty: Duty { rules, count },
         kept,
-        dropped,
+        dropped: lost,
     }
 }

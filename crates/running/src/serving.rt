@@ -16,8 +16,8 @@ ghost use Rattle.reading.specs.Numbered.{padded};
 ghost use Rattle.synthesis.specs.Monitor.{mark, most, rowOf};
 ghost use Rattle.running.specs.Lists.{all};
 ghost use Rattle.running.specs.Running.{runBy, overlay};
-ghost use Rattle.running.specs.Duty.{vacant, inPlaces, someDrops, movedBy, together, fitsAt};
-ghost use Rattle.running.specs.Places.{standing};
+ghost use Rattle.running.specs.Duty.{vacant, inPlaces, movedTo, someDrops, movedBy, together, fitsAt};
+ghost use Rattle.running.specs.Places.{inPlace, standing};
 
 // Whether a rule's table is well formed, and its equation one of the table's.
 pub(crate) fn fits_at(tables: &[u8], rule: OnDuty) -> bool
@@ -96,41 +96,63 @@ fn placed(rules: [OnDuty; 4], equations: [usize; 4], n: usize) -> [OnDuty; 4]
     places
 }
 
-// What a scan does: whether a rule would drop it, and the equations to which it leads if none does.
+// What a scan does in one place: whether its rule would drop the scan, and the equation to which it leads the rule.
+struct LookedInPlace {
+    drops: bool,
+    equation: usize,
+}
+
+// Looks the scan up in the table of the rule in a place. Where no rule has the place, none drops the scan.
+fn look_in_place(
+    tables: &[u8],
+    taken: bool,
+    rule: OnDuty,
+    equation: usize,
+    code: u8,
+) -> LookedInPlace
+    ensures { λ r. ⌜ r .drops ≡ someDrops mark (now (tables .entry)) (inPlace taken (movedTo rule equation)) code ⌝ }
+    ensures { λ r. ⌜ inPlace taken (movedTo rule (r .equation))
+        ≡ map (movedBy mark (now (tables .entry)) code) (inPlace taken (movedTo rule equation)) ⌝ }
+{
+    if !taken {
+        return LookedInPlace {
+            drops: false,
+            equation,
+        };
+    }
+    let entry = own_entry(tables, rule.base, equation, code);
+    let drops = entry == DROPPED as usize;
+    let equation = either(drops, equation, entry);
+    LookedInPlace { drops, equation }
+}
+
+// What a scan does: whether a rule would drop it, and the equations in which it leaves the rules.
 struct Looked {
     drops: bool,
     equations: [usize; 4],
 }
 
-// Looks the scan up in the table of each of the first n rules.
+// Looks the scan up in the table of each of the first n rules. There is no loop over the places, so that the equations need not stand in memory.
 fn look(tables: &[u8], rules: [OnDuty; 4], equations: [usize; 4], n: usize, code: u8) -> Looked
     requires { ⌜ n ≤ 4 ⌝ }
     ensures { λ r. ⌜ r .drops ≡ someDrops mark (now (tables .entry)) (standing n rules equations) code ⌝ }
-    ensures { λ r. ⌜ standing n rules (r .equations) ≡ map (movedBy mark (now (tables .entry)) code) (standing n rules equations) ⌝ }
+    ensures { λ r. ⌜ standing n rules (r .equations)
+        ≡ cond (r .drops) (standing n rules equations) (map (movedBy mark (now (tables .entry)) code) (standing n rules equations)) ⌝ }
 {
-    let mut next = [0; 4];
-    let mut drops = false;
-    let mut i = 0;
-    while i < n {
-        let rule = rules[i];
-        let equation = equations[i];
-        let entry = own_entry(tables, rule.base, equation, code);
-        let is_dropped = entry == DROPPED as usize;
-        drops = drops | is_dropped;
-        next[i] = either(is_dropped, equation, entry);
-        i += 1;
-    }
+    let a = look_in_place(tables, 0 < n, rules[0], equations[0], code);
+    let b = look_in_place(tables, 1 < n, rules[1], equations[1], code);
+    let c = look_in_place(tables, 2 < n, rules[2], equations[2], code);
+    let d = look_in_place(tables, 3 < n, rules[3], equations[3], code);
+    let drops = a.drops | b.drops | c.drops | d.drops;
     Looked {
         drops,
-        equations: next,
+        equations: [
+            either(drops, equations[0], a.equation),
+            either(drops, equations[1], b.equation),
+            either(drops, equations[2], c.equation),
+            either(drops, equations[3], d.equation),
+        ],
     }
-}
-
-// One of two lists of equations.
-fn either_equations(first: bool, a: [usize; 4], b: [usize; 4]) -> [usize; 4]
-    ensures { λ r. ⌜ r ≡ cond first a b ⌝ }
-{
-    if first { a } else { b }
 }
 
 // Where the loop ends: the places of the rules, and how many scans were kept.
@@ -167,8 +189,7 @@ pub(crate) fn follow_all(
         let before = output[kept];
         output[kept] = either_byte(is_dropped, before, code);
         kept += either(is_dropped, 0, 1);
-        let moved = looked.equations;
-        let next = either_equations(is_dropped, equations, moved);
+        let next = looked.equations;
         equations = next;
         i += 1;
     }

@@ -41,8 +41,8 @@ follow-all-requires c κs =
     let f = fit (c .before .before .before) in
     (f .few, f .output-room, f .verdicts-room)
 
-sub-dropped : tie.Need-sub-dropped
-sub-dropped c =
+sub-lost : tie.Need-sub-lost
+sub-lost c =
     let f = c .before .before .before .before .before in
     let x = f .before .before .before .before .before .before .before .before .before .before .before .args in
     kept-few (together mark (x .tables .now)) (onDuty (x .duty)) (x .scans .now) (f .follow-all .ensures .1 .0)
@@ -76,7 +76,7 @@ run-on-duty-spec =
     enum-told-2
     returns
     follow-all-requires
-    sub-dropped
+    sub-lost
     same-length
     same-length-2
     returns-2)

@@ -52,9 +52,6 @@ either-requires c κs = search needs
 add-kept : tie.Need-add-kept Inv-loop μ-loop
 add-kept c = omega (arith, at-most-one (c .before .before .before .before .look .result .drops))
 
-either-equations-requires : tie.Need-either-equations-requires Inv-loop μ-loop
-either-equations-requires c κs = search needs
-
 add-i : tie.Need-add-i Inv-loop μ-loop
 add-i c = search needs
 
@@ -63,15 +60,15 @@ loop-less c = search needs
 
 loop-again : tie.Need-loop-again Inv-loop μ-loop
 loop-again c =
-    let count = c .before .before in
+    let count = c .before in
     let out = count .before in
     let verdict = out .before .before in
     let looked = verdict .before in
     let l = looked .before .before .before in
     let start = l .before .before .before .before .before .before in
     after-next mark _ _ _ _ _ _ _ _ _ _ _ (l .loop .inv) (looked .before .before .loop-test .taken) (start .pre .1) (start .pre .2)
-    (looked .look .result .drops) (looked .look .result .equations) (looked .look .ensures .0) (looked .look .ensures .1)
-    (out .either-byte2 .ensures) (verdict .either-byte .ensures) (count .either .ensures) (c .either-equations .ensures)
+    (looked .look .result .drops) (looked .look .ensures .0) (looked .look .ensures .1)
+    (out .either-byte2 .ensures) (verdict .either-byte .ensures) (count .either .ensures)
 
 placed-requires : tie.Need-placed-requires Inv-loop μ-loop
 placed-requires c κs = search needs
@@ -109,7 +106,6 @@ follow-all-spec =
     slice-write-output
     either-requires
     add-kept
-    either-equations-requires
     add-i
     loop-less
     loop-again

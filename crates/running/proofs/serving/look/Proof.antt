@@ -1,119 +1,115 @@
--- `serving::look` meets its contract. `drops` is the answer for the rules so far, and with the equations so far these stand where the scan leads them; the
--- measure is how many are left.
-use Prim.Native.Nat.{_-_, _≤_}
-use mathlib.Core.Path.{_≡_}
-use mathlib.Core.List.{[], _∷_, map, map-append}
-use native.Mathlib.Omega.{arith}
+-- `serving::look` meets its contract, from what the scan does in each of the four places.
+use mathlib.Core.Bool.{_||_}
 use borrow.Author.Needs.{needs}
-use lib.ListN.{length, getD, length-set}
 use Rattle.synthesis.specs.Monitor.{mark}
-use Rattle.running.specs.Lists.{any}
-use Rattle.running.specs.Duty.{vacant, movedTo, movedBy, wouldDrop, someDrops}
-use Rattle.running.specs.Places.{standing}
-use Rattle.running.proofs.ListTests.{any-last}
-use Rattle.running.proofs.PlaceLaws.{standing-more, standing-next}
-use Rattle.running.proofs.Entries.{entry-drops, entry-moves}
+use Rattle.running.specs.Duty.{movedBy, wouldDrop}
+use Rattle.running.proofs.PlaceLaws.{four-any, four-chosen}
 use Rattle.running.proofs.serving.look.Statement.{statement}
 use Rattle.running.proofs.serving.look.Tie as tie
 
-abbrev Inv-loop : tie.InvT-loop
-Inv-loop tables n code rules equations next₀ drops₀ i₀ next drops i =
-    (i ≤ n)
-    × (n ≤ 4)
-    × (length next ≡ 4)
-    × (drops ≡ someDrops mark tables (standing i rules equations) code)
-    × (standing i rules next ≡ map (movedBy mark tables code) (standing i rules equations))
+array-copy-out-look-in-place : tie.Need-array-copy-out-look-in-place
+array-copy-out-look-in-place c = search needs
 
-abbrev μ-loop : tie.MeasureT-loop
-μ-loop tables n code rules equations next₀ drops₀ i₀ next drops i = n - i
+array-read-look-in-place : tie.Need-array-read-look-in-place
+array-read-look-in-place c = search needs
 
-loop-holds : tie.Need-loop-holds Inv-loop μ-loop
-unfolding standing any
-loop-holds c = search needs
+look-in-place-requires : tie.Need-look-in-place-requires
+look-in-place-requires c κs = search needs
 
-mul-rule : tie.Need-mul-rule Inv-loop μ-loop
-mul-rule c = search needs
+array-copy-out-look-in-place-2 : tie.Need-array-copy-out-look-in-place-2
+array-copy-out-look-in-place-2 c = search needs
 
-array-copy-out-rule : tie.Need-array-copy-out-rule Inv-loop μ-loop
-array-copy-out-rule c = search needs
+array-read-look-in-place-2 : tie.Need-array-read-look-in-place-2
+array-read-look-in-place-2 c = search needs
 
-mul-equation : tie.Need-mul-equation Inv-loop μ-loop
-mul-equation c = search needs
+look-in-place-requires-2 : tie.Need-look-in-place-requires-2
+look-in-place-requires-2 c κs = search needs
 
-array-read-equation : tie.Need-array-read-equation Inv-loop μ-loop
-array-read-equation c = search needs
+array-copy-out-look-in-place-3 : tie.Need-array-copy-out-look-in-place-3
+array-copy-out-look-in-place-3 c = search needs
 
-own-entry-requires : tie.Need-own-entry-requires Inv-loop μ-loop
-own-entry-requires c κs = search needs
+array-read-look-in-place-3 : tie.Need-array-read-look-in-place-3
+array-read-look-in-place-3 c = search needs
 
-cast-is-dropped : tie.Need-cast-is-dropped Inv-loop μ-loop
-cast-is-dropped c = search needs
+look-in-place-requires-3 : tie.Need-look-in-place-requires-3
+look-in-place-requires-3 c κs = search needs
 
-either-requires : tie.Need-either-requires Inv-loop μ-loop
+array-copy-out-look-in-place-4 : tie.Need-array-copy-out-look-in-place-4
+array-copy-out-look-in-place-4 c = search needs
+
+array-read-look-in-place-4 : tie.Need-array-read-look-in-place-4
+array-read-look-in-place-4 c = search needs
+
+look-in-place-requires-4 : tie.Need-look-in-place-requires-4
+look-in-place-requires-4 c κs = search needs
+
+array-read-either : tie.Need-array-read-either
+array-read-either c = search needs
+
+either-requires : tie.Need-either-requires
 either-requires c κs = search needs
 
-mul-next : tie.Need-mul-next Inv-loop μ-loop
-mul-next c = search needs
+array-read-either-2 : tie.Need-array-read-either-2
+array-read-either-2 c = search needs
 
-array-write-next : tie.Need-array-write-next Inv-loop μ-loop
-array-write-next c = search needs
+either-requires-2 : tie.Need-either-requires-2
+either-requires-2 c κs = search needs
 
-add-i : tie.Need-add-i Inv-loop μ-loop
-add-i c = search needs
+array-read-either-3 : tie.Need-array-read-either-3
+array-read-either-3 c = search needs
 
-loop-less : tie.Need-loop-less Inv-loop μ-loop
-loop-less c = search needs
+either-requires-3 : tie.Need-either-requires-3
+either-requires-3 c κs = search needs
 
-loop-again : tie.Need-loop-again Inv-loop μ-loop
-loop-again c =
-    let l = c .before .before .before .before in
-    let x = l .before .before .args in
-    let i = l .loop .i in
-    let d = movedTo (getD (x .t2) i vacant) (getD (x .t3) i 0) in
-    let e = c .before .own-entry .result in
-    let is = c .before .own-entry .ensures .0 in (
-      search needs,
-      search needs,
-      simp length-set (l .loop .inv .2),
-      rw (
-        standing-more i (x .t2) (x .t3),
-        any-last (wouldDrop mark (x .tables .now) (x .code)),
-        entry-drops mark (x .tables .now) d (x .code) e is,
-        l .loop .inv .3,
-      ),
-      rw (
-        standing-next i (x .t2) (l .loop .next) (c .either .result) (omega arith),
-        standing-more i (x .t2) (x .t3),
-        map-append (movedBy mark (x .tables .now) (x .code)) (standing i (x .t2) (x .t3)) (d ∷ []),
-        entry-moves mark (x .tables .now) d (x .code) e is,
-        c .either .ensures,
-        l .loop .inv .4,
-      ),
-    )
+array-read-either-4 : tie.Need-array-read-either-4
+array-read-either-4 c = search needs
 
-returns : tie.Need-returns Inv-loop μ-loop
+either-requires-4 : tie.Need-either-requires-4
+either-requires-4 c κs = search needs
+
+returns : tie.Need-returns
 returns c =
-    let l = c .before in
-    let e : l .loop .i ≡ l .before .before .args .n = omega arith in
-    rw (← e) (l .loop .inv .3, l .loop .inv .4)
+    let at3 = c .before .before .before .before .before .before .before .before in
+    let at2 = at3 .before .before in
+    let at1 = at2 .before .before in
+    let at0 = at1 .before .before in
+    let start = at0 .before .before .before in
+    let x = start .args in
+    let l0 = at0 .look-in-place in
+    let l1 = at1 .look-in-place2 in
+    let l2 = at2 .look-in-place3 in
+    let l3 = at3 .look-in-place4 in (
+      four-any (x .n) (start .pre) (x .t2) (x .t3) (wouldDrop mark (x .tables .now) (x .code)) (l0 .ensures .0) (l1 .ensures .0) (l2 .ensures .0)
+          (l3 .ensures .0),
+      four-chosen (x .n) (start .pre) (x .t2) (x .t3) (movedBy mark (x .tables .now) (x .code))
+          (((l0 .result .drops || l1 .result .drops) || l2 .result .drops) || l3 .result .drops)
+          (l0 .result .equation) (l1 .result .equation) (l2 .result .equation) (l3 .result .equation)
+          (l0 .ensures .1) (l1 .ensures .1) (l2 .ensures .1) (l3 .ensures .1)
+          (c .before .before .before .either .ensures) (c .before .before .either2 .ensures) (c .before .either3 .ensures) (c .either4 .ensures),
+    )
 
 pub look-spec : {M : Type 1} → statement M
 look-spec =
     tie.close
     (tie.spec
-    Inv-loop
-    μ-loop
-    loop-holds
-    mul-rule
-    array-copy-out-rule
-    mul-equation
-    array-read-equation
-    own-entry-requires
-    cast-is-dropped
+    array-copy-out-look-in-place
+    array-read-look-in-place
+    look-in-place-requires
+    array-copy-out-look-in-place-2
+    array-read-look-in-place-2
+    look-in-place-requires-2
+    array-copy-out-look-in-place-3
+    array-read-look-in-place-3
+    look-in-place-requires-3
+    array-copy-out-look-in-place-4
+    array-read-look-in-place-4
+    look-in-place-requires-4
+    array-read-either
     either-requires
-    mul-next
-    array-write-next
-    add-i
-    loop-less
-    loop-again
+    array-read-either-2
+    either-requires-2
+    array-read-either-3
+    either-requires-3
+    array-read-either-4
+    either-requires-4
     returns)
