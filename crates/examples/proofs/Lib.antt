@@ -30,4 +30,5 @@ pub mod PreviewExamples
 pub mod EmptyCounts
 pub mod EmptyExamples
 pub mod DutyExamples
+pub mod DutyJoinExamples
 pub mod Promises

@@ -16,6 +16,7 @@ use Rattle.examples.proofs.FamilyExamples.{family-examples}
 use Rattle.examples.proofs.PreviewExamples.{preview-examples}
 use Rattle.examples.proofs.EmptyExamples.{empty-examples}
 use Rattle.examples.proofs.DutyExamples.{duty-examples}
+use Rattle.examples.proofs.DutyJoinExamples.{duty-join-examples}
 
 pub promises : Promises
 promises = record {
@@ -35,4 +36,5 @@ promises = record {
   preview-examples = preview-examples;
   empty-examples = empty-examples;
   duty-examples = duty-examples;
+  duty-join-examples = duty-join-examples;
 }

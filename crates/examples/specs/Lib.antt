@@ -15,4 +15,5 @@ pub mod FamilyExamples
 pub mod PreviewExamples
 pub mod EmptyExamples
 pub mod DutyExamples
+pub mod DutyJoinExamples
 pub mod Promises

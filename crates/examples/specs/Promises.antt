@@ -18,6 +18,7 @@ use Rattle.examples.specs.FamilyExamples.{FamilyExamples}
 use Rattle.examples.specs.PreviewExamples.{PreviewExamples}
 use Rattle.examples.specs.EmptyExamples.{EmptyExamples}
 use Rattle.examples.specs.DutyExamples.{DutyExamples}
+use Rattle.examples.specs.DutyJoinExamples.{DutyJoinExamples}
 
 pub record Promises : Type 1 where
   pub paper-examples : PaperExamples
@@ -36,3 +37,4 @@ pub record Promises : Type 1 where
   pub preview-examples : PreviewExamples
   pub empty-examples : EmptyExamples
   pub duty-examples : DutyExamples
+  pub duty-join-examples : DutyJoinExamples
