@@ -5,7 +5,7 @@ use mathlib.Core.Logic.{inl}
 use mathlib.Core.Bool.{false}
 use mathlib.Core.List.{List, [], _∷_}
 use native.Mathlib.Omega.{arith}
-use lib.ListN.{length, take, replicate, drop}
+use lib.ListN.{length, replicate, drop}
 use Rattle.reading.specs.Pattern.{bit, covers}
 use Rattle.reading.specs.Rule.{Rule, Bytes}
 use Rattle.reading.specs.File.{accepted, recordsAt, formulaAt, formulaOf, ruleOf}
@@ -15,7 +15,7 @@ use Rattle.synthesis.specs.Search.{explored, found}
 use Rattle.synthesis.specs.Table.{entriesOf, rows, filled}
 use Rattle.synthesis.specs.Building.{equationsOf, synthesisOf, fillingOf, tableLeft, Fills}
 use Rattle.running.specs.Lists.{any, all, filter}
-use Rattle.running.specs.Running.{entriesInRange, isWellFormed, fits}
+use Rattle.running.specs.Running.{isWellFormed, fits}
 use Rattle.running.specs.Duty.{inPlaces, areDistinct, comingOf, goingOf, dutyRunOf}
 use Rattle.running.specs.SpellPromises.{FilledInPlace, OrderlyDay}
 use Rattle.running.proofs.FilledInPlace.{fills-for-duty}
@@ -89,7 +89,7 @@ pub orderly-comings : OrderlyDay most mark comings
 orderly-comings = (inl hold-monitors, (inl race-monitors, tt))
 
 orderly-day : OrderlyDay most mark day
-unfolding rowOf any all filter entriesInRange isWellFormed fits inPlaces areDistinct comingOf goingOf dutyRunOf
+unfolding rowOf any all filter isWellFormed fits inPlaces areDistinct comingOf goingOf dutyRunOf
 orderly-day = (
   inl hold-monitors,
   (
@@ -102,7 +102,7 @@ orderly-day = (
 )
 
 duty-day : DutyDay
-unfolding rowOf any all filter entriesInRange isWellFormed fits inPlaces areDistinct comingOf goingOf dutyRunOf
+unfolding rowOf any all filter isWellFormed fits inPlaces areDistinct comingOf goingOf dutyRunOf
 duty-day = record {
   hold-filled = hold-filled;
   race-filled = race-filled;
@@ -121,7 +121,7 @@ duty-day = record {
 -- ---- refusals
 
 duty-refusals : DutyRefusals
-unfolding rowOf any all filter entriesInRange isWellFormed fits inPlaces areDistinct comingOf goingOf dutyRunOf
+unfolding rowOf any all filter isWellFormed fits inPlaces areDistinct comingOf goingOf dutyRunOf
 duty-refusals = record {
   fourth = refl;
   fifth = refl;

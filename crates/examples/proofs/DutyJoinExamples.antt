@@ -1,11 +1,11 @@
 -- The join of rules on duty: what is filled, run and kept is computed, and each call of the longer day is orderly or refused.
 use mathlib.Core.Path.{_≡_, refl}
 use mathlib.Core.Logic.{inl, inr}
-use mathlib.Core.List.{List, [], _∷_}
+use mathlib.Core.List.{[], _∷_}
 use native.Mathlib.Omega.{arith}
 use lib.ListN.{replicate}
 use Rattle.reading.specs.Pattern.{bit, covers}
-use Rattle.reading.specs.Rule.{Bytes, encode}
+use Rattle.reading.specs.Rule.{encode}
 use Rattle.reading.specs.File.{refused, recordsAt, formulaAt, formulaOf, ruleOf}
 use Rattle.synthesis.specs.Monitor.{mark, most, rowOf}
 use Rattle.synthesis.specs.Answering.{firstOf, answerOf, unsatisfiable}
@@ -14,12 +14,12 @@ use Rattle.synthesis.specs.Table.{entriesOf, rows, filled}
 use Rattle.synthesis.specs.Building.{equationsOf, synthesisOf, fillingOf, tableLeft, Fills}
 use Rattle.synthesis.specs.Joined.{joined}
 use Rattle.running.specs.Lists.{any, all, filter}
-use Rattle.running.specs.Running.{entriesInRange, isWellFormed, fits, runOf}
+use Rattle.running.specs.Running.{isWellFormed, fits, runOf}
 use Rattle.running.specs.Duty.{inPlaces, areDistinct, comingOf, goingOf, dutyRunOf}
 use Rattle.running.specs.SpellPromises.{OrderlyDay, JoinDay}
 use Rattle.examples.specs.FamilyExamples.{chain, chainRule}
-use Rattle.examples.specs.DutyExamples.{holdRule, raceRule, noteRule, comings, morning, runOver}
-use Rattle.examples.specs.DutyJoinExamples.{bothFile, DutyJoin, earlier, later, LongDay, Needed, DutyJoinExamples}
+use Rattle.examples.specs.DutyExamples.{holdRule, raceRule, comings, morning, runOver}
+use Rattle.examples.specs.DutyJoinExamples.{bothFile, DutyJoin, earlier, LongDay, Needed, DutyJoinExamples}
 use Rattle.examples.proofs.FamilyExamples.{family-examples}
 use Rattle.examples.proofs.DutyExamples.{fills, hold-in-place, race-in-place, note-in-place, hold-monitors, race-monitors, note-monitors}
 use Rattle.examples.proofs.DutyExamples.{morning-bytes, orderly-comings}
@@ -31,7 +31,7 @@ unfolding recordsAt formulaAt formulaOf ruleOf firstOf answerOf unsatisfiable ex
 both-fills = fills bothFile (joined holdRule (raceRule ∷ [])) refl refl (search arith) 4 refl (omega arith) (replicate 1024 0) (omega arith)
 
 join-day : JoinDay most mark comings (runOver morning ∷ []) holdRule (raceRule ∷ [])
-unfolding rowOf any all filter entriesInRange isWellFormed fits inPlaces areDistinct comingOf goingOf dutyRunOf
+unfolding rowOf any all filter isWellFormed fits inPlaces areDistinct comingOf goingOf dutyRunOf
 join-day = record {
   orderly = orderly-comings;
   none-kept = (refl, (refl, tt));
@@ -41,13 +41,13 @@ join-day = record {
 }
 
 duty-join : DutyJoin
-unfolding recordsAt formulaAt formulaOf ruleOf firstOf answerOf unsatisfiable explored found entriesOf rows filled equationsOf synthesisOf fillingOf bit covers rowOf entriesInRange isWellFormed fits runOf
+unfolding recordsAt formulaAt formulaOf ruleOf firstOf answerOf unsatisfiable explored found entriesOf rows filled equationsOf synthesisOf fillingOf bit covers rowOf all isWellFormed fits runOf
 duty-join = record { join = both-fills; one-run = refl; join-day = join-day }
 
 -- ---- a longer day
 
 orderly-earlier : OrderlyDay most mark earlier
-unfolding rowOf any all filter entriesInRange isWellFormed fits inPlaces areDistinct comingOf goingOf dutyRunOf
+unfolding rowOf any all filter isWellFormed fits inPlaces areDistinct comingOf goingOf dutyRunOf
 orderly-earlier = (
   inl hold-monitors,
   (
@@ -66,7 +66,7 @@ orderly-earlier = (
 )
 
 long-day : LongDay
-unfolding rowOf any all filter entriesInRange isWellFormed fits inPlaces areDistinct comingOf goingOf dutyRunOf
+unfolding rowOf any all filter isWellFormed fits inPlaces areDistinct comingOf goingOf dutyRunOf
 long-day = record {
   judged = refl;
   on-duty = refl;
@@ -92,7 +92,7 @@ unfolding recordsAt formulaAt formulaOf ruleOf chain
 join-refused = refl
 
 needed : Needed
-unfolding recordsAt formulaAt formulaOf ruleOf firstOf answerOf unsatisfiable explored found entriesOf rows filled equationsOf synthesisOf fillingOf bit covers rowOf any all filter entriesInRange isWellFormed fits inPlaces areDistinct comingOf goingOf dutyRunOf
+unfolding recordsAt formulaAt formulaOf ruleOf firstOf answerOf unsatisfiable explored found entriesOf rows filled equationsOf synthesisOf fillingOf bit covers rowOf any all filter isWellFormed fits inPlaces areDistinct comingOf goingOf dutyRunOf
 needed = record {
   kept-between = refl;
   kept-by-join = refl;

@@ -1,4 +1,6 @@
--- The theory: a run's verdicts and counts, its three ways, tables, calls one after the other, and the promises.
+-- Lists and tests on them.
+pub mod ListTests
+-- The theory of a run: verdicts and counts, its three ways, tables, calls one after the other.
 pub mod WithVerdicts
 pub mod Counting
 pub mod RunCases
@@ -12,12 +14,18 @@ pub mod BuiltTables
 pub mod DemandTwo
 pub mod SiftingAlike
 pub mod Reasons
+-- Rules on duty, call by call: comings, goings, and one monitor of all rules.
+pub mod PlaceLaws
 pub mod DutyCases
 pub mod TogetherLaws
 pub mod SoundStates
 pub mod ComingAndGoing
 pub mod TogetherRuns
 pub mod DutyRuns
+pub mod OneOnDuty
+pub mod DutyCalls
+pub mod DutyMonitors
+-- Rules on duty over a day: each rule beside its spell, event after event, and the join.
 pub mod Alongside
 pub mod Standing
 pub mod DutyDrops
@@ -27,20 +35,15 @@ pub mod SpellDays
 pub mod SiftedMore
 pub mod JoinedDays
 pub mod FilledInPlace
-pub mod OneOnDuty
-pub mod DutyCalls
-pub mod DutyMonitors
 -- What the proofs of the functions use.
-pub mod ListTests
-pub mod PlaceLaws
 pub mod RosterLaws
-pub mod Ranges
 pub mod Overlays
 pub mod Entries
 pub mod Buffers
 pub mod Stepping
 pub mod ServingSteps
 pub mod Outcomes
+-- The promises.
 pub mod Promises
 pub mod DutyPromises
 pub mod SpellPromises

@@ -1,10 +1,10 @@
 -- The test of a table holds exactly where the table is well formed, since the bytes that it looks at are the entries of the rows. A run on a
 -- well-formed table never leaves its equations, and goes alike on every table with the same rows.
-use Prim.Native.Nat.{ℕ, zero, suc, _+_, _*_, _≤_, _<_}
+use Prim.Native.Nat.{ℕ, _+_, _*_, _≤_, _<_}
 use mathlib.Core.Path.{_≡_, refl, ap}
 use mathlib.Core.Logic.{_↔_, inl, inr}
 use mathlib.Core.Bool.{Bool, true, false, _&&_, and-eq-true-iff}
-use mathlib.Core.List.{List, [], _∷_}
+use mathlib.Core.List.{List}
 use native.Mathlib.Omega.{arith}
 use lib.Dec.{eqb, ltb, leb}
 use lib.ListN.{length, getD, take}
@@ -18,6 +18,7 @@ use Rattle.synthesis.proofs.Tables.WellFormedTables.{lookup-inside, same-row}
 use Rattle.synthesis.proofs.Monitors.Runs.{run-induction}
 use Rattle.running.specs.Running.{moved, answerIn, inRange, entriesInRange, isWellFormed, fits}
 use Rattle.running.specs.declared.State.{State}
+use Rattle.running.proofs.ListTests.{all-each}
 
 -- ---- the test of a table
 
@@ -35,21 +36,7 @@ module _ (mark count : ℕ) where
 
   -- a list is in range where each of its elements is
   all-in-range : (l : List ℕ) → (entriesInRange mark count l ≡ true) ↔ ((i : ℕ) → i < length l → InRange mark count (getD l i 0))
-  unfolding entriesInRange
-  all-in-range [] = (λ e i h. absurd (omega arith), λ h. refl)
-  all-in-range (x ∷ l) = (
-    λ e. entries-in-range-at (both-tests .0 e) (all-in-range l .0),
-    λ h. both-tests .1 (in-range x .1 (h 0 (omega arith)), all-in-range l .1 (λ i b. h (suc i) (omega arith))),
-  )
-    where
-      both-tests : ((inRange mark count x && entriesInRange mark count l) ≡ true) ↔ ((inRange mark count x ≡ true) × (entriesInRange mark count l ≡ true))
-      both-tests = and-eq-true-iff (inRange mark count x) (entriesInRange mark count l)
-
-      entries-in-range-at : (inRange mark count x ≡ true) × (entriesInRange mark count l ≡ true)
-          → (entriesInRange mark count l ≡ true → (i : ℕ) → i < length l → InRange mark count (getD l i 0))
-          → (i : ℕ) → i < length (x ∷ l) → InRange mark count (getD (x ∷ l) i 0)
-      entries-in-range-at e rest zero h = in-range x .0 (e .0)
-      entries-in-range-at e rest (suc i) h = rest (e .1) i (omega arith)
+  all-in-range l = all-each (inRange mark count) (InRange mark count) in-range 0 l
 
 module _ (limit mark : ℕ) (table : List ℕ) (count : ℕ) where
   -- what is left of the test after each of its parts

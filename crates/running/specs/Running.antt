@@ -1,12 +1,13 @@
 -- A run over scans, on any table: when it is refused, and else what it keeps, judges and leaves. The limit on equations and the mark for
 -- dropped are any; the paper's are `most` and `mark`.
 use Prim.Native.Nat.{ℕ, suc, _*_}
-use mathlib.Core.Bool.{Bool, true, not, cond, _&&_, _||_}
+use mathlib.Core.Bool.{Bool, not, cond, _&&_, _||_}
 use mathlib.Core.List.{List, [], _∷_, _++_}
 use lib.Dec.{eqb, ltb, leb}
 use lib.ListN.{length, take, drop}
 use Rattle.reading.specs.File.{Outcome, accepted, refused, refuse}
 use Rattle.synthesis.specs.Monitor.{Answer, dropped, next, cases, kept, verdicts, ended, lookup}
+use Rattle.running.specs.Lists.{all}
 use Rattle.running.specs.declared.State.{State}
 use Rattle.running.specs.declared.Checked.{Checked}
 use Rattle.running.specs.declared.Checked.the-variants.{Fit, Refused}
@@ -33,9 +34,8 @@ abbrev pub inRange : (mark count : ℕ) → ℕ → Bool
 inRange mark count x = eqb x mark || ltb x count
 
 -- all entries of a list are
-unfoldable pub entriesInRange : (mark count : ℕ) → List ℕ → Bool
-entriesInRange mark count [] = true
-entriesInRange mark count (x ∷ xs) = inRange mark count x && entriesInRange mark count xs
+abbrev pub entriesInRange : (mark count : ℕ) → List ℕ → Bool
+entriesInRange mark count entries = all (inRange mark count) entries
 
 -- The test of a table for a count of equations: there are from 1 to `limit` of them, the table has their rows, and each entry is in range. It
 -- holds exactly of well-formed tables.

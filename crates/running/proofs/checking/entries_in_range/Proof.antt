@@ -7,8 +7,9 @@ use borrow.Author.Needs.{needs}
 use lib.ListN.{length, take}
 use lib.Seq.{take-suc, take-all}
 use Rattle.synthesis.specs.Monitor.{mark}
+use Rattle.running.specs.Lists.{all}
 use Rattle.running.specs.Running.{entriesInRange}
-use Rattle.running.proofs.Ranges.{in-range-last}
+use Rattle.running.proofs.ListTests.{all-last}
 use Rattle.running.proofs.checking.entries_in_range.Statement.{statement}
 use Rattle.running.proofs.checking.entries_in_range.Tie as tie
 
@@ -19,7 +20,7 @@ abbrev μ-loop : tie.MeasureT-loop
 μ-loop entries count all₀ i₀ all i = length entries - i
 
 loop-holds : tie.Need-loop-holds Inv-loop μ-loop
-unfolding entriesInRange
+unfolding all
 loop-holds c = search needs
 
 shared-slice-read-in-range : tie.Need-shared-slice-read-in-range Inv-loop μ-loop
@@ -39,7 +40,7 @@ loop-again c =
     let l = c .before .before .before .loop in
     let x = c .before .before .before .before .before .args in (
       search needs,
-      rw (add-one (l .i), take-suc (x .entries .now) (l .i) 0 (omega arith), in-range-last, c .in-range .ensures, l .inv .1),
+      rw (add-one (l .i), take-suc (x .entries .now) (l .i) 0 (omega arith), all-last, c .in-range .ensures, l .inv .1),
     )
 
 returns : tie.Need-returns Inv-loop μ-loop
