@@ -17,17 +17,24 @@ struct duty {
    the kept scans. */
 typedef size_t duty_loop(struct duty *duty, const uint8_t *scans, size_t n, uint8_t *output, uint8_t *verdicts);
 
+/* The entry of each rule for a code, and whether one of them is dropped. */
+static inline uint8_t look_up(const struct duty *d, uint8_t code, uint8_t *entries)
+{
+    uint8_t dropped = 0;
+    for (size_t k = 0; k < d->count; k++) {
+        entries[k] = d->tables[k][CODES * d->equations[k] + code];
+        dropped |= entries[k] == DROPPED;
+    }
+    return dropped;
+}
+
 /* A jump on whether a rule drops the scan. */
 static size_t jump(struct duty *duty, const uint8_t *restrict scans, size_t n, uint8_t *restrict output, uint8_t *restrict verdicts)
 {
     struct duty d = *duty;
     size_t kept = 0;
     for (size_t i = 0; i < n; i++) {
-        uint8_t code = scans[i], entries[MOST_RULES], dropped = 0;
-        for (size_t k = 0; k < d.count; k++) {
-            entries[k] = d.tables[k][CODES * d.equations[k] + code];
-            dropped |= entries[k] == DROPPED;
-        }
+        uint8_t code = scans[i], entries[MOST_RULES], dropped = look_up(&d, code, entries);
         verdicts[i] = dropped;
         if (!dropped) {
             output[kept++] = code;
@@ -46,11 +53,7 @@ static size_t choice(struct duty *duty, const uint8_t *restrict scans, size_t n,
     struct duty d = *duty;
     size_t kept = 0;
     for (size_t i = 0; i < n; i++) {
-        uint8_t code = scans[i], entries[MOST_RULES], dropped = 0;
-        for (size_t k = 0; k < d.count; k++) {
-            entries[k] = d.tables[k][CODES * d.equations[k] + code];
-            dropped |= entries[k] == DROPPED;
-        }
+        uint8_t code = scans[i], entries[MOST_RULES], dropped = look_up(&d, code, entries);
         verdicts[i] = dropped;
         output[kept] = code;
         kept += !dropped;
