@@ -173,7 +173,7 @@ pub record DemandTwoPreview : Type 1 where
 
 -- The same of rules on duty, after any orderly calls. A scan is dropped exactly when for some of them the scans kept since it came on, followed by it,
 -- violate it. No run that lends the rows with which they came on is refused with 16. What is kept in a spell doesn't violate its rule. And rules between
--- whose comings no scan was kept filter as the rule does that joins them.
+-- whose comings no scan was kept filter as the rule does that joins them, until one comes on or goes off.
 pub record DemandTwoDuty : Type 0 where
   pub drops : DutyDropsExactly most mark
   pub never-unfit : OnDutyNeverUnfit most mark

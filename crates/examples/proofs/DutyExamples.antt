@@ -104,6 +104,7 @@ orderly-day = (
 duty-day : DutyDay
 unfolding rowOf any all filter isWellFormed fits inPlaces areDistinct comingOf goingOf dutyRunOf
 duty-day = record {
+  nobody-yet = refl;
   hold-filled = hold-filled;
   race-filled = race-filled;
   note-filled = note-filled;

@@ -11,7 +11,7 @@ use lib.ListN.{length, replicate}
 use Rattle.reading.specs.Rule.{falsity, both, necessity, max, variable, Rule}
 use Rattle.synthesis.specs.Monitor.{mark, most}
 use Rattle.synthesis.specs.Building.{tableLeft}
-use Rattle.running.specs.Duty.{dutyOf, atStart, movedTo}
+use Rattle.running.specs.Duty.{dutyOf, nobody, atStart, movedTo}
 use Rattle.running.specs.Spells.{Event, runs, comes, goes, Desk, newDesk, after, answered}
 use Rattle.running.specs.SpellPromises.{OrderlyDay}
 use Rattle.running.specs.declared.OnDuty.{OnDuty}
@@ -101,6 +101,8 @@ abbrev pub race : (equation : ℕ) → OnDuty
 race e = movedTo (atStart 9 512 2) e
 
 pub record DutyDay : Type 0 where
+  -- the day begins with four places that no rule has
+  pub nobody-yet : nobody ≡ record { rules = replicate 4 (record { number = 0; base = 0; count = 0; equation = 0 }); count = 0 }
   -- the rows are those that filling leaves
   pub hold-filled : tableLeft most mark holdFile (replicate 512 0) ≡ holdRows
   pub race-filled : tableLeft most mark raceFile (replicate 512 0) ≡ raceRows

@@ -16,7 +16,8 @@ use Rattle.running.specs.Lists.{filter}
 use Rattle.running.specs.Running.{runBy}
 use Rattle.running.specs.Duty.{onDuty, dutyOf, together, fitsAt, atStart, without, changedOf, dutyRanOf}
 use Rattle.running.specs.Spells.{DutyCall, Coming, Event, runs, comes, goes, Spell, begun, longer, Desk}
-use Rattle.running.specs.Spells.{withDutyRun, withDuty, withComing, withGoing, withEvent, after, Each, answered}
+use Rattle.running.specs.Spells.{withDutyRun, withDuty, withComing, withGoing, withEvent, after, Each, answered, Quiet}
+use Rattle.running.specs.SpellPromises.{TellsRuns, MayHappen}
 use Rattle.running.specs.declared.Checked.{Checked}
 use Rattle.running.specs.declared.Checked.the-variants.{Fit, Refused}
 use Rattle.running.proofs.DutyCases.{coming-cases, going-cases, duty-run-cases}
@@ -68,6 +69,14 @@ run-fit mark desk call =
       take-at v (drop (length v) (call .verdicts)) (length (call .scans)) (verdicts-length T ds (call .scans)),
     )
 
+-- a run that isn't refused
+pub tells-runs : TellsRuns
+tells-runs limit mark desk call =
+    duty-run-cases limit mark (call .tables) (desk .duty) (call .scans) (length (call .output)) (length (call .verdicts))
+    (λ o. dutyRanOf (desk .duty) o .checked ≡ Fit → withDutyRun desk call o ≡ ranOn mark desk call)
+    (λ r e. let z : _≡_ {A = ℕ} 0 1 = cc in absurd (omega arith)) (λ r s e. let z : _≡_ {A = ℕ} 0 1 = cc in absurd (omega arith))
+    (λ r s t e. let z : _≡_ {A = ℕ} 0 1 = cc in absurd (omega arith)) (λ r s t e. run-fit mark desk call)
+
 coming-refused : (desk : Desk) (x : Coming) (number place : ℕ) → withComing desk x (refused number place) ≡ desk
 coming-refused desk x number place = rw (append-nil (desk .spells))
 
@@ -114,3 +123,19 @@ module _ {limit mark : ℕ} {May : Desk → Event → Type 0} {P : Desk → Type
 pub fit-not-refused : {A : Type 0} {checked : Checked} → checked ≡ Fit → A ⊎ ((number place : ℕ) × (checked ≡ Refused number place)) → A
 fit-not-refused fit (inl a) = a
 fit-not-refused fit (inr (number, place, refusal)) = let z : _≡_ {A = ℕ} 0 1 = cc in absurd (omega arith)
+
+-- ---- what may happen
+
+pub may-happen : (limit mark : ℕ) (desk : Desk) → MayHappen limit mark desk
+may-happen limit mark desk = record {
+  run = λ call bytes rows. inl (bytes, rows);
+  coming = λ x monitors. inl monitors;
+  going = λ number. inl tt;
+  refused = λ e number place refusal. (inr (number, place, refusal), still e number place refusal);
+  quiet = λ call. tt;
+}
+  where
+    still : (e : Event) (number place : ℕ) → answered limit mark desk e ≡ Refused number place → Quiet limit mark desk e
+    still (runs call) number place refusal = tt
+    still (comes x) number place refusal = (number, place, refusal)
+    still (goes which) number place refusal = (number, place, refusal)

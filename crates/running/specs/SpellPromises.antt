@@ -13,10 +13,11 @@ use Rattle.synthesis.specs.Joined.{joined, Some}
 use Rattle.synthesis.specs.Monitor.{ended, Monitors, lookup}
 use Rattle.synthesis.specs.Table.{WellFormedTable}
 use Rattle.synthesis.specs.Building.{Fills, FillsShort}
-use Rattle.running.specs.Running.{start, RunOver, verdictsOf}
+use Rattle.running.specs.Running.{start, RunOver, runBy, verdictsOf}
 use Rattle.running.specs.Calls.{History, Calls, OnTableOrRefused, withVerdict}
-use Rattle.running.specs.Duty.{onDuty, together, dutyRanOf}
-use Rattle.running.specs.Spells.{DutyCall, Event, Desk, newDesk, runAt, after, Each, LendsRows, OrderlyOrRefused, Quiet}
+use Rattle.running.specs.Duty.{onDuty, dutyOf, together, dutyRanOf}
+use Rattle.running.specs.Spells.{DutyCall, Coming, Event, runs, comes, goes, longer, Desk, newDesk, runAt, withEvent, after, Each, answered}
+use Rattle.running.specs.Spells.{LendsRows, OrderlyOrRefused, Quiet}
 use Rattle.running.specs.Promises.{Sifted, SameVerdicts}
 use Rattle.running.specs.DutyPromises.{SoundDuty, RestVacant}
 use Rattle.running.specs.declared.OnDuty.{OnDuty}
@@ -35,6 +36,34 @@ pub record SpellsOfDuty (desk : Desk) : Type 0 where
 
 abbrev pub SpellsOnDuty : Type 0
 SpellsOnDuty = (limit mark : ℕ) (es : List Event) → SpellsOfDuty (after limit mark newDesk es)
+
+-- ---- what is told, and what may happen
+
+-- What a desk has after a run that isn't refused: all scans of the run, with what it keeps and judges, and each spell longer by what it keeps.
+abbrev pub TellsRuns : Type 0
+TellsRuns =
+    (limit mark : ℕ) (desk : Desk) (call : DutyCall) → answered limit mark desk (runs call) ≡ Fit →
+    let run = runBy (together mark (call .tables)) (onDuty (desk .duty)) (call .scans) in
+    withEvent limit mark desk (runs call) ≡ record {
+      duty = dutyOf (run .state);
+      spells = map (longer (run .kept)) (desk .spells);
+      over = desk .over;
+      scans = desk .scans ++ call .scans;
+      kept = desk .kept ++ run .kept;
+      verdicts = desk .verdicts ++ run .verdicts;
+    }
+
+-- Nothing else is asked of a day than this: of a run bytes and the rows with which the rules on duty came on, of a coming a table that monitors its
+-- rule, and nothing of a going or of a call that is refused; and a run or a refused call makes nobody come on or go off.
+pub record MayHappen (limit mark : ℕ) (desk : Desk) : Type 0 where
+  pub run : (call : DutyCall) → Bytes (call .scans)
+      → All (λ s. take (256 * s .count) (drop (s .base) (call .tables)) ≡ take (256 * s .count) (s .table)) (desk .spells)
+      → OrderlyOrRefused limit mark desk (runs call)
+  pub coming : (x : Coming) → Monitors (x .rule) (lookup 256 mark (drop (x .base) (x .tables))) 0 → OrderlyOrRefused limit mark desk (comes x)
+  pub going : (number : ℕ) → OrderlyOrRefused limit mark desk (goes number)
+  pub refused : (e : Event) (number place : ℕ) → answered limit mark desk e ≡ Refused number place
+      → OrderlyOrRefused limit mark desk e × Quiet limit mark desk e
+  pub quiet : (call : DutyCall) → Quiet limit mark desk (runs call)
 
 -- ---- tables that are filled in place
 
@@ -165,6 +194,8 @@ JoinsHowever =
 -- The theorem `spell-promises` has this type, so that each promise has its proof.
 pub record SpellPromises : Type 0 where
   pub spells-on-duty : SpellsOnDuty
+  pub tells-runs : TellsRuns
+  pub may-happen : (limit mark : ℕ) (desk : Desk) → MayHappen limit mark desk
   pub fills-for-duty : FillsForDuty
   pub stands-by-spell : StandsBySpell
   pub duty-drops-exactly : (limit mark : ℕ) → DutyDropsExactly limit mark
