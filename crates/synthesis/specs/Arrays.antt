@@ -122,6 +122,14 @@ answerBy after enabled falsities e c = answerFrom falsities (gathered after (int
 
 -- ---- the search
 
+-- i is a place of e in the list; or the list's length, where e isn't in it
+abbrev pub IsPlaceOf : ℕ → List ℕ → (i : ℕ) → Type 0
+IsPlaceOf e l i = ((i < length l) × (getD l i 0 ≡ e)) ⊎ ((i ≡ length l) × (indexOf e l ≡ i))
+
+-- distinct numbers: each stands at its own index
+abbrev pub Distinct : List ℕ → Type 0
+Distinct l = (i : ℕ) → i < length l → indexOf (getD l i 0) l ≡ i
+
 -- The first n elements of the array are the list; or the list is over the limit, and n is one more than the limit.
 abbrev pub Holds : (limit : ℕ) → List ℕ → (n : ℕ) → List ℕ → Type 0
 Holds limit a n l = ((n ≤ limit) × (take n a ≡ l)) ⊎ ((n ≡ suc limit) × (limit < length l))

@@ -15,11 +15,11 @@ use Rattle.synthesis.specs.Violation.{ViolatesRule}
 
 -- the mark for dropped
 abbrev pub mark : ℕ
-mark = 255
+mark = 65535
 
 -- the most equations that a table has
 abbrev pub most : ℕ
-most = 128
+most = 1000
 
 -- ---- runs
 

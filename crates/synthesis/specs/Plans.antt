@@ -10,7 +10,7 @@ use Rattle.synthesis.specs.Monitor.{mark, most, lookup}
 use Rattle.synthesis.specs.Answering.{answerOf}
 use Rattle.synthesis.specs.Table.{WellFormedTable}
 use Rattle.synthesis.specs.Building.{Synthesis, synthesisOf, countedOf, pageNumber, numberedAnswer, classesOf, shortened, shortOf}
-use Rattle.synthesis.specs.Arrays.{IsGraph, ClassesNumbered}
+use Rattle.synthesis.specs.Arrays.{IsGraph, Distinct, ClassesNumbered}
 use Rattle.synthesis.specs.declared.Counted.{Counted}
 use Rattle.synthesis.specs.declared.Counted.the-variants as counted
 use Rattle.synthesis.specs.declared.Plan.{Plan}
@@ -35,6 +35,7 @@ pub record PlanFor (y : Synthesis) (p : Plan) : Type 0 where
   pub graph-is : IsGraph (y .rule) (p .graph)
   pub answer-is : y .answer ≡ answerOf (y .rule)
   pub found-is : take (length (y .equations)) (p .found) ≡ y .equations
+  pub distinct : Distinct (y .equations)
   pub few : length (y .equations) ≤ most
   pub found-length : length (p .found) ≡ most
 

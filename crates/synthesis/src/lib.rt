@@ -11,7 +11,7 @@ use explaining::Followed;
 use graph::Graph;
 use reading::FileRead;
 ghost use mathlib.Core.Path.{_≡_};
-ghost use Prim.Native.Nat.{_≤_};
+ghost use Prim.Native.Nat.{min, _≤_};
 ghost use lib.ListN.{length};
 ghost use Rattle.synthesis.specs.Monitor.{mark, most, rowOf};
 ghost use Rattle.synthesis.specs.Building.{synthesisOf, fillingOf, previewOf, previewFillingOf, shortOf, shortFillingOf, countedOf, tableAfter};
@@ -19,15 +19,15 @@ ghost use Rattle.synthesis.specs.Reason.{explanationOf, reasonOf};
 ghost use Rattle.synthesis.specs.Plans.{refusalOf, countedOnPage, IsPlan};
 
 // The entry of a code that is dropped.
-pub const DROPPED: u8 = 255;
+pub const DROPPED: u16 = 65535;
 
 // The most equations that a rule may have.
-pub const MOST: usize = 128;
+pub const MOST: usize = 1000;
 
 // The most that the rule page shows.
 const PREVIEW_LIMIT: usize = 32;
 
-// The bytes of the rows of a rule with the most equations.
+// The entries of the rows of a rule with the most equations.
 const LONGEST: usize = 256 * MOST;
 
 // What is said of a rule file: how many equations its rule has, or a refusal with a number and a place.
@@ -108,21 +108,28 @@ fn plan_of(rule: &[u8], limit: usize) -> Plan
     }
 }
 
-// Counts the equations of the rule of a file, under a limit.
-fn count_within(rule: &[u8], limit: usize) -> Counted
-    requires { ⌜ limit ≤ most ⌝ }
-    ensures { λ r. ⌜ r ≡ countedOf (synthesisOf limit (now (rule .entry))) ⌝ }
+// The limit that counts: the most, where a limit is over it.
+fn capped(limit: usize) -> usize
+    ensures { λ r. ⌜ r ≡ min limit most ⌝ }
 {
-    plan_of(rule, limit).answer
+    if limit < MOST { limit } else { MOST }
 }
 
-// Fills a table with their rows.
-fn fill_within(rule: &[u8], limit: usize, table: &mut [u8]) -> Counted
-    requires { ⌜ limit ≤ most ⌝ }
-    ensures { λ r. ⌜ r ≡ countedOf (fillingOf limit (now (rule .entry)) (length (now (table .entry)))) ⌝ }
-    ensures { λ _. ⌜ now (table .exit) ≡ tableAfter mark (fillingOf limit (now (rule .entry)) (length (now (table .entry)))) (now (table .entry)) ⌝ }
+// Answers how many equations the rule of a file has, or a refusal of 1 to 9; 9 where they are over the limit. A limit over the most counts as the most.
+pub fn count_within(rule: &[u8], limit: usize) -> Counted
+    ensures { λ r. ⌜ r ≡ countedOf (synthesisOf (min limit most) (now (rule .entry))) ⌝ }
 {
-    let plan = plan_of(rule, limit);
+    plan_of(rule, capped(limit)).answer
+}
+
+// Fills a table with a row for each of these equations, and answers how many there are. It is refused as counting is, and then with 10 where the rows
+// don't fit. A refused call leaves the table as it was.
+pub fn fill_within(rule: &[u8], limit: usize, table: &mut [u16]) -> Counted
+    ensures { λ r. ⌜ r ≡ countedOf (fillingOf (min limit most) (now (rule .entry)) (length (now (table .entry)))) ⌝ }
+    ensures { λ _. ⌜ now (table .exit)
+        ≡ tableAfter mark (fillingOf (min limit most) (now (rule .entry)) (length (now (table .entry)))) (now (table .entry)) ⌝ }
+{
+    let plan = plan_of(rule, capped(limit));
     let answer = plan.answer;
     let Counted::Equations(n) = answer else {
         return answer;
@@ -135,16 +142,15 @@ fn fill_within(rule: &[u8], limit: usize, table: &mut [u8]) -> Counted
     answer
 }
 
-// Answers how many equations the rule of a file has, or a refusal of 1 to 9.
+// The same under the most equations that a rule may have.
 pub fn count(rule: &[u8]) -> Counted
     ensures { λ r. ⌜ r ≡ countedOf (synthesisOf most (now (rule .entry))) ⌝ }
 {
     count_within(rule, MOST)
 }
 
-// Fills a table with a row for each equation of the rule of a file, and answers how many there are. It is refused as counting is, and then with 10 where
-// the rows don't fit. A refused call leaves the table as it was.
-pub fn fill(rule: &[u8], table: &mut [u8]) -> Counted
+// Fills a table under the most equations that a rule may have.
+pub fn fill(rule: &[u8], table: &mut [u16]) -> Counted
     ensures { λ r. ⌜ r ≡ countedOf (fillingOf most (now (rule .entry)) (length (now (table .entry)))) ⌝ }
     ensures { λ _. ⌜ now (table .exit) ≡ tableAfter mark (fillingOf most (now (rule .entry)) (length (now (table .entry)))) (now (table .entry)) ⌝ }
 {
@@ -175,7 +181,7 @@ pub fn count_preview(rule: &[u8]) -> Counted
 
 // Fills a table with their rows, and answers how many there are. It is refused as counting on the page is, and then with 10 where the rows don't fit. A
 // refused call leaves the table as it was.
-pub fn fill_preview(rule: &[u8], table: &mut [u8]) -> Counted
+pub fn fill_preview(rule: &[u8], table: &mut [u16]) -> Counted
     ensures { λ r. ⌜ r ≡ countedOf (previewFillingOf (now (rule .entry)) (length (now (table .entry)))) ⌝ }
     ensures { λ _. ⌜ now (table .exit) ≡ tableAfter mark (previewFillingOf (now (rule .entry)) (length (now (table .entry)))) (now (table .entry)) ⌝ }
 {
@@ -186,17 +192,17 @@ pub fn fill_preview(rule: &[u8], table: &mut [u8]) -> Counted
 pub fn count_short(rule: &[u8]) -> Counted
     ensures { λ r. ⌜ r ≡ countedOf (shortOf most (now (rule .entry))) ⌝ }
 {
-    let mut long = [0u8; LONGEST];
+    let mut long = [0u16; LONGEST];
     shortening::short_plan_of(rule, &mut long).answer
 }
 
 // Fills a table with a row for each of these classes, and answers how many there are. It is refused as counting is, and then with 10 where the rows don't
 // fit. A refused call leaves the table as it was.
-pub fn fill_short(rule: &[u8], table: &mut [u8]) -> Counted
+pub fn fill_short(rule: &[u8], table: &mut [u16]) -> Counted
     ensures { λ r. ⌜ r ≡ countedOf (shortFillingOf most (now (rule .entry)) (length (now (table .entry)))) ⌝ }
     ensures { λ _. ⌜ now (table .exit) ≡ tableAfter mark (shortFillingOf most (now (rule .entry)) (length (now (table .entry)))) (now (table .entry)) ⌝ }
 {
-    let mut long = [0u8; LONGEST];
+    let mut long = [0u16; LONGEST];
     let plan = shortening::short_plan_of(rule, &mut long);
     let answer = plan.answer;
     let Counted::Equations(m) = answer else {
@@ -212,7 +218,7 @@ pub fn fill_short(rule: &[u8], table: &mut [u8]) -> Counted
 }
 
 // The row of equation k, a part of the table; empty where it isn't wholly inside.
-pub fn row(table: &[u8], k: usize) -> &[u8]
+pub fn row(table: &[u16], k: usize) -> &[u16]
     ensures { λ r. ⌜ now r ≡ rowOf 256 (now (table .entry)) k ⌝ }
 {
     if k < table.len() / 256 {

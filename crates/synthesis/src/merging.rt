@@ -12,7 +12,7 @@ ghost use Rattle.synthesis.specs.Table.{InRange, RowInRange, WellFormedT
 ghost use Rattle.synthesis.specs.Merging.{upTo, sameAnswer, together, refined, rounds};
 
 // Whether two entries are the same up to classes.
-fn is_same(x: u8, y: u8, classes: &[u16]) -> bool
+fn is_same(x: u16, y: u16, classes: &[u16]) -> bool
     requires { ⌜ InRange mark (length (now classes)) x × InRange mark (length (now classes)) y ⌝ }
     ensures { λ r. ⌜ r ≡ sameAnswer (upTo (now (classes .entry)) (meaning mark x)) (upTo (now (classes .entry)) (meaning mark y)) ⌝ }
 {
@@ -29,7 +29,7 @@ fn is_same(x: u8, y: u8, classes: &[u16]) -> bool
 }
 
 // Whether two rows are the same up to classes.
-fn are_alike(a: &[u8], b: &[u8], classes: &[u16]) -> bool
+fn are_alike(a: &[u16], b: &[u16], classes: &[u16]) -> bool
     requires { ⌜ RowInRange mark (length (now classes)) (now a) × RowInRange mark (length (now classes)) (now b) ⌝ }
     ensures { λ r. ⌜ r ≡ every 256 (λ c. sameAnswer
         (upTo (now (classes .entry)) (meaning mark (getD (now (a .entry)) c mark)))
@@ -46,7 +46,7 @@ fn are_alike(a: &[u8], b: &[u8], classes: &[u16]) -> bool
 }
 
 // Whether equations k and l stay together.
-fn stay_together(long: &[u8], classes: &[u16], k: usize, l: usize) -> bool
+fn stay_together(long: &[u16], classes: &[u16], k: usize, l: usize) -> bool
     requires { ⌜ WellFormedTable most mark (length (now classes)) (now long) × (k < length (now classes)) × (l < length (now classes)) ⌝ }
     ensures { λ r. ⌜ r ≡ together 256 (lookup 256 mark (now (long .entry))) (now (classes .entry)) k l ⌝ }
 {
@@ -57,7 +57,7 @@ fn stay_together(long: &[u8], classes: &[u16], k: usize, l: usize) -> bool
 }
 
 // Whether equation k stays together with l, which is the first of its class after the round.
-fn joins(long: &[u8], classes: &[u16], next: &[u16], k: usize, l: usize) -> bool
+fn joins(long: &[u16], classes: &[u16], next: &[u16], k: usize, l: usize) -> bool
     requires { ⌜ WellFormedTable most mark (length (now classes)) (now long) × (k < length (now classes)) × (l < length (now classes))
         × (length (now next) ≡ length (now classes)) ⌝ }
     ensures { λ r. ⌜ r ≡ eqb (getD (now (next .entry)) l 0) l && together 256 (lookup 256 mark (now (long .entry))) (now (classes .entry)) k l ⌝ }
@@ -70,7 +70,7 @@ fn joins(long: &[u8], classes: &[u16], next: &[u16], k: usize, l: usize) -> bool
 
 // The class of equation k after the round: the first equation with which it stays together. `next` has the classes of the equations before k; of each
 // class only the first equation is asked.
-fn class_after(long: &[u8], classes: &[u16], next: &[u16], k: usize) -> usize
+fn class_after(long: &[u16], classes: &[u16], next: &[u16], k: usize) -> usize
     requires { ⌜ WellFormedTable most mark (length (now classes)) (now long) × (k < length (now classes)) × (length (now next) ≡ length (now classes))
         × (take k (now next) ≡ refined 256 (lookup 256 mark (now long)) (now classes) k) ⌝ }
     ensures { λ r. ⌜ r ≡ least k (together 256 (lookup 256 mark (now (long .entry))) (now (classes .entry)) k) ⌝ }
@@ -87,7 +87,7 @@ fn class_after(long: &[u8], classes: &[u16], next: &[u16], k: usize) -> usize
 }
 
 // One more round: puts the classes after it into `next`.
-fn refine(long: &[u8], classes: &[u16], next: &mut [u16])
+fn refine(long: &[u16], classes: &[u16], next: &mut [u16])
     requires { ⌜ WellFormedTable most mark (length (now classes)) (now long) × (length (now next) ≡ length (now classes)) ⌝ }
     ensures { λ _. ⌜ now (next .exit) ≡ refined 256 (lookup 256 mark (now (long .entry))) (now (classes .entry)) (length (now (classes .entry))) ⌝ }
 {
@@ -127,7 +127,7 @@ fn copy(from: &[u16], to: &mut [u16])
 }
 
 // One more round, with `next` for room. Says whether it left the classes as they were.
-fn round(long: &[u8], classes: &mut [u16], next: &mut [u16]) -> bool
+fn round(long: &[u16], classes: &mut [u16], next: &mut [u16]) -> bool
     requires { ⌜ WellFormedTable most mark (length (now classes)) (now long) × (length (now next) ≡ length (now classes)) ⌝ }
     ensures { λ _. ⌜ now (classes .exit) ≡ refined 256 (lookup 256 mark (now (long .entry))) (now (classes .entry)) (length (now (classes .entry))) ⌝ }
     ensures { λ r. ⌜ (r ≡ true → now (classes .exit) ≡ now (classes .entry)) ⌝ }
@@ -139,7 +139,7 @@ fn round(long: &[u8], classes: &mut [u16], next: &mut [u16]) -> bool
 }
 
 // The classes after as many rounds as there are equations. After a round that changes nothing no other does.
-fn merge(long: &[u8], classes: &mut [u16], next: &mut [u16])
+fn merge(long: &[u16], classes: &mut [u16], next: &mut [u16])
     requires { ⌜ WellFormedTable most mark (length (now classes)) (now long) × (length (now next) ≡ length (now classes))
         × (now classes ≡ replicate (length (now classes)) 0) ⌝ }
     ensures { λ _. ⌜ now (classes .exit)
@@ -155,7 +155,7 @@ fn merge(long: &[u8], classes: &mut [u16], next: &mut [u16])
 }
 
 // The same for the first n equations, in the fronts of two arrays.
-pub(crate) fn merge_first(long: &[u8], n: usize, classes: &mut [u16], next: &mut [u16])
+pub(crate) fn merge_first(long: &[u16], n: usize, classes: &mut [u16], next: &mut [u16])
     requires { ⌜ WellFormedTable most mark n (now long) × (n ≤ length (now classes)) × (n ≤ length (now next)) × (take n (now classes) ≡ replicate n 0) ⌝ }
     ensures { λ _. ⌜ take n (now (classes .exit)) ≡ rounds 256 (lookup 256 mark (now (long .entry))) n n ⌝ }
 {

@@ -48,7 +48,7 @@ fn number(classes: &[u16], n: usize, firsts: &mut [u16], numbers: &mut [u16]) ->
 
 // The same for the classes of equations that drop alike in a long table of n rows.
 pub(crate) fn number_classes(
-    long: &[u8],
+    long: &[u16],
     n: usize,
     firsts: &mut [u16],
     numbers: &mut [u16],
@@ -63,20 +63,20 @@ pub(crate) fn number_classes(
 }
 
 // The entry of the short table for one of the long table: the number of its class for that of an equation.
-fn renumbered(x: u8, numbers: &[u16]) -> u8
-    requires { ⌜ InRange mark (length (now numbers)) x × All (λ i. i < most) (now numbers) ⌝ }
+fn renumbered(x: u16, numbers: &[u16]) -> u16
+    requires { ⌜ InRange mark (length (now numbers)) x ⌝ }
     ensures { λ r. ⌜ ((classes fs : List ℕ) → AreNumbers (length (now (numbers .entry))) classes fs (now (numbers .entry))
         → r ≡ entryOf mark fs (upTo classes (meaning mark x))) ⌝ }
 {
     if x == DROPPED {
         return DROPPED;
     }
-    numbers[x as usize] as u8
+    numbers[x as usize]
 }
 
 // Fills the row of the short table for equation k of the long one.
-fn fill_short_row(long: &[u8], k: usize, numbers: &[u16], short: &mut [u8])
-    requires { ⌜ RowInRange mark (length (now numbers)) (rowOf 256 (now long) k) × All (λ i. i < most) (now numbers) × (length (now short) ≡ 256) ⌝ }
+fn fill_short_row(long: &[u16], k: usize, numbers: &[u16], short: &mut [u16])
+    requires { ⌜ RowInRange mark (length (now numbers)) (rowOf 256 (now long) k) × (length (now short) ≡ 256) ⌝ }
     ensures { λ _. ⌜ ((classes fs : List ℕ) → AreNumbers (length (now (numbers .entry))) classes fs (now (numbers .entry))
         → now (short .exit) ≡ entriesOf mark (merged classes (lookup 256 mark (now (long .entry)))) fs k 256) ⌝ }
 {
@@ -90,15 +90,15 @@ fn fill_short_row(long: &[u8], k: usize, numbers: &[u16], short: &mut [u8])
 
 // Fills a row for the first equation of each of m classes, with the numbers of the classes of n equations.
 pub(crate) fn fill_short_rows(
-    long: &[u8],
+    long: &[u16],
     n: usize,
     firsts: &[u16],
     m: usize,
     numbers: &[u16],
-    table: &mut [u8],
+    table: &mut [u16],
 )
     requires { ⌜ WellFormedTable most mark n (now long) × (m ≤ length (now firsts)) × (n ≤ length (now numbers)) × (256 * m ≤ length (now table))
-        × All (λ k. k < n) (take m (now firsts)) × All (λ i. i < most) (take n (now numbers)) ⌝ }
+        × All (λ k. k < n) (take m (now firsts)) ⌝ }
     ensures { λ _. ⌜ ((classes : List ℕ) → AreNumbers n classes (take m (now (firsts .entry))) (now (numbers .entry)) → now (table .exit)
         ≡ filled mark (merged classes (lookup 256 mark (now (long .entry)))) (take m (now (firsts .entry))) 256 (now (table .entry))) ⌝ }
 {

@@ -1,13 +1,19 @@
-// The search for the equations of a rule. They are numbered by their indices in an array.
+// The search for the equations of a rule. They are numbered by their indices in an array. Hints say where a set may stand in it.
 ghost use mathlib.Core.Path.{_≡_};
 ghost use Prim.Native.Nat.{ℕ, _≤_, _<_};
 ghost use mathlib.Core.List.{List};
 ghost use lib.ListN.{length, getD, take};
-ghost use Rattle.synthesis.specs.Monitor.{cases};
+ghost use Rattle.synthesis.specs.Monitor.{most, cases};
 ghost use Rattle.synthesis.specs.NodeSet.{intersection};
 ghost use Rattle.synthesis.specs.Answering.{answerFrom};
 ghost use Rattle.synthesis.specs.Search.{indexOf, insert, explored, expanded, found};
-ghost use Rattle.synthesis.specs.Arrays.{gathered, answerBy, Holds};
+ghost use Rattle.synthesis.specs.Arrays.{gathered, answerBy, IsPlaceOf, Holds};
+
+// How many hints there are.
+pub(crate) const HINTS: usize = 4096;
+
+// The hint of a set is at its number modulo the largest prime up to their count.
+const HINT_MODULUS: u64 = 4093;
 
 // The union of those sets whose indices are in `live`. Each iteration takes the lowest index out: rest & (rest - 1) is rest
 // without its lowest bit.
@@ -34,7 +40,7 @@ pub(crate) fn reached(after: &[u64], enabled: &[u64], e: u64, c: usize) -> u64
 }
 
 // The index of a set among the first n of the list, or n.
-pub(crate) fn find(list: &[u64], n: usize, e: u64) -> usize
+fn find(list: &[u64], n: usize, e: u64) -> usize
     requires { ⌜ n ≤ length (now list) ⌝ }
     ensures { λ r. ⌜ r ≡ indexOf e (take n (now (list .entry))) ⌝ }
 {
@@ -48,15 +54,33 @@ pub(crate) fn find(list: &[u64], n: usize, e: u64) -> usize
     n
 }
 
+// A place of a set among the first n of the list, or n. Its hint is tried first, and believed only where the set stands there. After a search the
+// hint is what was found; n, where a new set may be put next.
+pub(crate) fn find_by_hint(list: &[u64], hints: &mut [u16], n: usize, e: u64) -> usize
+    requires { ⌜ (n ≤ most) × (n ≤ length (now list)) × (length (now hints) ≡ 4096) ⌝ }
+    ensures { λ r. ⌜ IsPlaceOf e (take n (now (list .entry))) r ⌝ }
+{
+    let slot = (e % HINT_MODULUS) as usize;
+    let hint = hints[slot] as usize;
+    if hint < n {
+        if list[hint] == e {
+            return hint;
+        }
+    }
+    let i = find(list, n, e);
+    hints[slot] = i as u16;
+    i
+}
+
 // Puts a set after the first n of the list if it is new. One more than the limit says that there was no room for it.
-fn insert(list: &mut [u64], limit: usize, n: usize, e: u64) -> usize
-    requires { ⌜ limit ≤ length (now list) ⌝ }
+fn insert(list: &mut [u64], hints: &mut [u16], limit: usize, n: usize, e: u64) -> usize
+    requires { ⌜ (limit ≤ most) × (limit ≤ length (now list)) × (length (now hints) ≡ 4096) ⌝ }
     ensures { λ r. ⌜ ((l : List ℕ) → Holds limit (now (list .entry)) n l → Holds limit (now (list .exit)) r (insert l e)) ⌝ }
 {
     if limit < n {
         return n;
     }
-    let i = find(list, n, e);
+    let i = find_by_hint(list, hints, n, e);
     if i < n {
         return n;
     }
@@ -68,15 +92,22 @@ fn insert(list: &mut [u64], limit: usize, n: usize, e: u64) -> usize
 }
 
 // Inserts the next equation, unless the set of reached nodes has an ff node.
-fn insert_answer(list: &mut [u64], limit: usize, n: usize, falsities: u64, reached: u64) -> usize
-    requires { ⌜ limit ≤ length (now list) ⌝ }
+fn insert_answer(
+    list: &mut [u64],
+    hints: &mut [u16],
+    limit: usize,
+    n: usize,
+    falsities: u64,
+    reached: u64,
+) -> usize
+    requires { ⌜ (limit ≤ most) × (limit ≤ length (now list)) × (length (now hints) ≡ 4096) ⌝ }
     ensures { λ r. ⌜ ((l : List ℕ) → Holds limit (now (list .entry)) n l
         → Holds limit (now (list .exit)) r (cases (answerFrom falsities reached) l (insert l))) ⌝ }
 {
     if reached & falsities != 0 {
         return n;
     }
-    insert(list, limit, n, reached)
+    insert(list, hints, limit, n, reached)
 }
 
 // Explores what an equation answers to each code, and inserts what is new.
@@ -85,11 +116,13 @@ fn explore(
     enabled: &[u64],
     falsities: u64,
     list: &mut [u64],
+    hints: &mut [u16],
     limit: usize,
     n: usize,
     e: u64,
 ) -> usize
-    requires { ⌜ (length (now after) ≡ 64) × (length (now enabled) ≡ 256) × (limit ≤ length (now list)) ⌝ }
+    requires { ⌜ (length (now after) ≡ 64) × (length (now enabled) ≡ 256) × (limit ≤ most) × (limit ≤ length (now list))
+        × (length (now hints) ≡ 4096) ⌝ }
     ensures { λ r. ⌜ ((l : List ℕ) → Holds limit (now (list .entry)) n l
         → Holds limit (now (list .exit)) r (explored 256 (answerBy (now (after .entry)) (now (enabled .entry)) falsities) e 256 l)) ⌝ }
 {
@@ -97,7 +130,7 @@ fn explore(
     let mut c: usize = 0;
     while c < 256 {
         let e2 = reached(after, enabled, e, c);
-        m = insert_answer(list, limit, m, falsities, e2);
+        m = insert_answer(list, hints, limit, m, falsities, e2);
         c += 1;
     }
     m
@@ -109,11 +142,13 @@ fn expand(
     enabled: &[u64],
     falsities: u64,
     list: &mut [u64],
+    hints: &mut [u16],
     limit: usize,
     n: usize,
     k: usize,
 ) -> usize
-    requires { ⌜ (length (now after) ≡ 64) × (length (now enabled) ≡ 256) × (limit ≤ length (now list)) ⌝ }
+    requires { ⌜ (length (now after) ≡ 64) × (length (now enabled) ≡ 256) × (limit ≤ most) × (limit ≤ length (now list))
+        × (length (now hints) ≡ 4096) ⌝ }
     ensures { λ r. ⌜ ((l : List ℕ) → Holds limit (now (list .entry)) n l
         → Holds limit (now (list .exit)) r (expanded 256 (answerBy (now (after .entry)) (now (enabled .entry)) falsities) k l)) ⌝ }
 {
@@ -124,7 +159,7 @@ fn expand(
         return n;
     }
     let e = list[k];
-    explore(after, enabled, falsities, list, limit, n, e)
+    explore(after, enabled, falsities, list, hints, limit, n, e)
 }
 
 // Finds the equations from the first on, and says how many there are; one more than the limit where they are over it.
@@ -136,13 +171,14 @@ pub(crate) fn search(
     list: &mut [u64],
     limit: usize,
 ) -> usize
-    requires { ⌜ (length (now after) ≡ 64) × (length (now enabled) ≡ 256) × (limit ≤ length (now list)) ⌝ }
+    requires { ⌜ (length (now after) ≡ 64) × (length (now enabled) ≡ 256) × (limit ≤ most) × (limit ≤ length (now list)) ⌝ }
     ensures { λ r. ⌜ Holds limit (now (list .exit)) r (found 256 (answerBy (now (after .entry)) (now (enabled .entry)) falsities) limit first) ⌝ }
 {
-    let mut n = insert(list, limit, 0, first);
+    let mut hints = [0u16; HINTS];
+    let mut n = insert(list, &mut hints, limit, 0, first);
     let mut k: usize = 0;
     while k < limit {
-        n = expand(after, enabled, falsities, list, limit, n, k);
+        n = expand(after, enabled, falsities, list, &mut hints, limit, n, k);
         k += 1;
     }
     n

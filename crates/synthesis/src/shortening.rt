@@ -20,7 +20,7 @@ pub(crate) struct ShortPlan {
 }
 
 // Reads a rule file, fills its long table, and numbers the classes of equations that drop alike.
-pub(crate) fn short_plan_of(rule: &[u8], long: &mut [u8]) -> ShortPlan
+pub(crate) fn short_plan_of(rule: &[u8], long: &mut [u16]) -> ShortPlan
     requires { ⌜ length (now long) ≡ 256 * most ⌝ }
     ensures { λ r. ⌜ IsShortPlan (now (rule .entry)) r (now (long .exit)) ⌝ }
 {

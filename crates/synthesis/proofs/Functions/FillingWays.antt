@@ -9,7 +9,7 @@ use Rattle.synthesis.specs.Monitor.{mark, most, Answer}
 use Rattle.synthesis.specs.Answering.{answerOf}
 use Rattle.synthesis.specs.Table.{filled}
 use Rattle.synthesis.specs.Building.{Synthesis, inTable, countedOf, tableAfter}
-use Rattle.synthesis.specs.Arrays.{answerBy}
+use Rattle.synthesis.specs.Arrays.{answerBy, Distinct}
 use Rattle.synthesis.specs.Plans.{PlanFor, CanFill, IsPlan}
 use Rattle.synthesis.specs.declared.Counted.{Counted}
 use Rattle.synthesis.specs.declared.Counted.the-variants.{Equations, Refused}
@@ -64,14 +64,19 @@ module _ {o : Outcome Synthesis} {p : Plan} {n : ℕ} (c : CountedPlan o p n) wh
   pub counted-few : n ≤ most
   counted-few = omega (arith, c .count-is, c .fills .few)
 
+  found-front : take n (p .found) ≡ c .synthesis .equations
+  found-front = ap (λ (k : ℕ). take k (p .found)) (c .count-is) ∙ c .fills .found-is
+
   -- what filling from it needs
   pub counted-fills : (capacity : ℕ) → 256 * n ≤ capacity
-      → (length (p .graph .after) ≡ 64) × (length (p .graph .enabled) ≡ 256) × (n ≤ most) × (n ≤ length (p .found)) × (256 * n ≤ capacity)
+      → (length (p .graph .after) ≡ 64) × (length (p .graph .enabled) ≡ 256) × (n ≤ most) × (n ≤ length (p .found)) × Distinct (take n (p .found))
+      × (256 * n ≤ capacity)
   counted-fills capacity room = (
     c .fills .graph-is .after-length,
     c .fills .graph-is .enabled-length,
     counted-few,
     omega (arith, counted-few, c .fills .found-length),
+    rw found-front (c .fills .distinct),
     room,
   )
 
@@ -82,7 +87,6 @@ module _ {o : Outcome Synthesis} {p : Plan} {n : ℕ} (c : CountedPlan o p n) wh
   plan-filled table after e =
       let answers = answerBy (p .graph .after) (p .graph .enabled) (p .graph .falsities) in
       let agree = graph-answers (p .graph) (c .fills .graph-is) in
-      let same : take n (p .found) ≡ c .synthesis .equations = ap (λ (k : ℕ). take k (p .found)) (c .count-is) ∙ c .fills .found-is in
-      e ∙ ap (λ (l : List ℕ). filled mark answers l 256 table) same
+      e ∙ ap (λ (l : List ℕ). filled mark answers l 256 table) found-front
       ∙ filled-cong mark 256 answers (answerOf (c .synthesis .rule)) (c .synthesis .equations) (λ i c h. agree _ c) table
       ∙ ap (λ (a : ℕ → ℕ → Answer ℕ). filled mark a (c .synthesis .equations) 256 table) (sym (c .fills .answer-is))

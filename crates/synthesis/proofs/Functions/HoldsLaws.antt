@@ -8,9 +8,9 @@ use native.Mathlib.Omega.{arith}
 use lib.ListN.{length, getD, take, set, length-append}
 use lib.Seq.{getD-take, take-suc-set, length-take-le}
 use Rattle.synthesis.specs.Monitor.{Answer}
-use Rattle.synthesis.specs.Search.{indexOf, insert, explored, expanded}
-use Rattle.synthesis.specs.Arrays.{Holds}
-use Rattle.synthesis.proofs.Numberings.Indices.{insert-old, insert-new}
+use Rattle.synthesis.specs.Search.{insert, explored, expanded}
+use Rattle.synthesis.specs.Arrays.{IsPlaceOf, Holds}
+use Rattle.synthesis.proofs.Numberings.Indices.{place-inside, place-none, insert-old, insert-new}
 use Rattle.synthesis.proofs.Numberings.Finding.{Grows, grows-length, expanded-some, expanded-none}
 
 -- ---- what the count says
@@ -38,18 +38,24 @@ module _ (limit : ℕ) (a : List ℕ) (n : ℕ) (l : List ℕ) (room : limit ≤
 
   -- ---- one more equation
 
-  pub held-insert-old : (e : ℕ) → n ≤ limit → indexOf e (take n a) < n → Holds limit a n (insert l e)
-  held-insert-old e h old = rw (← held-list h, insert-old (take n a) e (omega (arith, length-is h))) (inl (h, refl))
+  -- i is where it was found, any of its places, or n
+  module _ (e i : ℕ) (place : IsPlaceOf e (take n a) i) where
+    pub held-insert-old : n ≤ limit → i < n → Holds limit a n (insert l e)
+    held-insert-old h old =
+        let member = place-inside e (take n a) i place (omega (arith, length-is h)) in
+        rw (← held-list h, insert-old (take n a) e member) (inl (h, refl))
 
-  insert-absent : (e : ℕ) → n ≤ limit → n ≤ indexOf e (take n a) → insert l e ≡ take n a ++ (e ∷ [])
-  insert-absent e h absent = rw (← held-list h) (insert-new (take n a) e (λ m. omega (arith, length-is h)))
+    insert-absent : n ≤ limit → n ≤ i → insert l e ≡ take n a ++ (e ∷ [])
+    insert-absent h absent =
+        let none = place-none e (take n a) i place (omega (arith, length-is h)) in
+        rw (← held-list h) (insert-new (take n a) e (λ m. omega (arith, none, length-is h)))
 
-  pub held-insert-full : (e : ℕ) → n ≡ limit → n ≤ indexOf e (take n a) → Holds limit a (limit + 1) (insert l e)
-  held-insert-full e h absent =
-      rw (insert-absent e (omega arith) absent) (inr (add-one limit, omega (arith, length-is (omega arith), length-append (take n a) (e ∷ []))))
+    pub held-insert-full : n ≡ limit → n ≤ i → Holds limit a (limit + 1) (insert l e)
+    held-insert-full h absent =
+        rw (insert-absent (omega arith) absent) (inr (add-one limit, omega (arith, length-is (omega arith), length-append (take n a) (e ∷ []))))
 
-  pub held-insert-new : (e : ℕ) → n < limit → n ≤ indexOf e (take n a) → Holds limit (set a n e) (n + 1) (insert l e)
-  held-insert-new e h absent = rw (insert-absent e (omega arith) absent, add-one n) (inl (omega arith, take-suc-set a n e (omega arith)))
+    pub held-insert-new : n < limit → n ≤ i → Holds limit (set a n e) (n + 1) (insert l e)
+    held-insert-new h absent = rw (insert-absent (omega arith) absent, add-one n) (inl (omega arith, take-suc-set a n e (omega arith)))
 
   -- ---- equation k expanded
 

@@ -7,10 +7,10 @@ use native.Mathlib.Decide.{decLt}
 use native.Mathlib.Numerals.{add-one}
 use native.Mathlib.Omega.{arith}
 use lib.ListN.{length, getD, take, set, length-append}
-use lib.Seq.{getD-set-same, getD-set-other, getD-take, take-suc-set, length-take-le}
+use lib.Seq.{getD-set-same, getD-set-other, getD-take, take-suc-set}
 use borrow.Author.Tests.{eq-eqb, ne-eqb}
 use Rattle.reading.specs.Rule.{All}
-use Rattle.reading.proofs.Basics.AllLaws.{all-of, all-map}
+use Rattle.reading.proofs.Basics.AllLaws.{all-map}
 use Rattle.synthesis.specs.Search.{indexOf}
 use Rattle.synthesis.specs.Merging.{firsts}
 use Rattle.synthesis.specs.Arrays.{AreNumbers, ClassesNumbered}
@@ -73,13 +73,6 @@ module _ (classes : List ℕ) (n m : ℕ) (array numbers : List ℕ) (was : Clas
 
   pub numbered-inside : All (λ k. k < n) (take m array)
   numbered-inside = rw (was .firsts-are) (all-map (firsts classes n) (λ k f. f .below) (firsts-all classes n))
-
-  pub numbered-small : (limit : ℕ) → n ≤ limit → n ≤ length numbers → All (λ i. i < limit) (take n numbers)
-  numbered-small limit few room =
-      all-of (λ i. i < limit) (take n numbers) 0
-      (λ k h.
-      let less : k < n = omega (arith, length-take-le n numbers room) in
-      rw (getD-take n numbers k 0 less) (omega (arith, was .numbers-are .below k less, firsts-length classes n)))
 
   -- ---- one equation more
 

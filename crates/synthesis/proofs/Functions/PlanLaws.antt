@@ -29,6 +29,7 @@ use Rattle.synthesis.specs.declared.Counted.the-variants as counted
 use Rattle.synthesis.specs.declared.Plan.{Plan}
 use Rattle.synthesis.specs.declared.graph.Graph.{Graph}
 use Rattle.synthesis.proofs.Numberings.Finding.{found-cong}
+use Rattle.synthesis.proofs.Tables.Equations.{equations-distinct}
 use Rattle.synthesis.proofs.Tables.SynthesisOutcomes.{accepts-with-equations, refuses-eight, refuses-nine}
 use Rattle.synthesis.proofs.Functions.HoldsLaws.{held-few, held-many}
 use Rattle.synthesis.proofs.Functions.GraphLaws.{graph-answers}
@@ -131,5 +132,5 @@ module _ {s : List ℕ} {n : NumberedRule} (d : Read s n) (g : Graph) (is : (r :
         rw (accepts-with-equations limit s (d .rule) (d .is) (satisfiable-test calm) (omega (arith, n, h)))
         (record {
           answer-is = ap counted.Equations n;
-          fills = record { graph-is = graph; answer-is = refl; found-is = rw (← n) es; few = omega (arith, small, n, h); found-length = k };
+          fills = record { graph-is = graph; answer-is = refl; found-is = rw (← n) es; distinct = equations-distinct limit (d .rule); few = omega (arith, small, n, h); found-length = k };
         })

@@ -24,7 +24,7 @@ use Rattle.synthesis.proofs.Quotients.RoundsAgree.{rounds-cong}
 use Rattle.synthesis.proofs.Quotients.Settled.{Inside}
 use Rattle.synthesis.proofs.Quotients.Refinement.{settled}
 use Rattle.synthesis.proofs.Quotients.Firsts.{first-at}
-use Rattle.synthesis.proofs.Functions.NumberingClasses.{numbered-few, numbered-front, numbered-inside, numbered-small}
+use Rattle.synthesis.proofs.Functions.NumberingClasses.{numbered-few, numbered-front, numbered-inside}
 
 -- ---- the classes of a long table
 
@@ -133,16 +133,14 @@ module _ {s : List ℕ} {p : ShortPlan} {long : List ℕ} {m : ℕ} (c : Counted
   -- what filling from it needs
   pub counted-fills-short : (capacity : ℕ) → 256 * m ≤ capacity
       → WellFormedTable most mark (p .equations) long × (m ≤ length (p .firsts)) × (p .equations ≤ length (p .numbers)) × (256 * m ≤ capacity)
-      × All (λ k. k < p .equations) (take m (p .firsts)) × All (λ i. i < most) (take (p .equations) (p .numbers))
+      × All (λ k. k < p .equations) (take m (p .firsts))
   counted-fills-short capacity room =
-      let few = c .fills .well-formed .few in
-      let inside : p .equations ≤ length (p .numbers) = omega (arith, few, c .fills .numbers-length) in (
+      let few = c .fills .well-formed .few in (
         c .fills .well-formed,
         omega (arith, counted-short-few, c .fills .firsts-length),
-        inside,
+        omega (arith, few, c .fills .numbers-length),
         room,
         numbered-inside _ _ _ _ _ numbered,
-        numbered-small _ _ _ _ _ numbered most few inside,
       )
 
   -- and what it gives

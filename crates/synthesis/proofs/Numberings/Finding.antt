@@ -14,7 +14,8 @@ use Rattle.reading.proofs.Basics.AllLaws.{all-at, all-append}
 use Rattle.synthesis.specs.Monitor.{Answer, dropped, next, cases, kept, ended}
 use Rattle.synthesis.specs.Search.{indexOf, insert, explored, expanded, found}
 use Rattle.synthesis.proofs.Monitors.Runs.{kept-last, ended-last}
-use Rattle.synthesis.proofs.Numberings.Indices.{Member, index-is, member-append, member-last, insert-cases, Distinct, distinct-last}
+use Rattle.synthesis.specs.Arrays.{Distinct}
+use Rattle.synthesis.proofs.Numberings.Indices.{Member, index-is, member-append, member-last, insert-cases, distinct-last}
 
 -- ---- lists that grow at the end
 

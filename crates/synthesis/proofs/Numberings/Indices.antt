@@ -1,6 +1,7 @@
 -- Laws of the index of a number in a list, and of lists whose numbers are distinct, by induction on the list.
 use Prim.Native.Nat.{ℕ, zero, suc, _≤_, _<_}
 use mathlib.Core.Path.{_≡_, refl, sym, _∙_, ap}
+use mathlib.Core.Logic.{inl, inr}
 use mathlib.Core.Bool.{Bool, true, false, cond}
 use mathlib.Core.List.{List, [], _∷_, _++_}
 use native.Mathlib.Decide.{decLt}
@@ -10,6 +11,7 @@ use lib.ListN.{length, getD, take, length-append, List·getD-append}
 use lib.Seq.{length-take-le, getD-take, getD-at}
 use borrow.Author.Tests.{eq-eqb, eqb-true, eqb-false, ltb-true, ltb-false, lt-ltb, le-ltb}
 use Rattle.synthesis.specs.Search.{indexOf, insert}
+use Rattle.synthesis.specs.Arrays.{IsPlaceOf, Distinct}
 
 abbrev pub Member : ℕ → List ℕ → Type 0
 Member e l = indexOf e l < length l
@@ -71,6 +73,33 @@ module _ (e : ℕ) (l : List ℕ) (n : ℕ) (inside : n ≤ length l) where
   pub take-absent : AbsentBelow e l n → indexOf e (take n l) ≡ n
   take-absent absent = omega (arith, index-not-before n (omega arith) absent, take-index-le)
 
+-- ---- a place of a number
+
+pub index-place : (e : ℕ) (l : List ℕ) → IsPlaceOf e l (indexOf e l)
+index-place e l = on (decLt (indexOf e l) (length l))
+  where
+    on : Dec (indexOf e l < length l) → IsPlaceOf e l (indexOf e l)
+    on (yes h) = inl (h, index-is e l h)
+    on (no h) = inr (omega (arith, index-le e l), refl)
+
+module _ (e : ℕ) (l : List ℕ) (i : ℕ) where
+  pub place-inside : IsPlaceOf e l i → i < length l → Member e l
+  place-inside (inl p) h = member-at e l i (p .0) (p .1)
+  place-inside (inr p) h = absurd (omega arith)
+
+  pub place-none : IsPlaceOf e l i → length l ≤ i → length l ≤ indexOf e l
+  place-none (inl p) h = absurd (omega arith)
+  place-none (inr p) h = omega arith
+
+  pub place-le : IsPlaceOf e l i → i ≤ length l
+  place-le (inl p) = omega arith
+  place-le (inr p) = omega arith
+
+  -- among distinct numbers there is only one
+  pub place-index : Distinct l → IsPlaceOf e l i → i ≡ indexOf e l
+  place-index d (inl p) = sym (rw (p .1) at (d i (p .0)))
+  place-index d (inr p) = sym (p .1)
+
 -- ---- longer lists
 
 pub index-append : (e : ℕ) (l r : List ℕ) → Member e l → indexOf e (l ++ r) ≡ indexOf e l
@@ -112,10 +141,7 @@ insert-cases P l e old new = on (ltb (indexOf e l) (length l)) refl
     on true q = old (ltb-true _ _ q)
     on false q = new (λ m. omega (arith, ltb-false (indexOf e l) (length l) q))
 
--- ---- distinct numbers: each stands at its own index
-
-abbrev pub Distinct : List ℕ → Type 0
-Distinct l = (i : ℕ) → i < length l → indexOf (getD l i 0) l ≡ i
+-- ---- distinct numbers
 
 pub distinct-indices : (l : List ℕ) → Distinct l → (i j : ℕ) → i < length l → j < length l → getD l i 0 ≡ getD l j 0 → i ≡ j
 distinct-indices l d i j h h′ p = sym (d i h) ∙ ap (λ (e : ℕ). indexOf e l) p ∙ d j h′

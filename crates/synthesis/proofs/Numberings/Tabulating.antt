@@ -9,7 +9,8 @@ use lib.ListN.{length, getD, length-append, List·getD-append}
 use lib.Seq.{getD-at}
 use Rattle.synthesis.specs.Search.{indexOf}
 use Rattle.synthesis.specs.Merging.{tabulate}
-use Rattle.synthesis.proofs.Numberings.Indices.{Member, index-is, member-at, Distinct, distinct-last}
+use Rattle.synthesis.specs.Arrays.{Distinct}
+use Rattle.synthesis.proofs.Numberings.Indices.{Member, index-is, member-at, distinct-last}
 use Rattle.synthesis.proofs.Numberings.Indices.{without, without-length, without-member, distinct-fits}
 
 module _ (f : ℕ → ℕ) where

@@ -14,7 +14,8 @@ use Rattle.reading.specs.Rule.{All}
 use Rattle.reading.proofs.Basics.AllLaws.{all-at, all-append, all-map}
 use Rattle.synthesis.specs.Search.{indexOf}
 use Rattle.synthesis.specs.Merging.{firsts}
-use Rattle.synthesis.proofs.Numberings.Indices.{Member, Distinct, index-is, index-first, member-at, member-append, member-last}
+use Rattle.synthesis.specs.Arrays.{Distinct}
+use Rattle.synthesis.proofs.Numberings.Indices.{Member, index-is, index-first, member-at, member-append, member-last}
 
 -- ---- lists that ascend
 

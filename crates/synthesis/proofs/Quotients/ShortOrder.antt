@@ -15,7 +15,8 @@ use Rattle.synthesis.specs.Building.{Synthesis, withEquations, numberedA
 use Rattle.synthesis.specs.Promises.{Before, FoundBy, AsFound}
 use Rattle.synthesis.specs.ShortPromises.{numbersBelow, ShortAsFound}
 use Rattle.synthesis.proofs.Monitors.Renaming.{Renames, renamed-from}
-use Rattle.synthesis.proofs.Numberings.Indices.{Distinct, index-is}
+use Rattle.synthesis.specs.Arrays.{Distinct}
+use Rattle.synthesis.proofs.Numberings.Indices.{index-is}
 use Rattle.synthesis.proofs.Numberings.Tabulating.{tabulate-length, tabulate-at}
 use Rattle.synthesis.proofs.Numberings.FindingOrder.{before-le, numbered-as-found}
 use Rattle.synthesis.proofs.Tables.Equations.{equations-distinct}

@@ -23,7 +23,8 @@ use Rattle.synthesis.specs.Search.{indexOf, found}
 use Rattle.synthesis.specs.Building.{equationsOf, Synthesis, withEquations, synthesisOf, countedOf}
 use Rattle.synthesis.specs.Promises.{WellFormedFormula, Counts, AnswersCount, Closed, RefusesTooMany, ReachableEquations, ReachesEquations}
 use Rattle.synthesis.specs.declared.Counted.the-variants.{Equations, Refused}
-use Rattle.synthesis.proofs.Numberings.Indices.{Member, index-is, index-first, member-at, Distinct, distinct-indices, distinct-fits}
+use Rattle.synthesis.specs.Arrays.{Distinct}
+use Rattle.synthesis.proofs.Numberings.Indices.{Member, index-is, index-first, member-at, distinct-indices, distinct-fits}
 use Rattle.synthesis.proofs.Numberings.Tabulating.{Injective}
 use Rattle.synthesis.proofs.Numberings.Finding.{ClosedUnder, found-closed, found-inside, ReachedBy, found-reached, found-all}
 use Rattle.synthesis.proofs.Numberings.Finding.{found-first, found-distinct}

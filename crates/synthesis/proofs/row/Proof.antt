@@ -12,6 +12,9 @@ mul-from c = search needs
 add-to : tie.Need-add-to
 add-to c = search needs
 
+mul-result : tie.Need-mul-result
+mul-result c = search needs
+
 sub-result : tie.Need-sub-result
 sub-result c = search needs
 
@@ -46,6 +49,7 @@ row-spec =
     (tie.spec
     mul-from
     add-to
+    mul-result
     sub-result
     part-result-start
     part-result-end

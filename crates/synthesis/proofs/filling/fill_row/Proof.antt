@@ -13,11 +13,11 @@ use Rattle.synthesis.proofs.filling.fill_row.Statement.{statement}
 use Rattle.synthesis.proofs.filling.fill_row.Tie as tie
 
 abbrev Inv-loop : tie.InvT-loop
-Inv-loop after enabled falsities found n e row₀ c₀ row c =
-    (c ≤ 256) × (length row ≡ 256) × (row ≡ entriesOf mark (answerBy after enabled falsities) (take n found) e c ++ drop c row₀)
+Inv-loop after enabled falsities found hints₀ n e row₀ c₀ hints row c =
+    (c ≤ 256) × (length hints ≡ 4096) × (length row ≡ 256) × (row ≡ entriesOf mark (answerBy after enabled falsities) (take n found) e c ++ drop c row₀)
 
 abbrev μ-loop : tie.MeasureT-loop
-μ-loop after enabled falsities found n e row₀ c₀ row c = 256 - c
+μ-loop after enabled falsities found hints₀ n e row₀ c₀ hints row c = 256 - c
 
 loop-holds : tie.Need-loop-holds Inv-loop μ-loop
 unfolding entriesOf
@@ -28,6 +28,9 @@ reached-requires c κs = search needs
 
 entry-requires : tie.Need-entry-requires Inv-loop μ-loop
 entry-requires c κs = search needs
+
+mul-row : tie.Need-mul-row Inv-loop μ-loop
+mul-row c = search needs
 
 slice-write-row : tie.Need-slice-write-row Inv-loop μ-loop
 slice-write-row c = search needs
@@ -41,20 +44,25 @@ loop-less c = search needs
 loop-again : tie.Need-loop-again Inv-loop μ-loop
 unfolding answerBy
 loop-again c =
-    let l = c .before .before .before in (
+    let entered = c .before .before in
+    let l = entered .before .before .before .before in (
       search needs,
       search needs,
-      entries-next mark _ _ _ _ _ _ (l .loop .inv .2) _ (omega arith) (c .entry .ensures ∙ rw (c .before .reached .ensures)),
+      search needs,
+      entries-next mark _ _ _ _ _ _ (l .loop .inv .3) _ (omega arith) (entered .entry .ensures ∙ rw (entered .before .before .reached .ensures)),
     )
 
 same-length : tie.Need-same-length Inv-loop μ-loop
 same-length c = search needs
 
+same-length-2 : tie.Need-same-length-2 Inv-loop μ-loop
+same-length-2 c = search needs
+
 returns : tie.Need-returns Inv-loop μ-loop
 returns c =
-    let start = c .before .before .before .before .before .before in
+    let start = c .before .before .before .before .before .before .before in
     let all : c .before .loop .c ≡ 256 = omega arith in
-    entries-all mark _ _ _ (start .args .row .now) _ 256 (rw all at (c .before .loop .inv .2)) (omega arith)
+    entries-all mark _ _ _ (start .args .row .now) _ 256 (rw all at (c .before .loop .inv .3)) (omega arith)
 
 pub fill-row-spec : {M : Type 1} → statement M
 fill-row-spec =
@@ -65,9 +73,11 @@ fill-row-spec =
     loop-holds
     reached-requires
     entry-requires
+    mul-row
     slice-write-row
     add-c
     loop-less
     loop-again
     same-length
+    same-length-2
     returns)

@@ -41,8 +41,14 @@ answered c =
 loop-holds : tie.Need-loop-holds Inv-loop μ-loop
 loop-holds c = (search needs, λ i h. absurd (omega arith))
 
+mul-is-same : tie.Need-mul-is-same Inv-loop μ-loop
+mul-is-same c = search needs
+
 shared-slice-read-is-same : tie.Need-shared-slice-read-is-same Inv-loop μ-loop
 shared-slice-read-is-same c = omega (arith, c .before .before .before .before .before .before .pre .0 .whole)
+
+mul-is-same-2 : tie.Need-mul-is-same-2 Inv-loop μ-loop
+mul-is-same-2 c = search needs
 
 shared-slice-read-is-same-2 : tie.Need-shared-slice-read-is-same-2 Inv-loop μ-loop
 shared-slice-read-is-same-2 c = omega (arith, c .before .before .before .before .before .before .before .pre .1 .whole)
@@ -84,7 +90,9 @@ are-alike-spec =
     Inv-loop
     μ-loop
     loop-holds
+    mul-is-same
     shared-slice-read-is-same
+    mul-is-same-2
     shared-slice-read-is-same-2
     is-same-requires
     returns

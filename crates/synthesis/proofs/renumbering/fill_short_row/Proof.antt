@@ -41,6 +41,9 @@ loop-holds : tie.Need-loop-holds Inv-loop μ-loop
 unfolding entriesOf
 loop-holds c = (search needs, search needs, λ classes fs are. search needs)
 
+mul-renumbered : tie.Need-mul-renumbered Inv-loop μ-loop
+mul-renumbered c = search needs
+
 shared-slice-read-renumbered : tie.Need-shared-slice-read-renumbered Inv-loop μ-loop
 shared-slice-read-renumbered c = omega (arith, whole-row (c .before .before))
 
@@ -48,7 +51,10 @@ renumbered-requires : tie.Need-renumbered-requires Inv-loop μ-loop
 renumbered-requires c κs =
     let l = c .before .before in
     let pre = l .before .before .before .before .before .pre in
-    (rw (l .before .row .ensures) (pre .0 .range (l .loop .c) (omega arith)), pre .1)
+    rw (l .before .row .ensures) (pre .0 .range (l .loop .c) (omega arith))
+
+mul-short : tie.Need-mul-short Inv-loop μ-loop
+mul-short c = search needs
 
 slice-write-short : tie.Need-slice-write-short Inv-loop μ-loop
 slice-write-short c = search needs
@@ -87,8 +93,10 @@ fill-short-row-spec =
     μ-loop
     row-requires
     loop-holds
+    mul-renumbered
     shared-slice-read-renumbered
     renumbered-requires
+    mul-short
     slice-write-short
     add-c
     loop-less

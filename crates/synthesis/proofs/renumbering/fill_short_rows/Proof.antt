@@ -59,6 +59,9 @@ slice-aggregate-fill-short-row c =
     let start = c .before .before .before .before .before .before .before .before in
     sym (length-take-le (start .args .n) (start .args .numbers .now) (start .pre .2))
 
+mul-fill-short-row : tie.Need-mul-fill-short-row Inv-loop μ-loop
+mul-fill-short-row c = search needs
+
 sub-fill-short-row : tie.Need-sub-fill-short-row Inv-loop μ-loop
 sub-fill-short-row c = search needs
 
@@ -74,7 +77,6 @@ fill-short-row-requires c κs =
     let start = l .before .before .before .before .before in
     let x = start .args in (
       rw (length-take-le (x .n) (x .numbers .now) (start .pre .2)) (start .pre .0 .row _ (first-below l (omega arith))),
-      start .pre .5,
       simp (length-take, length-drop) (omega arith),
     )
 
@@ -121,6 +123,7 @@ fill-short-rows-spec =
     shared-slice-read-k
     cast-k
     slice-aggregate-fill-short-row
+    mul-fill-short-row
     sub-fill-short-row
     part-fill-short-row-start
     part-fill-short-row-end

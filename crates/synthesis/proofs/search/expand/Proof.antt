@@ -11,7 +11,7 @@ returns c l h = held-over-limit _ _ _ l _ h (c .if1 .taken) (expanded-grows 256 
 
 returns-2 : tie.Need-returns-2
 returns-2 c l h =
-    held-expanded-none _ _ _ l (c .before .before .before .before .before .pre .2) h 256 _ _ (search needs) (search needs)
+    held-expanded-none _ _ _ l (c .before .before .before .before .before .before .pre .3) h 256 _ _ (search needs) (search needs)
 
 mul-e : tie.Need-mul-e
 mul-e c = search needs
@@ -25,14 +25,25 @@ explore-requires c κs = search needs
 same-length : tie.Need-same-length
 same-length c = search needs
 
+same-length-2 : tie.Need-same-length-2
+same-length-2 c = search needs
+
 returns-3 : tie.Need-returns-3
 returns-3 c l h =
-    let explored = c .before .before in
-    let start = explored .before .before .before .before .before .before .before .before in
-    rw (held-expanded-some _ (start .args .list .now) (start .args .n) l (start .pre .2) h 256 _ (start .args .k) (omega arith) (omega arith))
+    let explored = c .before .before .before .before in
+    let start = explored .before .before .before .before .before .before .before .before .before .before in
+    rw (held-expanded-some _ (start .args .list .now) (start .args .n) l (start .pre .3) h 256 _ (start .args .k) (omega arith) (omega arith))
     (explored .explore .ensures l h)
 
 pub expand-spec : {M : Type 1} → statement M
 expand-spec =
     tie.close
-    (tie.spec returns returns-2 mul-e slice-read-e explore-requires same-length returns-3)
+    (tie.spec
+    returns
+    returns-2
+    mul-e
+    slice-read-e
+    explore-requires
+    same-length
+    same-length-2
+    returns-3)

@@ -13,11 +13,14 @@ use Rattle.synthesis.proofs.search.search.Statement.{statement}
 use Rattle.synthesis.proofs.search.search.Tie as tie
 
 abbrev Inv-loop : tie.InvT-loop
-Inv-loop after enabled falsities first list₀ limit n₀ k₀ list n k =
-    (k ≤ limit) × (length list ≡ length list₀) × Holds limit list n (found 256 (answerBy after enabled falsities) k first)
+Inv-loop after enabled falsities first list₀ limit hints₀ n₀ k₀ list hints n k =
+    (k ≤ limit) × (length list ≡ length list₀) × (length hints ≡ 4096) × Holds limit list n (found 256 (answerBy after enabled falsities) k first)
 
 abbrev μ-loop : tie.MeasureT-loop
-μ-loop after enabled falsities first list₀ limit n₀ k₀ list n k = limit - k
+μ-loop after enabled falsities first list₀ limit hints₀ n₀ k₀ list hints n k = limit - k
+
+slice-aggregate-insert : tie.Need-slice-aggregate-insert Inv-loop μ-loop
+slice-aggregate-insert c = search needs
 
 insert-requires : tie.Need-insert-requires Inv-loop μ-loop
 insert-requires c κs = search needs
@@ -25,7 +28,10 @@ insert-requires c κs = search needs
 loop-holds : tie.Need-loop-holds Inv-loop μ-loop
 unfolding found
 loop-holds c =
-    (search needs, search needs, c .before .before .insert .ensures [] (inl (search needs, refl)))
+    (search needs, search needs, search needs, c .before .before .before .insert .ensures [] (inl (search needs, refl)))
+
+slice-aggregate-expand : tie.Need-slice-aggregate-expand Inv-loop μ-loop
+slice-aggregate-expand c = search needs
 
 expand-requires : tie.Need-expand-requires Inv-loop μ-loop
 expand-requires c κs = search needs
@@ -39,18 +45,19 @@ loop-less c = search needs
 loop-again : tie.Need-loop-again Inv-loop μ-loop
 unfolding found
 loop-again c =
-    let taken = c .before .before in
-    let l = taken .before .before .before in (
+    let taken = c .before .before .before in
+    let l = taken .before .before .before .before in (
       search needs,
       search needs,
-      rw (add-one (l .loop .k)) (taken .expand .ensures _ (l .loop .inv .2)),
+      search needs,
+      rw (add-one (l .loop .k)) (taken .expand .ensures _ (l .loop .inv .3)),
     )
 
 same-length : tie.Need-same-length Inv-loop μ-loop
 same-length c = search needs
 
 returns : tie.Need-returns Inv-loop μ-loop
-returns c = rw (le-antisymm (c .before .loop .inv .0) (c .loop-test .left)) at (c .before .loop .inv .2)
+returns c = rw (le-antisymm (c .before .loop .inv .0) (c .loop-test .left)) at (c .before .loop .inv .3)
 
 pub search-spec : {M : Type 1} → statement M
 search-spec =
@@ -58,8 +65,10 @@ search-spec =
     (tie.spec
     Inv-loop
     μ-loop
+    slice-aggregate-insert
     insert-requires
     loop-holds
+    slice-aggregate-expand
     expand-requires
     add-k
     loop-less
