@@ -54,7 +54,7 @@ fn no_line(at: usize) -> ListingLine
 }
 
 // The last code of the run from code c on.
-fn run_end(row: &[u8], c: usize) -> usize
+fn run_end(row: &[u16], c: usize) -> usize
     requires { ⌜ c < length (now row) ⌝ }
     ensures { λ r. ⌜ RunTo (now (row .entry)) c r ⌝ }
 {
@@ -67,7 +67,7 @@ fn run_end(row: &[u8], c: usize) -> usize
 }
 
 // The line of the run at a position after the "equations" line. Code 0 of equation 0 has the position `start`.
-fn row_line(table: &[u8], count: usize, start: usize, at: usize) -> ListingLine
+fn row_line(table: &[u16], count: usize, start: usize, at: usize) -> ListingLine
     requires { ⌜ (start ≤ 34) × (start ≤ at) ⌝ }
     ensures { λ r. ⌜ Gives (rowLineAt (now (table .entry)) count start ((at - start) / 256) ((at - start) % 256) at) r ⌝ }
 {
@@ -96,7 +96,7 @@ fn pattern_count(n: usize) -> usize
 }
 
 // The line of a listing at a position. The next one stands at `next`; at an empty line the listing has ended.
-pub fn listing_line(rule: NumberedRule, table: &[u8], count: usize, at: usize) -> ListingLine
+pub fn listing_line(rule: NumberedRule, table: &[u16], count: usize, at: usize) -> ListingLine
     ensures { λ r. ⌜ r ≡ listingLineAt rule (now (table .entry)) count at ⌝ }
     ensures { λ r. ⌜ Within (r .line) ⌝ }
 {

@@ -40,7 +40,7 @@ pub(crate) fn pattern(i: usize, extent: Extent) -> Line
 }
 
 // A run of equation k.
-pub(crate) fn run(k: usize, first: u8, last: u8, entry: u8) -> Line
+pub(crate) fn run(k: usize, first: u8, last: u8, entry: u16) -> Line
     ensures { λ r. ⌜ Prints (runLine k (codeRun first last entry)) r ⌝ }
 {
     Line::empty()

@@ -79,8 +79,8 @@ impl Line {
     }
 
     // The line with a space and an entry of a table.
-    pub(crate) fn entry(self, entry: u8) -> Self
-        requires { ⌜ Room self 5 ⌝ }
+    pub(crate) fn entry(self, entry: u16) -> Self
+        requires { ⌜ Room self 6 ⌝ }
         ensures { λ r. ⌜ Adds self (text " " ++ answerText (meaning mark entry)) r ⌝ }
     {
         if entry == DROPPED {

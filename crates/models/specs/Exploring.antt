@@ -75,8 +75,8 @@ Seen seen p = getD seen p 0 ≡ 1
 
 -- The worklist: the pairs seen are `found` many, and they are those listed first. The ones that are not yet expanded are the frontier.
 pub record Worklist (seen pairs : List ℕ) (found : ℕ) : Type 0 where
-  pub seen-length : length seen ≡ 8192
-  pub pairs-length : length pairs ≡ 8192
+  pub seen-length : length seen ≡ pairLimit
+  pub pairs-length : length pairs ≡ pairLimit
   pub counted : occurrences 1 seen ≡ found
   pub seen-listed : (p : ℕ) → Seen seen p → (i : ℕ) × (i < found) × (getD pairs i 0 ≡ p)
   pub listed-seen : (i : ℕ) → i < found → Seen seen (getD pairs i 0)

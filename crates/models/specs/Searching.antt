@@ -16,7 +16,7 @@ use Rattle.models.specs.declared.exploring.Cursor.{Cursor}
 -- The measure of the search, a bound on the steps that may still be followed: those left of the pair that is being expanded, and 512 for it and
 -- each that may come after it.
 abbrev pub searchMeasure : Cursor → ℕ
-searchMeasure at = 512 * (8192 - at .index) + at .step
+searchMeasure at = 512 * (pairLimit - at .index) + at .step
 
 -- the first of the listed pairs from `index` on whose state has a step; the end where none has
 pub record NextPair (last pairs : List ℕ) (index found : ℕ) (r : Cursor) : Type 0 where
@@ -78,8 +78,8 @@ module _ (steps : List Step) (l : Links) (table : List ℕ) where
   -- the invariant of the search: what is known where it is at a cursor
   pub record SearchInvariant (seen pairs : List ℕ) (at : Cursor) : Type 0 where
     pub searchable : Searchable
-    pub seen-length : length seen ≡ 8192
-    pub pairs-length : length pairs ≡ 8192
+    pub seen-length : length seen ≡ pairLimit
+    pub pairs-length : length pairs ≡ pairLimit
     pub step-inside : at .step ≤ 512
     pub expanding : 0 < at .step → Expanding seen pairs at
     pub finished : at .step ≡ 0 → Searched (at .dropped)

@@ -5,6 +5,7 @@ use crate::Step;
 use crate::links;
 use crate::steps::nth_step;
 use synthesis::DROPPED;
+use synthesis::MOST;
 ghost use mathlib.Core.Path.{_≡_};
 ghost use mathlib.Core.Logic.{_↔_};
 ghost use mathlib.Core.Bool.{true};
@@ -15,8 +16,11 @@ ghost use Rattle.synthesis.specs.Monitor.{mark, most, rowOf, lookup};
 ghost use Rattle.synthesis.specs.Table.{WellFormedTable};
 ghost use Rattle.models.specs.Phone.{Phone, noStep, modelOf};
 ghost use Rattle.models.specs.Judging.{stored};
-ghost use Rattle.models.specs.Exploring.{NeverDrops, HasPhone, linksOf, Worklist, Enqueued, leadsTo};
+ghost use Rattle.models.specs.Exploring.{NeverDrops, HasPhone, pairLimit, linksOf, Worklist, Enqueued, leadsTo};
 ghost use Rattle.models.specs.Searching.{SearchInvariant, Searched, searchMeasure, NextPair};
+
+// How many pairs there may be.
+const PAIRS: usize = 64 * MOST;
 
 // Where the search is. found: how many pairs have been seen. index, pair: the index in the worklist, and the pair, that is being expanded. step:
 // one more than the number of the step that comes next; 0 at the end. dropped: whether a step was dropped.
@@ -30,7 +34,7 @@ pub(crate) struct Cursor {
 
 // Puts a pair on the worklist, unless it was seen before, and says how many have been seen.
 fn enqueue(seen: &mut [u8], pairs: &mut [u16], found: usize, pair: usize) -> usize
-    requires { ⌜ Worklist (now seen) (now pairs) found × (pair < 8192) ⌝ }
+    requires { ⌜ Worklist (now seen) (now pairs) found × (pair < pairLimit) ⌝ }
     ensures { λ r. ⌜ Enqueued pair (now (seen .entry)) (now (pairs .entry)) found (now (seen .exit)) (now (pairs .exit)) r ⌝ }
 {
     if seen[pair] == 1 {
@@ -42,7 +46,7 @@ fn enqueue(seen: &mut [u8], pairs: &mut [u16], found: usize, pair: usize) -> usi
 }
 
 // The equation to which a step with this label leads; DROPPED where it is dropped.
-fn equation_after(table: &[u8], equation: usize, label: u16) -> usize
+fn equation_after(table: &[u16], equation: usize, label: u16) -> usize
     requires { ⌜ (256 * equation + 256 ≤ length (now table)) × (label ≤ 256) ⌝ }
     ensures { λ r. ⌜ r ≡ leadsTo (rowOf 256 (now (table .entry)) equation) equation label ⌝ }
 {
@@ -54,7 +58,7 @@ fn equation_after(table: &[u8], equation: usize, label: u16) -> usize
 
 // The first listed pair from `index` on whose state has a step; the end where none has.
 fn next_pair(last: &[u16], pairs: &[u16], index: usize, found: usize) -> Cursor
-    requires { ⌜ (length (now last) ≡ 64) × (length (now pairs) ≡ 8192) × (index ≤ found) × (found ≤ 8192) ⌝ }
+    requires { ⌜ (length (now last) ≡ 64) × (length (now pairs) ≡ pairLimit) × (index ≤ found) × (found ≤ pairLimit) ⌝ }
     ensures { λ r. ⌜ NextPair (now (last .entry)) (now (pairs .entry)) index found r ⌝ }
 {
     let mut index = index;
@@ -100,7 +104,7 @@ fn follow(
     step: Step,
     last: &[u16],
     earlier: &[u16],
-    table: &[u8],
+    table: &[u16],
     seen: &mut [u8],
     pairs: &mut [u16],
 ) -> Cursor
@@ -140,7 +144,7 @@ fn search(
     from: Cursor,
     last: &[u16],
     earlier: &[u16],
-    table: &[u8],
+    table: &[u16],
     seen: &mut [u8],
     pairs: &mut [u16],
 ) -> bool
@@ -168,7 +172,7 @@ fn search_array(
     from: Cursor,
     last: &[u16],
     earlier: &[u16],
-    table: &[u8],
+    table: &[u16],
     seen: &mut [u8],
     pairs: &mut [u16],
 ) -> bool
@@ -179,7 +183,7 @@ fn search_array(
 }
 
 // Whether no pair that is reached has a step that is dropped. Each pair is expanded once.
-pub(crate) fn never_drops(model: PhoneModel, table: &[u8]) -> bool
+pub(crate) fn never_drops(model: PhoneModel, table: &[u16]) -> bool
     requires { ⌜ HasPhone model × ((count : ℕ) × WellFormedTable most mark count (now table)) ⌝ }
     ensures { λ r. ⌜ ((y : Phone) → model ≡ stored y → (r ≡ true) ↔ NeverDrops (lookup 256 mark (now (table .entry))) 0 (modelOf y)) ⌝ }
 {
@@ -187,8 +191,8 @@ pub(crate) fn never_drops(model: PhoneModel, table: &[u8]) -> bool
     let steps = model.steps;
     let last = links.last;
     let earlier = links.earlier;
-    let mut seen = [0u8; 8192];
-    let mut pairs = [0u16; 8192];
+    let mut seen = [0u8; PAIRS];
+    let mut pairs = [0u16; PAIRS];
     let found = enqueue(&mut seen, &mut pairs, 0, 0);
     let from = next_pair(&last, &pairs, 0, found);
     !search_array(steps, from, &last, &earlier, table, &mut seen, &mut pairs)

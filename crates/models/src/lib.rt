@@ -8,7 +8,9 @@ mod steps;
 use reading::FileRead;
 use records::StatesRead;
 use synthesis::Counted;
+use synthesis::MOST;
 ghost use mathlib.Core.Path.{_≡_};
+ghost use Prim.Native.Nat.{min};
 ghost use lib.ListN.{length};
 ghost use Rattle.synthesis.specs.Monitor.{mark, most};
 ghost use Rattle.synthesis.specs.Building.{fillingOf, countedOf, tableAfter};
@@ -111,10 +113,10 @@ fn refuse_model(answer: FileRead) -> Judged
 }
 
 // What is said where the model is refused: the refusals of the rule, and then 10, come first.
-fn refuse(rule: &[u8], capacity: usize, answer: FileRead) -> Judged
-    ensures { λ r. ⌜ r ≡ refusalBefore (countedOf (fillingOf most (now (rule .entry)) capacity)) answer ⌝ }
+fn refuse(rule: &[u8], limit: usize, capacity: usize, answer: FileRead) -> Judged
+    ensures { λ r. ⌜ r ≡ refusalBefore (countedOf (fillingOf (min limit most) (now (rule .entry)) capacity)) answer ⌝ }
 {
-    let counted = synthesis::count(rule);
+    let counted = synthesis::count_within(rule, limit);
     let Counted::Equations(n) = counted else {
         return refuse_rule(counted);
     };
@@ -124,21 +126,21 @@ fn refuse(rule: &[u8], capacity: usize, answer: FileRead) -> Judged
     refuse_model(answer)
 }
 
-// Judges whether the model of a file meets the rule of another, and leaves the rule's rows in the table as filling does. A refused call
+// Judges whether the model of a file meets the rule of another, and leaves the rule's rows in the table as filling within the limit does. A refused call
 // leaves the table as it was: the model is read before a row is written.
-pub fn judge(rule: &[u8], model: &[u8], table: &mut [u8]) -> Judged
-    ensures { λ r. ⌜ JudgedAs (judgingOf most (now (rule .entry)) (length (now (table .entry))) (now (model .entry))) r ⌝ }
+pub fn judge_within(rule: &[u8], model: &[u8], limit: usize, table: &mut [u16]) -> Judged
+    ensures { λ r. ⌜ JudgedAs (judgingOf (min limit most) (now (rule .entry)) (length (now (table .entry))) (now (model .entry))) r ⌝ }
     ensures { λ _. ⌜ now (table .exit)
-        ≡ tableJudged (judgingOf most (now (rule .entry)) (length (now (table .entry))) (now (model .entry)))
-        (tableAfter mark (fillingOf most (now (rule .entry)) (length (now (table .entry)))) (now (table .entry)))
+        ≡ tableJudged (judgingOf (min limit most) (now (rule .entry)) (length (now (table .entry))) (now (model .entry)))
+        (tableAfter mark (fillingOf (min limit most) (now (rule .entry)) (length (now (table .entry)))) (now (table .entry)))
         (now (table .entry)) ⌝ }
 {
     let reading = read_model(model);
     let answer = reading.answer;
     let FileRead::Accepted = answer else {
-        return refuse(rule, table.len(), answer);
+        return refuse(rule, limit, table.len(), answer);
     };
-    let filled = synthesis::fill(rule, table);
+    let filled = synthesis::fill_within(rule, limit, table);
     let Counted::Equations(_) = filled else {
         return refuse_rule(filled);
     };
@@ -146,4 +148,15 @@ pub fn judge(rule: &[u8], model: &[u8], table: &mut [u8]) -> Judged
         return Judged::Meets;
     }
     Judged::Breaks
+}
+
+// The same under the most equations that a rule may have.
+pub fn judge(rule: &[u8], model: &[u8], table: &mut [u16]) -> Judged
+    ensures { λ r. ⌜ JudgedAs (judgingOf most (now (rule .entry)) (length (now (table .entry))) (now (model .entry))) r ⌝ }
+    ensures { λ _. ⌜ now (table .exit)
+        ≡ tableJudged (judgingOf most (now (rule .entry)) (length (now (table .entry))) (now (model .entry)))
+        (tableAfter mark (fillingOf most (now (rule .entry)) (length (now (table .entry)))) (now (table .entry)))
+        (now (table .entry)) ⌝ }
+{
+    judge_within(rule, model, MOST, table)
 }

@@ -18,13 +18,13 @@ use Rattle.running.proofs.Buffers.{standsAt, stands-next, stands-all, F
 module _ (mark : ℕ) (table : List ℕ) (s : State) (output₀ buffer₀ scans : List ℕ) where
   -- what holds after i of the scans, with the bound that the code needs
   pub record After (output buffer : List ℕ) (from keeps i : ℕ) : Type 0 where
-    pub small : from < 65536
+    pub small : from < 16777216
     pub from-is : from ≡ 256 * standsAt (answerIn mark table) s scans i .equation
     pub filled : Filled (answerIn mark table) s output₀ buffer₀ scans output buffer keeps i
 
   -- what the iteration writes and goes on with is told by equations, as its calls tell it
   pub after-next : (output buffer : List ℕ) (from keeps i : ℕ) → After output buffer from keeps i → i < length scans
-      → length scans ≤ length output₀ → length scans ≤ length buffer₀ → (entry : ℕ) → entry < 256
+      → length scans ≤ length output₀ → length scans ≤ length buffer₀ → (entry : ℕ) → entry < 65536
       → entry ≡ getD (rowOf 256 table (from / 256)) (getD scans i 0) mark
       → {x v from′ k : ℕ} → x ≡ cond (eqb entry mark) (getD output keeps 0) (getD scans i 0) → v ≡ cond (eqb entry mark) 1 0
       → from′ ≡ cond (eqb entry mark) from (256 * entry) → k ≡ cond (eqb entry mark) 0 1
@@ -46,7 +46,7 @@ module _ (mark : ℕ) (table : List ℕ) (s : State) (output₀ buffer₀ scans 
       at : State
       at = standsAt F s scans i
 
-      from-bound : (b : Bool) → cond b from (256 * entry) < 65536
+      from-bound : (b : Bool) → cond b from (256 * entry) < 16777216
       from-bound true = omega arith
       from-bound false = omega arith
 
@@ -65,7 +65,7 @@ module _ (mark : ℕ) (table : List ℕ) (s : State) (output₀ buffer₀ scans 
   row-begin-is : 256 * s .equation / 256 ≡ s .equation
   row-begin-is = mul-div-right (s .equation) (omega arith)
 
-  pub after-none : s .equation < 256
+  pub after-none : s .equation < 65536
       → After mark table (stateAt (256 * s .equation)) output₀ buffer₀ scans output₀ buffer₀ (256 * s .equation) 0 0
   after-none r = record {
     small = omega arith;

@@ -8,7 +8,7 @@ ghost use Rattle.synthesis.specs.Monitor.{mark, most};
 ghost use Rattle.running.specs.Running.{inRange, entriesInRange, isWellFormed, fits, hasRoom, runOf, checkedOf};
 
 // Whether an entry is the mark for dropped or the number of an equation.
-fn in_range(entry: u8, count: u8) -> bool
+fn in_range(entry: u16, count: u16) -> bool
     ensures { λ r. ⌜ r ≡ inRange mark count entry ⌝ }
 {
     if entry == DROPPED {
@@ -18,7 +18,7 @@ fn in_range(entry: u8, count: u8) -> bool
 }
 
 // Whether all entries are in range. There is no way out before the last, so that many can be looked at in one step.
-fn entries_in_range(entries: &[u8], count: u8) -> bool
+fn entries_in_range(entries: &[u16], count: u16) -> bool
     ensures { λ r. ⌜ r ≡ entriesInRange mark count (now (entries .entry)) ⌝ }
 {
     let mut all = true;
@@ -32,7 +32,7 @@ fn entries_in_range(entries: &[u8], count: u8) -> bool
 }
 
 // Whether the table is well formed for so many equations.
-fn is_well_formed(table: &[u8], count: usize) -> bool
+fn is_well_formed(table: &[u16], count: usize) -> bool
     ensures { λ r. ⌜ r ≡ isWellFormed most mark (now (table .entry)) count ⌝ }
 {
     if count == 0 {
@@ -45,11 +45,11 @@ fn is_well_formed(table: &[u8], count: usize) -> bool
     if table.len() < end {
         return false;
     }
-    entries_in_range(&table[..end], count as u8)
+    entries_in_range(&table[..end], count as u16)
 }
 
 // Whether it is, and the state's equation is one of them.
-pub(crate) fn fits(table: &[u8], count: usize, state: State) -> bool
+pub(crate) fn fits(table: &[u16], count: usize, state: State) -> bool
     ensures { λ r. ⌜ r ≡ fits most mark (now (table .entry)) count state ⌝ }
 {
     if !is_well_formed(table, count) {
@@ -70,7 +70,7 @@ pub(crate) fn has_room(scans: &[u8], output: usize, verdicts: usize) -> bool
 
 // Whether a run is refused: 15 comes before 16.
 pub(crate) fn check(
-    table: &[u8],
+    table: &[u16],
     count: usize,
     state: State,
     scans: &[u8],

@@ -16,9 +16,9 @@ pub(crate) struct End {
 }
 
 // The entry of an equation for a code, from the row of the equation; DROPPED where the row has none.
-pub(crate) fn entry(table: &[u8], equation: usize, code: u8) -> usize
+pub(crate) fn entry(table: &[u16], equation: usize, code: u8) -> usize
     ensures { λ r. ⌜ r ≡ getD (rowOf 256 (now (table .entry)) equation) code mark ⌝ }
-    ensures { λ r. ⌜ r < 256 ⌝ }
+    ensures { λ r. ⌜ r < 65536 ⌝ }
 {
     let entries = row(table, equation);
     let at = code as usize;
@@ -45,7 +45,7 @@ pub(crate) fn either_byte(first: bool, a: u8, b: u8) -> u8
 // Runs over the scans. What goes from scan to scan is where the row of the equation begins. For a dropped scan the byte of the output is
 // written back as it was: so nothing in the compiled loop jumps on an entry.
 pub(crate) fn follow(
-    table: &[u8],
+    table: &[u16],
     state: State,
     scans: &[u8],
     output: &mut [u8],

@@ -80,7 +80,7 @@ pub fn start() -> State
 // Runs the monitor of a table with `count` equations over scans. The kept scans go to the front of the output, and one verdict a scan
 // to the front of the verdicts: 0 kept, 1 dropped. A refused call changes nothing and hands back the state that it was given.
 pub fn run(
-    table: &[u8],
+    table: &[u16],
     count: usize,
     state: State,
     scans: &[u8],
@@ -140,7 +140,7 @@ fn unchanged(number: u8, duty: Duty) -> Changed
 
 // A rule comes on under a number, with `count` equations, whose table begins at `base` of what is lent. It is the last, and in its first equation. A
 // refused call hands back the state that it was given.
-pub fn come_on(duty: Duty, number: u8, tables: &[u8], base: usize, count: usize) -> Changed
+pub fn come_on(duty: Duty, number: u8, tables: &[u16], base: usize, count: usize) -> Changed
     ensures { λ r. ⌜ r ≡ changedOf duty (comingOf most mark duty number (now (tables .entry)) base count) ⌝ }
 {
     if !is_sound(duty) {
@@ -195,7 +195,7 @@ pub fn go_off(duty: Duty, number: u8) -> Changed
 
 // Whether a run on duty would be refused, with an output and verdicts of these lengths.
 pub fn check_on_duty(
-    tables: &[u8],
+    tables: &[u16],
     duty: Duty,
     scans: &[u8],
     output: usize,
@@ -219,7 +219,7 @@ pub fn check_on_duty(
 // Runs the monitors of all rules on duty over scans: a scan is kept when none of them would drop it, and then moves all of them. The buffers are
 // written as by `run`. A refused call changes nothing and hands back the state that it was given.
 pub fn run_on_duty(
-    tables: &[u8],
+    tables: &[u16],
     duty: Duty,
     scans: &[u8],
     output: &mut [u8],

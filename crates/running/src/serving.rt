@@ -20,7 +20,7 @@ ghost use Rattle.running.specs.Duty.{vacant, inPlaces, movedTo, someDrop
 ghost use Rattle.running.specs.Places.{inPlace, standing};
 
 // Whether a rule's table is well formed, and its equation one of the table's.
-pub(crate) fn fits_at(tables: &[u8], rule: OnDuty) -> bool
+pub(crate) fn fits_at(tables: &[u16], rule: OnDuty) -> bool
     ensures { λ r. ⌜ r ≡ fitsAt most mark (now (tables .entry)) rule ⌝ }
 {
     let base = rule.base;
@@ -34,7 +34,7 @@ pub(crate) fn fits_at(tables: &[u8], rule: OnDuty) -> bool
 }
 
 // Whether each of the first n rules is fit.
-pub(crate) fn all_fit(tables: &[u8], rules: [OnDuty; 4], n: usize) -> bool
+pub(crate) fn all_fit(tables: &[u16], rules: [OnDuty; 4], n: usize) -> bool
     requires { ⌜ n ≤ 4 ⌝ }
     ensures { λ r. ⌜ r ≡ all (fitsAt most mark (now (tables .entry))) (inPlaces n rules) ⌝ }
 {
@@ -50,9 +50,9 @@ pub(crate) fn all_fit(tables: &[u8], rules: [OnDuty; 4], n: usize) -> bool
 }
 
 // The entry for a code in the table that begins at `base`; DROPPED where there is none.
-fn own_entry(tables: &[u8], base: usize, equation: usize, code: u8) -> usize
+fn own_entry(tables: &[u16], base: usize, equation: usize, code: u8) -> usize
     ensures { λ r. ⌜ r ≡ getD (rowOf 256 (drop base (now (tables .entry))) equation) code mark ⌝ }
-    ensures { λ r. ⌜ r < 256 ⌝ }
+    ensures { λ r. ⌜ r < 65536 ⌝ }
 {
     if tables.len() < base {
         return DROPPED as usize;
@@ -104,7 +104,7 @@ struct LookedInPlace {
 
 // Looks the scan up in the table of the rule in a place. Where no rule has the place, none drops the scan.
 fn look_in_place(
-    tables: &[u8],
+    tables: &[u16],
     taken: bool,
     rule: OnDuty,
     equation: usize,
@@ -133,7 +133,7 @@ struct Looked {
 }
 
 // Looks the scan up in the table of each of the first n rules. There is no loop over the places, so that the equations need not stand in memory.
-fn look(tables: &[u8], rules: [OnDuty; 4], equations: [usize; 4], n: usize, code: u8) -> Looked
+fn look(tables: &[u16], rules: [OnDuty; 4], equations: [usize; 4], n: usize, code: u8) -> Looked
     requires { ⌜ n ≤ 4 ⌝ }
     ensures { λ r. ⌜ r .drops ≡ someDrops mark (now (tables .entry)) (standing n rules equations) code ⌝ }
     ensures { λ r. ⌜ standing n rules (r .equations)
@@ -163,7 +163,7 @@ pub(crate) struct DutyEnd {
 
 // Runs over the scans under the first n rules. A kept scan moves every rule, a dropped one none.
 pub(crate) fn follow_all(
-    tables: &[u8],
+    tables: &[u16],
     rules: [OnDuty; 4],
     n: usize,
     scans: &[u8],

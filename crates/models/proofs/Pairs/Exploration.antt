@@ -54,7 +54,7 @@ module _ (steps : List Step) (l : Links) (table : List ℕ) (steps-range : (i : 
 
   -- ---- the first pair seen
 
-  pub explored-start : (seen pairs : List ℕ) (found : ℕ) → Enqueued 0 (replicate 8192 0) (replicate 8192 0) 0 seen pairs found
+  pub explored-start : (seen pairs : List ℕ) (found : ℕ) → Enqueued 0 (replicate pairLimit 0) (replicate pairLimit 0) 0 seen pairs found
       → Explored steps l table seen pairs found 0
   explored-start seen pairs found enqueued = record {
     worklist = enqueued .extended .worklist;
@@ -67,8 +67,8 @@ module _ (steps : List Step) (l : Links) (table : List ℕ) (steps-range : (i : 
       seen-is-start : (p : ℕ) → Seen seen p → p ≡ 0
       seen-is-start p h = on (enqueued .extended .adds-only p h)
         where
-          on : Seen (replicate 8192 0) p ⊎ (p ≡ 0) → p ≡ 0
-          on (inl z) = absurd (omega (arith, z, repeated-at {A = ℕ} 0 8192 p))
+          on : Seen (replicate pairLimit 0) p ⊎ (p ≡ 0) → p ≡ 0
+          on (inl z) = absurd (omega (arith, z, repeated-at {A = ℕ} 0 pairLimit p))
           on (inr e) = e
 
   -- ---- one more pair expanded

@@ -97,7 +97,7 @@ module _ {steps : List Step} {l : Links} {table seen pairs : List ℕ} {at : Cur
       (expansion .explored .inside _ (s .searchable .well-formed) _
       (pair-seen steps l table (s .searchable .steps-range) _ _ _ _ (expansion .explored) (expansion .more)))
 
-  pub index-inside : at .index < 8192
+  pub index-inside : at .index < pairLimit
   index-inside = omega (arith, expansion .more, found-at-most _ _ _ (expansion .explored .worklist))
 
   pub index-before : at .index < at .found
@@ -192,7 +192,7 @@ module _ {model : PhoneModel} {l : Links} {table : List ℕ} (has : HasPhone mod
   }
 
   -- its first cursor
-  pub invariant-start : {seen pairs : List ℕ} {found : ℕ} {r : Cursor} → Enqueued 0 (replicate 8192 0) (replicate 8192 0) 0 seen pairs found
+  pub invariant-start : {seen pairs : List ℕ} {found : ℕ} {r : Cursor} → Enqueued 0 (replicate pairLimit 0) (replicate pairLimit 0) 0 seen pairs found
       → NextPair (l .last) pairs 0 found r → SearchInvariant (model .steps) l table seen pairs r
   invariant-start enqueued next =
       invariant-next-pair stored-searchable (explored-start (model .steps) l table (stored-step has) _ _ _ enqueued) next

@@ -18,7 +18,7 @@ use Rattle.models.proofs.Pairs.Occurrences.{occurrences-few, occurrence
 -- ---- enqueueing a pair
 
 module _ (seen pairs : List ℕ) (found : ℕ) (w : Worklist seen pairs found) where
-  pub found-at-most : found ≤ 8192
+  pub found-at-most : found ≤ pairLimit
   found-at-most = omega (arith, occurrences-few 1 seen, w .counted, w .seen-length)
 
   pub extended-same : (P : ℕ → Type 0) → Extended P seen pairs found seen pairs found
@@ -27,12 +27,12 @@ module _ (seen pairs : List ℕ) (found : ℕ) (w : Worklist seen pairs found) w
   pub enqueued-old : (pair : ℕ) → Seen seen pair → Enqueued pair seen pairs found seen pairs found
   enqueued-old pair h = record { extended = extended-same (λ p. p ≡ pair); is-seen = h }
 
-  module _ (pair : ℕ) (inside : pair < 8192) (new : Seen seen pair → ⊥) where
+  module _ (pair : ℕ) (inside : pair < pairLimit) (new : Seen seen pair → ⊥) where
     occurrences-enqueued : occurrences 1 (set seen pair 1) ≡ suc found
     occurrences-enqueued = occurrences-set 1 seen pair (omega (arith, w .seen-length)) new ∙ rw (w .counted)
 
     -- there is room for a new one
-    pub found-room : found < 8192
+    pub found-room : found < pairLimit
     found-room = omega (arith, occurrences-enqueued, occurrences-few 1 (set seen pair 1), length-set seen pair 1, w .seen-length)
 
     set-seen : Seen (set seen pair 1) pair
@@ -85,12 +85,12 @@ module _ (seen pairs : List ℕ) (found : ℕ) (w : Worklist seen pairs found) w
 
 -- ---- the empty worklist, and one extended twice
 
-pub worklist-none : Worklist (replicate 8192 0) (replicate 8192 0) 0
+pub worklist-none : Worklist (replicate pairLimit 0) (replicate pairLimit 0) 0
 worklist-none = record {
-  seen-length = length-replicate {A = ℕ} 8192 0;
-  pairs-length = length-replicate {A = ℕ} 8192 0;
-  counted = occurrences-none 1 0 8192 (λ e. omega arith);
-  seen-listed = λ p h. absurd (omega (arith, h, repeated-at {A = ℕ} 0 8192 p));
+  seen-length = length-replicate {A = ℕ} pairLimit 0;
+  pairs-length = length-replicate {A = ℕ} pairLimit 0;
+  counted = occurrences-none 1 0 pairLimit (λ e. omega arith);
+  seen-listed = λ p h. absurd (omega (arith, h, repeated-at {A = ℕ} 0 pairLimit p));
   listed-seen = λ i h. absurd (omega arith);
 }
 

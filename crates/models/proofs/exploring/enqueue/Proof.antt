@@ -7,7 +7,7 @@ use Rattle.models.proofs.exploring.enqueue.Statement.{statement}
 use Rattle.models.proofs.exploring.enqueue.Tie as tie
 
 -- where a new pair is listed
-room : (c : tie.Else1) → c .before .before .args .found < 8192
+room : (c : tie.Else1) → c .before .before .args .found < pairLimit
 room c = found-room _ _ _ (c .before .before .pre .0) _ (c .before .before .pre .1) (c .if1 .left)
 
 slice-read-if1 : tie.Need-slice-read-if1

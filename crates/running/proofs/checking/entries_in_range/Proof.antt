@@ -23,6 +23,9 @@ loop-holds : tie.Need-loop-holds Inv-loop μ-loop
 unfolding all
 loop-holds c = search needs
 
+mul-in-range : tie.Need-mul-in-range Inv-loop μ-loop
+mul-in-range c = search needs
+
 shared-slice-read-in-range : tie.Need-shared-slice-read-in-range Inv-loop μ-loop
 shared-slice-read-in-range c = search needs
 
@@ -56,6 +59,7 @@ entries-in-range-spec =
     Inv-loop
     μ-loop
     loop-holds
+    mul-in-range
     shared-slice-read-in-range
     in-range-requires
     add-i

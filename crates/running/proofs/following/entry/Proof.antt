@@ -12,6 +12,9 @@ use Rattle.running.proofs.following.entry.Tie as tie
 row-requires : tie.Need-row-requires
 row-requires c κs = search needs
 
+mul-result : tie.Need-mul-result
+mul-result c = search needs
+
 shared-slice-read-result : tie.Need-shared-slice-read-result
 shared-slice-read-result c = search needs
 
@@ -39,4 +42,4 @@ returns-2 c =
     )
 
 pub entry-spec : {M : Type 1} → statement M
-entry-spec = tie.close (tie.spec row-requires shared-slice-read-result cast-result returns cast-result-2 returns-2)
+entry-spec = tie.close (tie.spec row-requires mul-result shared-slice-read-result cast-result returns cast-result-2 returns-2)

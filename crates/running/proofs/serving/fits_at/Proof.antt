@@ -12,6 +12,9 @@ returns c =
     let x = c .before .before .args in
     sym (no-table most mark (x .tables .now) (x .rule) (omega arith))
 
+mul-fits : tie.Need-mul-fits
+mul-fits c = search needs
+
 sub-fits : tie.Need-sub-fits
 sub-fits c = search needs
 
@@ -30,4 +33,4 @@ returns-2 c =
     rw (part-rest (x .rule .base) (x .tables .now)) at (c .fits2 .ensures)
 
 pub fits-at-spec : {M : Type 1} → statement M
-fits-at-spec = tie.close (tie.spec returns sub-fits part-fits-start part-fits-end fits-requires returns-2)
+fits-at-spec = tie.close (tie.spec returns mul-fits sub-fits part-fits-start part-fits-end fits-requires returns-2)

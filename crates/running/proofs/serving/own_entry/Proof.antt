@@ -15,6 +15,9 @@ returns c =
     let x = c .before .before .args in
     (rw (row-none 256 (drop (x .base) (x .tables .now)) (x .equation) (omega (arith, length-drop (x .base) (x .tables .now)))), search needs)
 
+mul-entry : tie.Need-mul-entry
+mul-entry c = search needs
+
 sub-entry : tie.Need-sub-entry
 sub-entry c = search needs
 
@@ -33,4 +36,4 @@ returns-2 c =
     rw (part-rest (x .base) (x .tables .now)) at (c .entry .ensures)
 
 pub own-entry-spec : {M : Type 1} → statement M
-own-entry-spec = tie.close (tie.spec cast-result returns sub-entry part-entry-start part-entry-end entry-requires returns-2)
+own-entry-spec = tie.close (tie.spec cast-result returns mul-entry sub-entry part-entry-start part-entry-end entry-requires returns-2)
