@@ -7,7 +7,7 @@ use mathlib.Core.Bool.{cond}
 use mathlib.Core.List.{List}
 use lib.Dec.{eqb}
 use lib.ListN.{length, getD}
-use Rattle.synthesis.specs.Monitor.{mark, Answer, dropped, next}
+use Rattle.synthesis.specs.Monitor.{mark, most, Answer, dropped, next}
 use Rattle.running.specs.Running.{occurrences}
 use Rattle.enforcement.specs.Model.{silent, code, Model}
 use Rattle.models.specs.Phone.{Phone, noStep, PhoneWithinLimits}
@@ -68,6 +68,10 @@ pub data OnChain (l : Links) : (step i : ℕ) → Type 0 where
   chain-later : {i j : ℕ} → OnChain l (getD (l .earlier) j 0) i → OnChain l (suc j) i
 
 -- ---- the search
+
+-- how many pairs there may be: 64 states beside each of the most equations
+abbrev pub pairLimit : ℕ
+pairLimit = 64 * most
 
 -- a pair has been seen
 abbrev pub Seen : (seen : List ℕ) → (pair : ℕ) → Type 0

@@ -8,7 +8,7 @@ use lib.ListN.{length, getD}
 use Rattle.synthesis.specs.Monitor.{mark, most, rowOf, lookup}
 use Rattle.synthesis.specs.Table.{WellFormedTable}
 use Rattle.models.specs.Phone.{Phone, noStep, modelOf, WellFormedStep}
-use Rattle.models.specs.Exploring.{ReachablePair, NeverDrops, Chains, LinksInRange, Seen, Worklist, Outgoing, Followed, PartlyExpanded}
+use Rattle.models.specs.Exploring.{ReachablePair, NeverDrops, Chains, LinksInRange, pairLimit, Seen, Worklist, Outgoing, Followed, PartlyExpanded}
 use Rattle.models.specs.declared.Step.{Step}
 use Rattle.models.specs.declared.links.Links.{Links}
 use Rattle.models.specs.declared.exploring.Cursor.{Cursor}

@@ -10,6 +10,7 @@ pub mod Joins
 pub mod Functions
 pub mod Promises
 pub mod ShortPromises
+pub mod LimitPromises
 pub mod PreviewPromises
 pub mod AlikePromises
 pub mod JoinPromises

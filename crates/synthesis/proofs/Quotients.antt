@@ -11,3 +11,4 @@ pub mod ShortFillings
 pub mod Minimal
 pub mod ShortOrder
 pub mod OnlyTable
+pub mod TwoLimits

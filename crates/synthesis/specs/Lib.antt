@@ -14,6 +14,7 @@ pub mod Reason
 pub mod ReasonPromises
 pub mod Promises
 pub mod ShortPromises
+pub mod LimitPromises
 pub mod PreviewPromises
 pub mod AlikePromises
 pub mod JoinPromises

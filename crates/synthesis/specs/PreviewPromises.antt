@@ -1,38 +1,22 @@
--- What this crate promises of the rule page, as statements over the definitions; proofs/ has a theorem of each of these types. The first is over any two
--- limits. The others are in the terms of the contracts of `count_preview`, `fill_preview`, `count` and `fill`; those that name the desk rest on the first.
+-- What this crate promises of the rule page, as statements over the definitions; proofs/ has a theorem of each of these types. They
+-- are in the terms of the contracts of `count_preview`, `fill_preview`, `count` and `fill`; those that name the desk rest on `LimitsAgree` of specs/LimitPromises.antt.
 use Prim.Native.Nat.{ℕ, _*_, _≤_, _<_}
 use mathlib.Core.Path.{_≡_}
 use mathlib.Core.Logic.{_↔_}
 use mathlib.Core.List.{List, []}
 use lib.ListN.{length}
 use Rattle.reading.specs.Rule.{Rule, Bytes}
-use Rattle.reading.specs.File.{Outcome, accepted, refused, andThen, ruleOf}
+use Rattle.reading.specs.File.{Outcome, accepted, ruleOf}
 use Rattle.synthesis.specs.Violation.{ViolatesRule}
 use Rattle.synthesis.specs.Monitor.{mark, most, rowOf}
-use Rattle.synthesis.specs.Building.{Synthesis, withinLimit, synthesisOf, fillingOf, countedOf, tableAfter, tableLeft, Fills}
+use Rattle.synthesis.specs.Building.{Synthesis, synthesisOf, fillingOf, countedOf, tableAfter, tableLeft, Fills}
 use Rattle.synthesis.specs.Building.{previewLimit, previewOf, previewFillingOf}
 use Rattle.synthesis.specs.Promises.{FillsAsCounted, TableUnchanged, Closed}
 use Rattle.synthesis.specs.declared.Counted.the-variants.{Equations, Refused}
 
--- ---- any two limits
-
--- 1. The shared result, for any file. Under the smaller limit it has the outcome that it has under the larger, and then 9 where its equations are over
--- the smaller. So what the smaller accepts the larger accepts, with the same rule, equations and answers; each refusal
--- of the larger is one of the smaller, 9 too; and each of the smaller but 9 is one of the larger. A table too is filled alike, or refused alike, where the
--- smaller accepts the file.
-pub record AgreeOn (limit limit′ : ℕ) (s : List ℕ) : Type 0 where
-  pub by-limit : synthesisOf limit s ≡ andThen (synthesisOf limit′ s) (withinLimit limit)
-  pub accepts : (y : Synthesis) → synthesisOf limit s ≡ accepted y → synthesisOf limit′ s ≡ accepted y
-  pub others : (number place : ℕ) → (number ≡ 9 → ⊥) → synthesisOf limit s ≡ refused number place → synthesisOf limit′ s ≡ refused number place
-  pub refuses : (number place : ℕ) → synthesisOf limit′ s ≡ refused number place → synthesisOf limit s ≡ refused number place
-  pub fills : (y : Synthesis) → synthesisOf limit s ≡ accepted y → (capacity : ℕ) → fillingOf limit s capacity ≡ fillingOf limit′ s capacity
-
-abbrev pub LimitsAgree : Type 0
-LimitsAgree = (limit limit′ : ℕ) (s : List ℕ) → limit ≤ limit′ → AgreeOn limit limit′ s
-
 -- ---- what the page shows
 
--- 2. The page answers n exactly where the desk does and n is at most 32.
+-- 1. The page answers n exactly where the desk does and n is at most 32.
 abbrev pub PreviewCounts : Type 0
 PreviewCounts = (s : List ℕ) (n : ℕ) → (countedOf (previewOf s) ≡ Equations n) ↔ ((countedOf (synthesisOf most s) ≡ Equations n) × (n ≤ previewLimit))
 
@@ -68,7 +52,7 @@ pub record OverLimit (limit : ℕ) (s : List ℕ) : Type 0 where
   pub not-by-empty : ViolatesRule rule [] → ⊥
   pub none-closed : (es : List ℕ) → length es ≤ limit → Closed rule es → ⊥
 
--- 3. Counting on the page answers 18 exactly there, at place 0; and so does filling, since it is refused where counting is, and else with 10 alone.
+-- 2. Counting on the page answers 18 exactly there, at place 0; and so does filling, since it is refused where counting is, and else with 10 alone.
 abbrev pub PreviewRefusesTooMany : Type 0
 PreviewRefusesTooMany =
     (s : List ℕ) (place : ℕ) → Bytes s → (countedOf (previewOf s) ≡ Refused 18 place) ↔ ((place ≡ 0) × OverLimit previewLimit s)
@@ -97,7 +81,7 @@ PreviewRefusedUnchanged =
     (s table : List ℕ) (number place : ℕ) → countedOf (previewFillingOf s (length table)) ≡ Refused number place
     → TableUnchanged mark table (previewFillingOf s (length table))
 
--- 4. What the desk answers with a count and the page refuses, the page refuses with 18 at place 0, and the count is over 32.
+-- 3. What the desk answers with a count and the page refuses, the page refuses with 18 at place 0, and the count is over 32.
 abbrev pub MoreAtDesk : (page desk : Outcome Synthesis) → Type 0
 MoreAtDesk page desk =
     (n number place : ℕ) → countedOf desk ≡ Equations n → countedOf page ≡ Refused number place → (number ≡ 18) × (place ≡ 0) × (previewLimit < n)
@@ -110,7 +94,6 @@ DeskShowsMore =
 
 -- The theorem `preview-promises` has this type, so that each promise has its proof.
 pub record PreviewPromises : Type 0 where
-  pub limits-agree : LimitsAgree
   pub preview-counts : PreviewCounts
   pub preview-fills-as-counted : PreviewFillsAsCounted
   pub preview-agrees : PreviewAgrees

@@ -74,7 +74,7 @@ module _ (five : Five (RefT (List ℕ))) where
   pub record Rooms : Type 0 where
     pub last-room : Room u16 (length (last .now))
     pub earlier-room : Room u16 (length (earlier .now))
-    pub table-room : Room u8 (length (table .now))
+    pub table-room : Room u16 (length (table .now))
     pub seen-room : Room u8 (length (seen .now))
     pub pairs-room : Room u16 (length (pairs .now))
 
@@ -83,7 +83,7 @@ module _ (five : Five (RefT (List ℕ))) where
 -- at the lifetimes κs, the first of which has the name i
 module _ (i : ℕ) (κs : Lfts 5) where
   abbrev pub slice-rows : List RattleType
-  slice-rows = ShrSlice (named i) (κs .0) u16 ∷ ShrSlice (named (i + 1)) (κs .1 .0) u16 ∷ ShrSlice (named (i + 2)) (κs .1 .1 .0) u8
+  slice-rows = ShrSlice (named i) (κs .0) u16 ∷ ShrSlice (named (i + 1)) (κs .1 .0) u16 ∷ ShrSlice (named (i + 2)) (κs .1 .1 .0) u16
       ∷ MutSlice (named (i + 3)) (κs .1 .1 .1 .0) u8 ∷ MutSlice (named (i + 4)) (κs .1 .1 .1 .1 .0) u16 ∷ []
 
   abbrev pub slices-spell : Spells slice-rows
@@ -95,7 +95,7 @@ module _ (i : ℕ) (κs : Lfts 5) where
     (
       shr-slice-tells (named (i + 1)) (κs .1 .0) u16,
       (
-        shr-slice-tells (named (i + 2)) (κs .1 .1 .0) u8,
+        shr-slice-tells (named (i + 2)) (κs .1 .1 .0) u16,
         (mut-slice-tells (named (i + 3)) (κs .1 .1 .1 .0) u8, (mut-slice-tells (named (i + 4)) (κs .1 .1 .1 .1 .0) u16, tt)),
       ),
     ),

@@ -14,7 +14,7 @@ use Rattle.synthesis.specs.Table.{WellFormedTable}
 use Rattle.enforcement.specs.Model.{Label}
 use Rattle.models.specs.Phone.{Phone, noStep, labelOf, StepIn, modelOf, WellFormedStep}
 use Rattle.models.specs.Exploring.{ReachablePair, begin, silently, keeping, NeverDrops}
-use Rattle.models.specs.Exploring.{OnChain, Seen, Enqueued, Outgoing, equationAfter, Successor, Followed, PartlyExpanded}
+use Rattle.models.specs.Exploring.{OnChain, pairLimit, Seen, Enqueued, Outgoing, equationAfter, Successor, Followed, PartlyExpanded}
 use Rattle.models.specs.Searching.{OfPhone, rowAt, ReachablePairNumber, Expanded, Explored, Searched}
 use Rattle.models.specs.declared.Step.{Step}
 use Rattle.models.specs.declared.links.Links.{Links}

@@ -14,7 +14,7 @@ use Rattle.synthesis.specs.Monitor.{mark, most, lookup}
 use Rattle.synthesis.specs.Table.{RowInRange, WellFormedTable}
 use Rattle.models.specs.Phone.{Phone, noStep, modelOf}
 use Rattle.models.specs.Judging.{stored}
-use Rattle.models.specs.Exploring.{NeverDrops, HasPhone, Chains, LinksInRange, Worklist, Enqueued, leadsTo, equationAfter, PartlyExpanded}
+use Rattle.models.specs.Exploring.{NeverDrops, HasPhone, Chains, LinksInRange, pairLimit, Worklist, Enqueued, leadsTo, equationAfter, PartlyExpanded}
 use Rattle.models.specs.Searching.{NextPair, rowAt, Expanded, Explored, Expanding, Searchable, Searched, SearchInvariant}
 use Rattle.models.specs.declared.Step.{Step}
 use Rattle.models.specs.declared.PhoneModel.{PhoneModel}

@@ -12,7 +12,7 @@ use lib.Seq.{getD-set-same, getD-set-other}
 use borrow.Author.Tests.{eqb-true, eqb-false}
 use Rattle.reading.proofs.Numbering.NumberedLaws.{repeated-at}
 use Rattle.running.specs.Running.{occurrences}
-use Rattle.models.specs.Exploring.{Seen, Worklist, Extended, Enqueued}
+use Rattle.models.specs.Exploring.{pairLimit, Seen, Worklist, Extended, Enqueued}
 use Rattle.models.proofs.Pairs.Occurrences.{occurrences-few, occurrences-set, occurrences-none}
 
 -- ---- enqueueing a pair

@@ -1,6 +1,6 @@
 -- What is answered and left of the short table. Counting for it is refused as counting is; it is filled, as the long one is, from a closed list; and
 -- under the renaming from the long table it drops, keeps and monitors alike.
-use Prim.Native.Nat.{ℕ, _≤_, _<_}
+use Prim.Native.Nat.{ℕ, _*_, _≤_, _<_}
 use mathlib.Core.Path.{_≡_, refl, sym, _∙_, ap, subst}
 use mathlib.Core.List.{List}
 use native.Mathlib.Omega.{arith}
@@ -9,7 +9,7 @@ use Rattle.reading.specs.Rule.{Rule}
 use Rattle.reading.specs.File.{accepted, ruleOf}
 use Rattle.synthesis.specs.Monitor.{Monitors, lookup}
 use Rattle.synthesis.specs.Table.{WellFormedTable}
-use Rattle.synthesis.specs.Building.{Synthesis, withEquations, synthesisOf, countedOf, tableAfter, tableLeft, shortened, shortOf, shortFillingOf}
+use Rattle.synthesis.specs.Building.{Synthesis, withEquations, synthesisOf, countedOf, tableAfter, tableLeft, numberedAnswer, shortened, shortOf, shortFillingOf}
 use Rattle.synthesis.specs.Promises.{SameAfterRows}
 use Rattle.synthesis.specs.ShortPromises.{RefusesAlike, ShortRefusesAlike, ShortRefusedUnchanged, ShortFillsAccepted, ShortOfRule, ShortDropsAlike}
 use Rattle.synthesis.specs.ShortPromises.{ShortMonitors, ShortDrops, ShortInRange, ShortRest}
@@ -18,12 +18,13 @@ use Rattle.synthesis.proofs.Monitors.MonitorLaws.{drops-violations}
 use Rattle.synthesis.proofs.Monitors.Renaming.{renamed-runs, renamed-monitors}
 use Rattle.synthesis.proofs.Tables.SynthesisOutcomes.{synthesis-accepts, counted-accepts, counted-refuses}
 use Rattle.synthesis.proofs.Tables.SynthesisOutcomes.{short-accepts, short-accepted, short-refused, short-filling-by-count, filling-accepted}
-use Rattle.synthesis.proofs.Tables.TableMonitors.{filled-well-formed, filled-same-after}
+use Rattle.synthesis.proofs.Tables.TableMonitors.{table-numbered, filled-well-formed, filled-same-after}
 use Rattle.synthesis.proofs.Tables.Built.{outcome-unchanged, zeroRows, zero-rows, fills-count, table-monitors}
+use Rattle.synthesis.proofs.Numberings.Finding.{ClosedUnder}
 use Rattle.synthesis.proofs.Quotients.Firsts.{firsts-length}
 use Rattle.synthesis.proofs.Quotients.Quotient.{firsts-closed}
 use Rattle.synthesis.proofs.Quotients.ShortTables.{count, classes, number, count-some, rule-inside, rule-settled, some-class, number-zero}
-use Rattle.synthesis.proofs.Quotients.ShortTables.{shortened-count, Shortens, counted-shortens, shortens, fills-long, firsts-few, rows-rename}
+use Rattle.synthesis.proofs.Quotients.ShortTables.{shortened-count, Shortens, counted-shortens, shortens, fills-long, rows-rename}
 
 -- ---- answers
 
@@ -103,21 +104,53 @@ short-monitors limit mark s table r n short b =
 pub short-drops : ShortDrops
 short-drops limit mark s table r n short b = drops-violations r (lookup 256 mark short) 0 (short-monitors limit mark s table r n short b)
 
--- ---- the bytes of the table
+-- ---- the rows of the table
+
+-- the equations of a synthesis lead to each other, there is one, and there are at most as many as the limit
+record ClosedWithin (limit : ℕ) (z : Synthesis) : Type 0 where
+  closed : ClosedUnder 256 (z .answer) (z .equations)
+  some : 0 < length (z .equations)
+  few : length (z .equations) ≤ limit
+
+-- the first equations of the classes do so
+closed-short : (limit : ℕ) (s : List ℕ) (y : Synthesis) → synthesisOf limit s ≡ accepted y → ClosedWithin limit (shortened y)
+unfolding shortened
+closed-short limit s = synthesis-accepts limit s (λ y. ClosedWithin limit (shortened y)) (λ r read h few. record {
+  closed = firsts-closed (rule-settled limit r few) (rule-inside limit r few);
+  some = some-class limit r few;
+  few = omega (arith, firsts-length (classes limit r) (count limit r), few);
+})
+
+module _ (limit mark : ℕ) (s table : List ℕ) (z : Synthesis) (e : shortFillingOf limit s (length table) ≡ accepted z) where
+  filled-closed : ClosedWithin limit z × (256 * length (z .equations) ≤ length table)
+  filled-closed =
+      let (short, room) = filling-accepted (length table) (short-filling-by-count limit s (length table)) z e in
+      let (y, is, made) = short-accepted limit s z short in
+      (rw made at (closed-short limit s y is), room)
+
+  pub short-well-formed : WellFormedTable limit mark (length (z .equations)) (tableAfter mark (shortFillingOf limit s (length table)) table)
+  short-well-formed =
+      let (c, room) = filled-closed in
+      rw e (filled-well-formed limit mark (z .answer) (z .equations) table room (c .closed) (c .some) (c .few))
+
+  -- each entry of the table is what its row answers, by numbers
+  pub short-numbers : limit ≤ mark → (k c : ℕ) → c < 256 → k < length (z .equations)
+      → lookup 256 mark (tableAfter mark (shortFillingOf limit s (length table)) table) k c ≡ numberedAnswer z k c
+  short-numbers below k c b h =
+      let (w, room) = filled-closed in
+      let few : length (z .equations) ≤ mark = omega (arith, w .few) in
+      rw e (table-numbered 256 mark (z .answer) (z .equations) (w .closed) table room few k c h b)
+
+-- ---- the entries after the last row
 
 module _ {limit mark : ℕ} {s table : List ℕ} {r : Rule} {n : ℕ} {left : List ℕ} (x : Shortens limit mark s table r n left) where
-  shortens-well-formed : WellFormedTable limit mark n left
-  shortens-well-formed =
-      let few = x .counted .few in
-      rw (x .filled-is, x .count-is)
-      (filled-well-formed limit mark _ _ table (x .room) (firsts-closed (rule-settled limit r few) (rule-inside limit r few)) (some-class limit r few)
-      (firsts-few x))
-
   shortens-rest : SameAfterRows n table left
   shortens-rest = rw (x .filled-is, x .count-is) (filled-same-after limit mark _ _ table (x .room))
 
 pub short-in-range : ShortInRange
-short-in-range limit mark s table r n left b = shortens-well-formed (shortens b)
+short-in-range limit mark s table r n left b =
+    let (z, is, n-is) = counted-accepts (shortFillingOf limit s (length table)) n (b .counted) in
+    rw (b .left-is, n-is) (short-well-formed limit mark s table z is)
 
 pub short-rest : ShortRest
 short-rest limit mark s table r n left b = shortens-rest (shortens b)

@@ -16,7 +16,7 @@ use Rattle.synthesis.specs.Monitor.{Answer}
 use Rattle.synthesis.specs.Answering.{firstOf, answerOf, unsatisfiable}
 use Rattle.synthesis.specs.Search.{found}
 use Rattle.synthesis.specs.Building.{equationsOf, Synthesis, withEquations, withinLimit, synthesisOfRule, synthesisOf}
-use Rattle.synthesis.specs.PreviewPromises.{AgreeOn, LimitsAgree}
+use Rattle.synthesis.specs.LimitPromises.{AgreeOn, LimitsAgree}
 use Rattle.synthesis.proofs.Numberings.Finding.{grows-length, expanded-grows, expanded-none}
 use Rattle.synthesis.proofs.Tables.SynthesisOutcomes.{filling-by-count}
 

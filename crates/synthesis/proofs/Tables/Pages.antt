@@ -13,7 +13,7 @@ use Rattle.reading.specs.File.{Outcome, accepted, refused, refuse, andThen}
 use Rattle.reading.proofs.Basics.Outcomes.{never-accepted, never-refused}
 use Rattle.synthesis.specs.Monitor.{most}
 use Rattle.synthesis.specs.Building.{Synthesis, synthesisOf, inTable, fillingOf, countedOf, previewLimit, onPage, previewOf, previewFillingOf}
-use Rattle.synthesis.specs.PreviewPromises.{AgreeOn}
+use Rattle.synthesis.specs.LimitPromises.{AgreeOn}
 use Rattle.synthesis.specs.declared.Counted.the-variants.{Equations}
 use Rattle.synthesis.proofs.Tables.SynthesisOutcomes.{counted-accepts, filling-by-count}
 use Rattle.synthesis.proofs.Tables.Limits.{limits-agree}

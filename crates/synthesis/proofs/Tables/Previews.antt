@@ -1,36 +1,26 @@
 -- What the rule page shows. It accepts what the smaller limit accepts, and so does the desk, with the same synthesis; so the counts are the same, and a
 -- table is filled with the same rows.
-use Prim.Native.Nat.{ℕ, _≤_, _<_}
+use Prim.Native.Nat.{ℕ, _<_}
 use mathlib.Core.Path.{_≡_, sym, _∙_, ap}
 use mathlib.Core.List.{List}
 use native.Mathlib.Omega.{arith}
 use lib.ListN.{length}
-use borrow.Author.Tests.{le-ltb}
 use Rattle.reading.specs.File.{Outcome, andThen}
 use Rattle.synthesis.specs.Monitor.{mark, most, rowOf}
 use Rattle.synthesis.specs.Building.{Synthesis, synthesisOf, inTable, fillingOf, countedOf, tableAfter}
 use Rattle.synthesis.specs.Building.{previewLimit, previewOf, previewFillingOf}
 use Rattle.synthesis.specs.PreviewPromises.{PreviewCounts, PreviewFillsAsCounted, PreviewAgrees, PreviewFillsAccepted}
 use Rattle.synthesis.specs.declared.Counted.the-variants.{Equations}
-use Rattle.synthesis.proofs.Tables.SynthesisOutcomes.{synthesis-accepts, counted-accepts, filling-by-count, filled-as-counted}
+use Rattle.synthesis.proofs.Tables.SynthesisOutcomes.{counted-accepts, filling-by-count, filled-as-counted}
 use Rattle.synthesis.proofs.Tables.Built.{counted-row, fills-accepted}
-use Rattle.synthesis.proofs.Tables.Pages.{page-agrees, preview-is, preview-by-count, preview-accepted}
+use Rattle.synthesis.proofs.Tables.Pages.{preview-by-count, preview-accepted, preview-within}
+use Rattle.synthesis.proofs.Quotients.TwoLimits.{old-rules-stay}
 
 pub preview-counts : PreviewCounts
-preview-counts s n = (shown, shows)
-  where
-    shown : countedOf (previewOf s) ≡ Equations n → (countedOf (synthesisOf most s) ≡ Equations n) × (n ≤ previewLimit)
-    shown e =
-        let (y, is, n-is) = counted-accepts (previewOf s) n e in
-        let (smaller, larger) = preview-accepted s y is in (
-          ap countedOf larger ∙ ap Equations (sym n-is),
-          omega (arith, n-is, synthesis-accepts previewLimit s (λ y. length (y .equations) ≤ previewLimit) (λ r read h few. few) y smaller),
-        )
-
-    shows : (countedOf (synthesisOf most s) ≡ Equations n) × (n ≤ previewLimit) → countedOf (previewOf s) ≡ Equations n
-    shows (e, few) =
-        let (y, is, n-is) = counted-accepts (synthesisOf most s) n e in
-        rw (preview-is s, page-agrees s .by-limit, is, le-ltb previewLimit (length (y .equations)) (omega (arith, few, n-is))) (ap Equations (sym n-is))
+preview-counts s n =
+    let page = preview-within s n in
+    let desk = old-rules-stay previewLimit most s (omega arith) .counted n in
+    (λ e. desk .0 (page .0 e), λ shown. page .1 (desk .1 shown))
 
 pub preview-fills-as-counted : PreviewFillsAsCounted
 preview-fills-as-counted s capacity = filled-as-counted capacity (preview-by-count s capacity)

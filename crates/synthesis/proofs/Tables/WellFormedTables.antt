@@ -1,4 +1,4 @@
--- Well-formed tables by their bytes: entry c of row k is byte 256 × k + c, and every byte before the end of the rows is such an entry.
+-- Well-formed tables by their elements: entry c of row k is element 256 × k + c, and every element before the end of the rows is such an entry.
 use Prim.Native.Nat.{ℕ, _+_, _*_, _/_, _%_, _-_, _≤_, _<_}
 use mathlib.Core.Path.{_≡_, refl, sym, _∙_, ap, subst}
 use mathlib.Core.Logic.{inl, inr}
@@ -28,7 +28,12 @@ row-in-range-weaken mark count most h row fits = record { whole = fits .whole; r
     wider x (inl e) = inl e
     wider x (inr less) = inr (omega arith)
 
--- ---- the bytes of a well-formed table
+-- a table that is well formed within a limit is so within any greater one
+pub well-formed-weaken : {limit mark count : ℕ} {table : List ℕ} (limit′ : ℕ) → limit ≤ limit′ → WellFormedTable limit mark count table
+    → WellFormedTable limit′ mark count table
+well-formed-weaken limit′ h wf = record { some = wf .some; few = omega (arith, wf .few); row = wf .row }
+
+-- ---- the entries of a well-formed table
 
 module _ {limit mark count : ℕ} {table : List ℕ} (wf : WellFormedTable limit mark count table) where
   -- it has room for its rows

@@ -2,6 +2,7 @@
 use Prim.Native.Nat.{_<_}
 use native.Mathlib.Omega.{arith}
 use borrow.Author.Needs.{needs}
+use Rattle.models.specs.Exploring.{pairLimit}
 use Rattle.models.proofs.Pairs.WorklistLaws.{enqueued-old, found-room, enqueued-new}
 use Rattle.models.proofs.exploring.enqueue.Statement.{statement}
 use Rattle.models.proofs.exploring.enqueue.Tie as tie

@@ -18,6 +18,9 @@ mul-result c = search needs
 add-result : tie.Need-add-result
 add-result c = search needs
 
+mul-result-2 : tie.Need-mul-result-2
+mul-result-2 c = search needs
+
 shared-slice-read-result : tie.Need-shared-slice-read-result
 shared-slice-read-result c = search needs
 
@@ -36,4 +39,4 @@ returns-2 c =
 pub equation-after-spec : {M : Type 1} → statement M
 equation-after-spec =
     tie.close
-    (tie.spec returns mul-result add-result shared-slice-read-result cast-result returns-2)
+    (tie.spec returns mul-result add-result mul-result-2 shared-slice-read-result cast-result returns-2)

@@ -99,7 +99,7 @@ search-spec 𝓤 H 𝓜 𝓖 𝓡 =
           (
             goes-dropped 𝓤 H (𝓖 .A) W 6 (shrSliceOf (2 ∷ []) tt (plain (λ _. u16))) yes (λ κs x f. refl),
             (
-              goes-dropped 𝓤 H (𝓖 .A) W 6 (shrSliceOf (3 ∷ []) tt (plain (λ _. u8))) yes (λ κs x f. refl),
+              goes-dropped 𝓤 H (𝓖 .A) W 6 (shrSliceOf (3 ∷ []) tt (plain (λ _. u16))) yes (λ κs x f. refl),
               (goes-slice 𝓤 H (𝓖 .A) W 6 4 tt (plain (λ _. u8)), (goes-slice 𝓤 H (𝓖 .A) W 6 5 tt (plain (λ _. u16)), tt)),
             ),
           ),

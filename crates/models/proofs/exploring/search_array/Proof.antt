@@ -121,7 +121,7 @@ search-array-spec 𝓤 H 𝓜 𝓖 𝓡 =
           (
             goes-dropped 𝓤 H (𝓖 .A) W 5 (shrSliceOf (1 ∷ []) tt (plain (λ _. u16))) yes (λ κs x f. refl),
             (
-              goes-dropped 𝓤 H (𝓖 .A) W 5 (shrSliceOf (2 ∷ []) tt (plain (λ _. u8))) yes (λ κs x f. refl),
+              goes-dropped 𝓤 H (𝓖 .A) W 5 (shrSliceOf (2 ∷ []) tt (plain (λ _. u16))) yes (λ κs x f. refl),
               (goes-gave-slice 𝓤 H (𝓖 .A) W 5 3 tt (plain (λ _. u8)), (goes-gave-slice 𝓤 H (𝓖 .A) W 5 4 tt (plain (λ _. u16)), tt)),
             ),
           ),

@@ -1,6 +1,6 @@
 -- `filling::fill_row` meets its contract. The row has the entries of the codes so far; the measure is how many codes are left.
 use Prim.Native.Nat.{_-_, _≤_}
-use mathlib.Core.Path.{_≡_, _∙_}
+use mathlib.Core.Path.{_≡_}
 use mathlib.Core.List.{_++_}
 use native.Mathlib.Omega.{arith}
 use lib.ListN.{length, take, drop}
@@ -49,7 +49,7 @@ loop-again c =
       search needs,
       search needs,
       search needs,
-      entries-next mark _ _ _ _ _ _ (l .loop .inv .3) _ (omega arith) (entered .entry .ensures ∙ rw (entered .before .before .reached .ensures)),
+      entries-next mark _ _ _ _ _ _ (l .loop .inv .3) _ (omega arith) (rw (entered .before .before .reached .ensures) at (entered .entry .ensures)),
     )
 
 same-length : tie.Need-same-length Inv-loop μ-loop

@@ -222,7 +222,7 @@ module _ {M : Type 1} (𝓤 : URA M) (H : Heap 𝓤) (A : Atoms 𝓤) (W : Given
           move ! (14 ∷ []) $ use1 W (‵ (Earlier κs a) ⊛ ‵ (Earlier κs a))
           (shr-slice-copy 𝓤 H A W (named 2) (κs .1 .1 .0) u16 .twice (earlier (a .1 .1)) (slice-vals (earlier (a .1 .1)))) $ split ! $
           move ! (16 ∷ []) $ use1 W (‵ (Table κs a) ⊛ ‵ (Table κs a))
-          (shr-slice-copy 𝓤 H A W (named 3) (κs .1 .1 .1 .0) u8 .twice (table (a .1 .1)) (slice-vals (table (a .1 .1)))) $ split ! $
+          (shr-slice-copy 𝓤 H A W (named 3) (κs .1 .1 .1 .0) u16 .twice (table (a .1 .1)) (slice-vals (table (a .1 .1)))) $ split ! $
           -- [table twice; earlier twice; last twice; pairs; on loan; seen; on loan; ν′; ν; the step; the token of steps; steps; three tokens]
           at-once ! $ show ! (λ (n : Loans). sep 𝓤 (Follow 𝓤 H A mem run .pre (to-follow s u n)) (⋆ 𝓤 H A (Left n))) (ν, ν′, δ, δ′) $
           move ! (15 ∷ 16 ∷ 17 ∷ 11 ∷ 10 ∷ 12 ∷ 4 ∷ 2 ∷ 0 ∷ 8 ∷ 6 ∷ []) $ group ! 11 $

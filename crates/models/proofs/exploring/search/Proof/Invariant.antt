@@ -86,7 +86,7 @@ module _ (κs : Lfts 6) (a : Args search.signature κs) where
   Earlier = ShrSlice (named 2) (κs .1 .1 .0) u16 .own (earlier (a .1 .1)) (slice-vals (earlier (a .1 .1)))
 
   abbrev pub Table : Fml
-  Table = ShrSlice (named 3) (κs .1 .1 .1 .0) u8 .own (table (a .1 .1)) (slice-vals (table (a .1 .1)))
+  Table = ShrSlice (named 3) (κs .1 .1 .1 .0) u16 .own (table (a .1 .1)) (slice-vals (table (a .1 .1)))
 
   abbrev pub SeenSlice : List ℕ → Fml
   SeenSlice ys = MutSlice (named 4) (κs .1 .1 .1 .1 .0) u8 .own (slice-at (seen (a .1 .1) .ptr) (seen (a .1 .1) .name) ys) (slice-vals (seen (a .1 .1)))

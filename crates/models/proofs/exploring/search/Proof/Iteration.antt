@@ -77,7 +77,7 @@ module _ {M : Type 1} (𝓤 : URA M) (H : Heap 𝓤) (A : Atoms 𝓤) (W : Given
     (l₀ l₁ l₂ l₃ l₄ l₅ l₆ l₇ l₈ l₉ l₁₀ l₁₁ l₁₂ l₁₃ l₁₄ l₁₅ : ℕ) where
   abbrev pub En : Env 𝓤 H
   En = (tyBool, l₀) ∷ (shared 0 step.behindTy, l₁) ∷ (cursorTy, l₂) ∷ (shared 1 (tyInt w16), l₃) ∷ (shared 2 (tyInt w16), l₄)
-      ∷ (shared 3 (tyInt w8), l₅) ∷ (unique 4 (tyInt w8), l₆) ∷ (unique 5 (tyInt w16), l₇) ∷ (cursorTy, l₈) ∷ (tyBool, l₉)
+      ∷ (shared 3 (tyInt w16), l₅) ∷ (unique 4 (tyInt w8), l₆) ∷ (unique 5 (tyInt w16), l₇) ∷ (cursorTy, l₈) ∷ (tyBool, l₉)
       ∷ (step.stepTy, l₁₀) ∷ (tyInt w64, l₁₁) ∷ (tyRef erased mut (tyInt w8), l₁₂) ∷ (relent (tyInt w8), l₁₃)
       ∷ (tyRef erased mut (tyInt w16), l₁₄) ∷ (relent (tyInt w16), l₁₅) ∷ []
 
@@ -95,7 +95,7 @@ module _ {M : Type 1} (𝓤 : URA M) (H : Heap 𝓤) (A : Atoms 𝓤) (W : Given
       ∷ ‵ (froom tyBool l₉ 0) ∷ ‵ (fdies tyBool l₉) ∷ ‵ (fat fullShare cursorTy l₈ 0 (struct.low the-cursor (t .at))) ∷ ‵ (fdies cursorTy l₈)
       ∷ ‵ (fat fullShare (unique 5 (tyInt w16)) l₇ 0 (val (pairs (a .1 .1)))) ∷ ‵ (fdies (unique 5 (tyInt w16)) l₇)
       ∷ ‵ (fat fullShare (unique 4 (tyInt w8)) l₆ 0 (val (seen (a .1 .1)))) ∷ ‵ (fdies (unique 4 (tyInt w8)) l₆)
-      ∷ ‵ (fat fullShare (shared 3 (tyInt w8)) l₅ 0 (val (table (a .1 .1)))) ∷ ‵ (fdies (shared 3 (tyInt w8)) l₅)
+      ∷ ‵ (fat fullShare (shared 3 (tyInt w16)) l₅ 0 (val (table (a .1 .1)))) ∷ ‵ (fdies (shared 3 (tyInt w16)) l₅)
       ∷ ‵ (fat fullShare (shared 2 (tyInt w16)) l₄ 0 (val (earlier (a .1 .1)))) ∷ ‵ (fdies (shared 2 (tyInt w16)) l₄)
       ∷ ‵ (fat fullShare (shared 1 (tyInt w16)) l₃ 0 (val (last (a .1 .1)))) ∷ ‵ (fdies (shared 1 (tyInt w16)) l₃)
       ∷ ‵ (fat fullShare cursorTy l₂ 0 (struct.low the-cursor (state.from κs a))) ∷ ‵ (fdies cursorTy l₂)
