@@ -46,7 +46,7 @@ pub extern "C" fn jarveun_count(rule: &[u8], value: &mut usize) -> u8
 
 // Fills a table with the rows of a rule's equations.
 #[no_mangle]
-pub extern "C" fn jarveun_fill(rule: &[u8], table: &mut [u8], value: &mut usize) -> u8
+pub extern "C" fn jarveun_fill(rule: &[u8], table: &mut [u16], value: &mut usize) -> u8
     ensures { λ r. ⌜ r ≡ countedResult (countedOf (fillingOf most (now (rule .entry)) (length (now (table .entry))))) .number ⌝ }
     ensures { λ _. ⌜ now (value .exit) ≡ countedResult (countedOf (fillingOf most (now (rule .entry)) (length (now (table .entry))))) .value ⌝ }
     ensures { λ _. ⌜ now (table .exit) ≡ tableAfter mark (fillingOf most (now (rule .entry)) (length (now (table .entry)))) (now (table .entry)) ⌝ }
@@ -65,7 +65,7 @@ pub extern "C" fn jarveun_count_preview(rule: &[u8], value: &mut usize) -> u8
 
 // Fills a table with their rows.
 #[no_mangle]
-pub extern "C" fn jarveun_fill_preview(rule: &[u8], table: &mut [u8], value: &mut usize) -> u8
+pub extern "C" fn jarveun_fill_preview(rule: &[u8], table: &mut [u16], value: &mut usize) -> u8
     ensures { λ r. ⌜ r ≡ countedResult (countedOf (previewFillingOf (now (rule .entry)) (length (now (table .entry))))) .number ⌝ }
     ensures { λ _. ⌜ now (value .exit) ≡ countedResult (countedOf (previewFillingOf (now (rule .entry)) (length (now (table .entry))))) .value ⌝ }
     ensures { λ _. ⌜ now (table .exit) ≡ tableAfter mark (previewFillingOf (now (rule .entry)) (length (now (table .entry)))) (now (table .entry)) ⌝ }
@@ -84,7 +84,7 @@ pub extern "C" fn jarveun_count_short(rule: &[u8], value: &mut usize) -> u8
 
 // Fills a table with these rows.
 #[no_mangle]
-pub extern "C" fn jarveun_fill_short(rule: &[u8], table: &mut [u8], value: &mut usize) -> u8
+pub extern "C" fn jarveun_fill_short(rule: &[u8], table: &mut [u16], value: &mut usize) -> u8
     ensures { λ r. ⌜ r ≡ countedResult (countedOf (shortFillingOf most (now (rule .entry)) (length (now (table .entry))))) .number ⌝ }
     ensures { λ _. ⌜ now (value .exit) ≡ countedResult (countedOf (shortFillingOf most (now (rule .entry)) (length (now (table .entry))))) .value ⌝ }
     ensures { λ _. ⌜ now (table .exit) ≡ tableAfter mark (shortFillingOf most (now (rule .entry)) (length (now (table .entry)))) (now (table .entry)) ⌝ }
@@ -121,7 +121,7 @@ pub extern "C" fn jarveun_explain(rule: &[u8], kept: &[u8], scan: u8, value: &mu
 pub extern "C" fn jarveun_judge(
     rule: &[u8],
     model: &[u8],
-    table: &mut [u8],
+    table: &mut [u16],
     value: &mut usize,
 ) -> u8
     ensures { λ r. ⌜ ((answer : Judged) × JudgedAs (judgingOf most (now (rule .entry)) (length (now (table .entry))) (now (model .entry))) answer
@@ -161,7 +161,7 @@ fn number_of(checked: Checked) -> u8
 // Answers 0, or the number of a refusal, whose place is 0.
 #[no_mangle]
 pub extern "C" fn jarveun_run(
-    table: &[u8],
+    table: &[u16],
     count: usize,
     equation: &mut usize,
     scans: &[u8],

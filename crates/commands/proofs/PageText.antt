@@ -1,4 +1,4 @@
--- The text of the rule page. The page's filling and the desk's accept the same synthesis, so the text that is due is the listing of the same rule and
+-- The text of the rule page. The page's filling, the library's and that of the programs accept the same synthesis, so the text that is due is the listing of the same rule and
 -- count, and line by line over the two tables it is the same.
 use Prim.Native.Nat.{ℕ, _+_, _*_, _≤_, _<_}
 use mathlib.Core.Path.{_≡_, sym, _∙_, ap, subst}
@@ -11,15 +11,17 @@ use Rattle.reading.specs.File.{Outcome, accepted, ruleOf}
 use Rattle.reading.specs.Numbered.{readingOf, numbered}
 use Rattle.reading.proofs.Accepting.Accepted.{accepts-encodings}
 use Rattle.synthesis.specs.Monitor.{mark, most, rowOf}
-use Rattle.synthesis.specs.Building.{Synthesis, synthesisOf, fillingOf, countedOf, tableAfter, previewOf, previewFillingOf}
+use Rattle.synthesis.specs.Building.{Synthesis, synthesisOf, fillingOf, countedOf, tableAfter, previewLimit, previewOf, previewFillingOf}
 use Rattle.synthesis.specs.declared.Counted.the-variants.{Equations}
 use Rattle.synthesis.proofs.Tables.SynthesisOutcomes.{synthesis-accepts, counted-accepts, filling-by-count, filling-accepts}
+use Rattle.synthesis.proofs.Tables.Limits.{limits-agree}
+use Rattle.synthesis.proofs.Tables.Pages.{preview-accepted}
 use Rattle.synthesis.proofs.Tables.Previews.{preview-same, preview-agrees}
 use Rattle.listing.specs.Lines.{listing}
 use Rattle.listing.specs.Positions.{linesFrom}
 use Rattle.listing.proofs.AllLines.{lists-rule}
 use Rattle.listing.proofs.SameRows.{lines-same}
-use Rattle.commands.specs.Printing.{textFor}
+use Rattle.commands.specs.Printing.{programLimit, textFor}
 use Rattle.commands.specs.Promises.{TextOfPage, PreviewText}
 
 -- the listing of a rule goes by the rows that it lists
@@ -62,6 +64,8 @@ module _ (s : List ℕ) (n : ℕ) (bytes : Bytes s) (e : countedOf (previewOf s)
 
 pub preview-text : PreviewText
 preview-text s n bytes e table table′ room room′ =
-    let (y, is, n-is) = counted-accepts (synthesisOf most s) n (preview-agrees s n e .count) in
+    let (y, shown, n-is) = counted-accepts (previewOf s) n e in
+    let (smaller, is) = preview-accepted s y shown in
+    let in-program = limits-agree previewLimit programLimit s (omega arith) .accepts y smaller in
     let read = synthesis-accepts most s (λ y. ruleOf s ≡ accepted (y .rule)) (λ r read satisfiable few. read) y is in
-    subst (λ o. TextOfPage s table n (textFor o (tableAfter mark o table′))) (sym is) (text-of s n bytes e table table′ room room′ y is n-is read)
+    subst (λ o. TextOfPage s table n (textFor o (tableAfter mark o table′))) (sym in-program) (text-of s n bytes e table table′ room room′ y is n-is read)

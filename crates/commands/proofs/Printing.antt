@@ -18,28 +18,28 @@ use Rattle.models.specs.Phone.{Phone}
 use Rattle.models.proofs.Files.Settled.{settled-by-first-bytes as model-settled}
 use Rattle.listing.specs.Positions.{linesFrom}
 use Rattle.listing.proofs.AllLines.{lists-rule}
-use Rattle.commands.specs.Printing.{textFor, ListingStops, Stops, printed}
+use Rattle.commands.specs.Printing.{programLimit, textFor, ListingStops, Stops, printed}
 use Rattle.commands.specs.Promises.{PrintsAnswer, SettledByBuffer, JudgmentSettledByBuffer}
 use Rattle.commands.proofs.Leading.{lines-end}
 
 -- as many lines as the listing of an accepted rule has are the listing
-accepted-prints : (s table : List ℕ) (lines : ℕ) → Bytes s → (y : Synthesis) → synthesisOf 128 s ≡ accepted y
+accepted-prints : (s table : List ℕ) (lines : ℕ) → Bytes s → (y : Synthesis) → synthesisOf programLimit s ≡ accepted y
     → ListingStops (readingOf (ruleOf s) .rule) table (length (y .equations)) lines true
     → linesFrom (readingOf (ruleOf s) .rule) table (length (y .equations)) lines 0 ≡ textFor (accepted y) table
 accepted-prints s table lines bytes =
-    synthesis-accepts 128 s
+    synthesis-accepts programLimit s
     (λ y. ListingStops (readingOf (ruleOf s) .rule) table (length (y .equations)) lines true
     → linesFrom (readingOf (ruleOf s) .rule) table (length (y .equations)) lines 0 ≡ textFor (accepted y) table)
     (λ r read satisfiable few stops.
-    let count = length (equationsOf 128 r) in
+    let count = length (equationsOf programLimit r) in
     lines-end (readingOf (ruleOf s) .rule) table count (stops .lead) (stops .ends refl) (34 + 256 * count)
     ∙ rw read (lists-rule r table count (lines + (34 + 256 * count)) (accepts-encodings s bytes r .0 read .0) (omega arith)))
 
 pub prints-answer : PrintsAnswer
 prints-answer s table r bytes shows written =
-    rw (shows .answer) (on (synthesisOf 128 s) refl (rw (shows .answer, written) at (shows .stops)))
+    rw (shows .answer) (on (synthesisOf programLimit s) refl (rw (shows .answer, written) at (shows .stops)))
   where
-    on : (o : Outcome Synthesis) → synthesisOf 128 s ≡ o
+    on : (o : Outcome Synthesis) → synthesisOf programLimit s ≡ o
         → Stops (countedOf o) (readingOf (ruleOf s) .rule) (tableAfter mark o table) (r .lines) true
         → printed (countedOf o) (readingOf (ruleOf s) .rule) (tableAfter mark o table) (r .lines) ≡ textFor o (tableAfter mark o table)
     on (accepted y) e stops = accepted-prints s (tableAfter mark (accepted y) table) (r .lines) bytes y e stops
@@ -52,5 +52,5 @@ settled-by-buffer s = rw (rule-settled s 4096 (omega arith))
 pub judgment-settled-by-buffer : JudgmentSettledByBuffer
 judgment-settled-by-buffer s f =
     rw (settled-by-buffer s)
-    (ap (λ (o : Outcome Phone). andThen (synthesisOf 128 s) (λ y. andThen o (λ p. accepted (record { rule = y .rule; phone = p }))))
+    (ap (λ (o : Outcome Phone). andThen (synthesisOf programLimit s) (λ y. andThen o (λ p. accepted (record { rule = y .rule; phone = p }))))
     (model-settled f 4096 (omega arith)))

@@ -1,5 +1,5 @@
 -- The calls that `sift` makes: one more on the same well-formed table isn't refused, since calls on it are one run that stays inside it; and under an
--- accepted rule they sift by it, as all calls on a filled table do.
+-- accepted rule they sift by it, as all calls on a filled table do: what the programs' limit accepts the library's accepts.
 use Prim.Native.Nat.{ℕ, _≤_}
 use mathlib.Core.Path.{_≡_, refl, ap, _∙_}
 use mathlib.Core.Logic.{inl, inr}
@@ -18,6 +18,8 @@ use Rattle.running.specs.declared.State.{State}
 use Rattle.running.proofs.Refusals.{runs-on-tables}
 use Rattle.running.proofs.Histories.{calls-weaken, one-run}
 use Rattle.running.proofs.DemandTwo.{drops-exactly}
+use Rattle.synthesis.proofs.Quotients.TwoLimits.{fills-more}
+use Rattle.commands.specs.Printing.{programLimit}
 use Rattle.commands.specs.Sifting.{EndsCalls, FitOn, EndsCallsOn, GoesOn, UnderRule}
 use Rattle.commands.specs.Promises.{SiftsByRule, NoCallsRefused, SiftHandsBack}
 use Rattle.commands.proofs.ProgramTables.{any-table}
@@ -59,8 +61,9 @@ ends-calls-under-rule outcome table n same e (h, calls, ends) =
 
 pub sifts-by-rule : SiftsByRule
 sifts-by-rule s table r n bytes read counted h calls =
-    let left = tableAfter mark (synthesisOf 128 s) table in
-    let (table′, fills) = any-table most mark s r n (omega arith) bytes read counted table in
+    let left = tableAfter mark (synthesisOf programLimit s) table in
+    let (table′, within) = any-table programLimit mark s r n (omega arith) bytes read counted table in
+    let fills = fills-more programLimit most mark s table′ r n left (omega arith) (omega arith) within in
     drops-exactly most mark s table′ r n left fills h
     (calls-weaken most mark
     (λ h c under.

@@ -19,6 +19,10 @@ use Rattle.listing.specs.Lines.{refusalLine, judgmentLine, listing}
 use Rattle.listing.specs.Positions.{listingLineAt, linesFrom}
 use Rattle.commands.specs.declared.EquationsResult.{EquationsResult}
 
+-- The most equations of a rule that a program takes. The library takes `most`.
+abbrev pub programLimit : ℕ
+programLimit = 128
+
 -- the text that is due to an outcome: the listing of the rule and its table, or the line of the refusal alone
 abbrev pub textFor : Outcome Synthesis → (table : List ℕ) → List ℕ
 textFor (accepted y) table = listing (map extentOf (y .rule .patterns)) (length (y .equations)) table
@@ -32,7 +36,7 @@ judgedText (Judged′.the-variants.Refused number place) = refusalLine number pl
 
 -- what `meets` hands back for a rule file and a model file
 abbrev pub JudgesFiles : (s f : List ℕ) → Judged → Type 0
-JudgesFiles s f answer = JudgedAs (andThen (synthesisOf 128 s) (withModel f)) answer
+JudgesFiles s f answer = JudgedAs (andThen (synthesisOf programLimit s) (withModel f)) answer
 
 -- ---- how far printing comes
 
@@ -60,5 +64,5 @@ printed (Refused number place) rule table lines = refusalLine number place
 
 -- what `equations` hands back for a rule file, with a table for its rows
 pub record Shows (s table : List ℕ) (r : EquationsResult) : Type 0 where
-  pub answer : r .answer ≡ countedOf (synthesisOf 128 s)
-  pub stops : Stops (r .answer) (readingOf (ruleOf s) .rule) (tableAfter mark (synthesisOf 128 s) table) (r .lines) (r .written)
+  pub answer : r .answer ≡ countedOf (synthesisOf programLimit s)
+  pub stops : Stops (r .answer) (readingOf (ruleOf s) .rule) (tableAfter mark (synthesisOf programLimit s) table) (r .lines) (r .written)

@@ -23,7 +23,7 @@ use Rattle.listing.specs.Lines.{refusalLine}
 use Rattle.listing.specs.Positions.{linesFrom}
 use Rattle.commands.specs.declared.EquationsResult.{EquationsResult}
 use Rattle.commands.specs.declared.SiftResult.{SiftResult}
-use Rattle.commands.specs.Printing.{textFor, judgedText, JudgesFiles, printed, Shows}
+use Rattle.commands.specs.Printing.{programLimit, textFor, judgedText, JudgesFiles, printed, Shows}
 use Rattle.commands.specs.Sifting.{UnderRule, Sifts}
 
 -- A program takes rules of at most 128 equations. Its table has 256 bytes for each of so many, so that 10 never comes: the answer is that of counting.
@@ -32,33 +32,33 @@ use Rattle.commands.specs.Sifting.{UnderRule, Sifts}
 abbrev pub PrintsAnswer : Type 0
 PrintsAnswer =
     (s table : List ℕ) (r : EquationsResult) → Bytes s → Shows s table r → r .written ≡ true →
-    let after = tableAfter mark (synthesisOf 128 s) table in
-    printed (r .answer) (readingOf (ruleOf s) .rule) after (r .lines) ≡ textFor (synthesisOf 128 s) after
+    let after = tableAfter mark (synthesisOf programLimit s) table in
+    printed (r .answer) (readingOf (ruleOf s) .rule) after (r .lines) ≡ textFor (synthesisOf programLimit s) after
 
 -- 2. The 4,096 bytes that each program reads of a rule file settle the answer to the whole of it.
 abbrev pub SettledByBuffer : Type 0
-SettledByBuffer = (s : List ℕ) → synthesisOf 128 (take 4096 s) ≡ synthesisOf 128 s
+SettledByBuffer = (s : List ℕ) → synthesisOf programLimit (take 4096 s) ≡ synthesisOf programLimit s
 
 -- So do those that `meets` reads of a rule file and of a model file.
 abbrev pub JudgmentSettledByBuffer : Type 0
-JudgmentSettledByBuffer = (s f : List ℕ) → andThen (synthesisOf 128 (take 4096 s)) (withModel (take 4096 f)) ≡ andThen (synthesisOf 128 s) (withModel f)
+JudgmentSettledByBuffer = (s f : List ℕ) → andThen (synthesisOf programLimit (take 4096 s)) (withModel (take 4096 f)) ≡ andThen (synthesisOf programLimit s) (withModel f)
 
 -- 3. Under an accepted rule, calls as the contract of `sift` has them sift by the rule, however the scans come in blocks.
 abbrev pub SiftsByRule : Type 0
 SiftsByRule =
-    (s table : List ℕ) (r : Rule) (n : ℕ) → Bytes s → ruleOf s ≡ accepted r → countedOf (synthesisOf 128 s) ≡ Equations n
-    → (h : History) → Calls most mark (UnderRule (synthesisOf 128 s) table) h → Sifted r h
+    (s table : List ℕ) (r : Rule) (n : ℕ) → Bytes s → ruleOf s ≡ accepted r → countedOf (synthesisOf programLimit s) ≡ Equations n
+    → (h : History) → Calls most mark (UnderRule (synthesisOf programLimit s) table) h → Sifted r h
 
 -- Under a refused one there are no calls.
 abbrev pub NoCallsRefused : Type 0
 NoCallsRefused =
-    (s table : List ℕ) (number place : ℕ) → countedOf (synthesisOf 128 s) ≡ Refused number place
-    → (h : History) → Calls most mark (UnderRule (synthesisOf 128 s) table) h → h ≡ noCalls
+    (s table : List ℕ) (number place : ℕ) → countedOf (synthesisOf programLimit s) ≡ Refused number place
+    → (h : History) → Calls most mark (UnderRule (synthesisOf programLimit s) table) h → h ≡ noCalls
 
 -- So this is what `sift` hands back: the answer of counting, and under an accepted rule a state in which scans that were sifted by the rule leave the run.
 pub record HandsBack (s : List ℕ) (x : SiftResult) : Type 0 where
-  pub answer : x .answer ≡ countedOf (synthesisOf 128 s)
-  pub state : (r : Rule) (n : ℕ) → ruleOf s ≡ accepted r → countedOf (synthesisOf 128 s) ≡ Equations n
+  pub answer : x .answer ≡ countedOf (synthesisOf programLimit s)
+  pub state : (r : Rule) (n : ℕ) → ruleOf s ≡ accepted r → countedOf (synthesisOf programLimit s) ≡ Equations n
       → (h : History) × Sifted r h × (x .state ≡ h .state)
 
 abbrev pub SiftHandsBack : Type 0
@@ -67,10 +67,10 @@ SiftHandsBack = (s table : List ℕ) (x : SiftResult) → Bytes s → Sifts s ta
 -- 4. What `meets` hands back: the refusal of the rule, if it has one, else that of the model; 10 doesn't come. Where neither is refused, it is "meets"
 -- exactly when the model satisfies the rule, and else "breaks".
 pub record MeetsFiles (s f : List ℕ) (answer : Judged) : Type 1 where
-  pub rule : (number place : ℕ) → countedOf (synthesisOf 128 s) ≡ Refused number place → answer ≡ NotJudged number place
-  pub model : (n : ℕ) → countedOf (synthesisOf 128 s) ≡ Equations n
+  pub rule : (number place : ℕ) → countedOf (synthesisOf programLimit s) ≡ Refused number place → answer ≡ NotJudged number place
+  pub model : (n : ℕ) → countedOf (synthesisOf programLimit s) ≡ Equations n
       → (number place : ℕ) → modelReadingOf (phoneOf f) .answer ≡ NotAccepted number place → answer ≡ NotJudged number place
-  pub judged : (r : Rule) (n : ℕ) (y : Phone) → ruleOf s ≡ accepted r → countedOf (synthesisOf 128 s) ≡ Equations n → phoneOf f ≡ accepted y
+  pub judged : (r : Rule) (n : ℕ) (y : Phone) → ruleOf s ≡ accepted r → countedOf (synthesisOf programLimit s) ≡ Equations n → phoneOf f ≡ accepted y
       → JudgedExactly r y answer
 
 abbrev pub MeetsExactly : Type 1
@@ -94,7 +94,7 @@ pub record TextOfPage (s table : List ℕ) (n : ℕ) (expected : List ℕ) : Typ
 abbrev pub PreviewText : Type 0
 PreviewText =
     (s : List ℕ) (n : ℕ) → Bytes s → countedOf (previewOf s) ≡ Equations n → (table table′ : List ℕ) → 256 * n ≤ length table → 256 * n ≤ length table′
-    → TextOfPage s table n (textFor (synthesisOf 128 s) (tableAfter mark (synthesisOf 128 s) table′))
+    → TextOfPage s table n (textFor (synthesisOf programLimit s) (tableAfter mark (synthesisOf programLimit s) table′))
 
 -- ---- all of these
 

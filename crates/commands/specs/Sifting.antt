@@ -14,6 +14,7 @@ use Rattle.running.specs.Running.{runOf, checkedOf, resultOf}
 use Rattle.running.specs.Calls.{Call, History, outcomeOf, Calls, OnTable}
 use Rattle.running.specs.declared.Checked.the-variants.{Fit}
 use Rattle.running.specs.declared.State.{State}
+use Rattle.commands.specs.Printing.{programLimit}
 use Rattle.commands.specs.declared.SiftResult.{SiftResult}
 
 -- a state in which some such calls end
@@ -43,5 +44,5 @@ pub record UnderRule (outcome : Outcome Synthesis) (table : List ℕ) (h : Histo
 
 -- what `sift` hands back for a rule file, with a table for its rows
 pub record Sifts (s table : List ℕ) (r : SiftResult) : Type 0 where
-  pub answer : r .answer ≡ countedOf (synthesisOf 128 s)
-  pub state : EndsCalls (UnderRule (synthesisOf 128 s) table) (r .state)
+  pub answer : r .answer ≡ countedOf (synthesisOf programLimit s)
+  pub state : EndsCalls (UnderRule (synthesisOf programLimit s) table) (r .state)

@@ -1,4 +1,5 @@
 // The program `meets`.
+use crate::LIMIT;
 use crate::TABLE;
 use crate::files::read_file;
 use crate::print_line;
@@ -10,7 +11,7 @@ ghost use Prim.Native.Nat.{ℕ, _*_};
 ghost use lib.ListN.{length};
 ghost use Rattle.reading.specs.Rule.{Bytes};
 ghost use Rattle.listing.specs.Positions.{lineOf, Within};
-ghost use Rattle.commands.specs.Printing.{judgedText, JudgesFiles};
+ghost use Rattle.commands.specs.Printing.{programLimit, judgedText, JudgesFiles};
 
 // The line of an answer.
 fn answer_line(answer: Judged) -> Line
@@ -25,12 +26,12 @@ fn answer_line(answer: Judged) -> Line
 }
 
 // Judges a model file under a rule file, and prints the answer. (A slice of u8 consists of bytes.)
-fn print_judged(rule: &[u8], model: &[u8], table: &mut [u8]) -> Judged
-    requires { ⌜ length (now table) ≡ 256 * 128 ⌝ }
+fn print_judged(rule: &[u8], model: &[u8], table: &mut [u16]) -> Judged
+    requires { ⌜ length (now table) ≡ 256 * programLimit ⌝ }
     ensures { λ _. ⌜ Bytes (now (rule .entry)) × Bytes (now (model .entry)) ⌝ }
     ensures { λ r. ⌜ JudgesFiles (now (rule .entry)) (now (model .entry)) r ⌝ }
 {
-    let answer = models::judge(rule, model, table);
+    let answer = models::judge_within(rule, model, LIMIT, table);
     print_line(b"meets: standard output", answer_line(answer));
     answer
 }
@@ -44,6 +45,6 @@ pub fn meets() -> Judged
     let n = read_file(b"meets: rule.bin", b"rule.bin", &mut rule);
     let mut model = io::buffer();
     let k = read_file(b"meets: model.bin", b"model.bin", &mut model);
-    let mut table = [0u8; TABLE];
+    let mut table = [0u16; TABLE];
     print_judged(&rule[..n], &model[..k], &mut table)
 }

@@ -20,10 +20,13 @@ ghost use Rattle.reading.specs.Rule.{Bytes};
 ghost use Rattle.reading.specs.File.{ruleOf};
 ghost use Rattle.reading.specs.Numbered.{readingOf};
 ghost use Rattle.listing.specs.Positions.{Within};
-ghost use Rattle.commands.specs.Printing.{ListingStops, Stops, Shows};
+ghost use Rattle.commands.specs.Printing.{programLimit, ListingStops, Stops, Shows};
 
-// The bytes of a program's table: a row for each of the 128 equations that a rule may have here.
-const TABLE: usize = 256 * 128;
+// The most equations that a rule may have here. The library takes more.
+const LIMIT: usize = 128;
+
+// The entries of a program's table: a row for each of them.
+const TABLE: usize = 256 * LIMIT;
 
 // What `equations` hands back: what counting answers to the rule file, how many lines were printed, and whether all of them could be
 // written.
@@ -55,7 +58,7 @@ fn print_line(what: &[u8], line: Line) -> bool
 }
 
 // Prints a listing, up to a line that can't be written.
-fn print_listing(rule: NumberedRule, table: &[u8], count: usize) -> Printed
+fn print_listing(rule: NumberedRule, table: &[u16], count: usize) -> Printed
     ensures { λ r. ⌜ ListingStops rule (now (table .entry)) count (r .lines) (r .written) ⌝ }
 {
     let mut at = 0;
@@ -81,7 +84,7 @@ fn print_listing(rule: NumberedRule, table: &[u8], count: usize) -> Printed
 }
 
 // Prints the listing of a rule file from its table, or the line of a refusal.
-fn print_answer(answer: Counted, file: &[u8], table: &[u8]) -> Printed
+fn print_answer(answer: Counted, file: &[u8], table: &[u16]) -> Printed
     ensures { λ r. ⌜ Stops answer (readingOf (ruleOf (now (file .entry))) .rule) (now (table .entry)) (r .lines) (r .written) ⌝ }
 {
     match answer {
@@ -101,12 +104,12 @@ fn print_answer(answer: Counted, file: &[u8], table: &[u8]) -> Printed
 }
 
 // Fills the table of a rule file, and prints the answer. (A slice of u8 consists of bytes.)
-fn print_equations(file: &[u8], table: &mut [u8]) -> EquationsResult
-    requires { ⌜ length (now table) ≡ 256 * 128 ⌝ }
+fn print_equations(file: &[u8], table: &mut [u16]) -> EquationsResult
+    requires { ⌜ length (now table) ≡ 256 * programLimit ⌝ }
     ensures { λ _. ⌜ Bytes (now (file .entry)) ⌝ }
     ensures { λ r. ⌜ Shows (now (file .entry)) (now (table .entry)) r ⌝ }
 {
-    let answer = synthesis::fill(file, table);
+    let answer = synthesis::fill_within(file, LIMIT, table);
     let printed = print_answer(answer, file, table);
     EquationsResult {
         answer,
@@ -122,6 +125,6 @@ pub fn equations() -> EquationsResult
 {
     let mut file = io::buffer();
     let n = read_whole(b"equations: standard input", STDIN_FILENO, &mut file);
-    let mut table = [0u8; TABLE];
+    let mut table = [0u16; TABLE];
     print_equations(&file[..n], &mut table)
 }

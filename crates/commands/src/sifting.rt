@@ -1,4 +1,5 @@
 // The program `sift`.
+use crate::LIMIT;
 use crate::SiftResult;
 use crate::TABLE;
 use crate::files::read_file;
@@ -16,6 +17,7 @@ ghost use Rattle.reading.specs.Rule.{Bytes};
 ghost use Rattle.synthesis.specs.Monitor.{mark, most};
 ghost use Rattle.synthesis.specs.Table.{WellFormedTable};
 ghost use Rattle.running.specs.Running.{runOf, resultOf};
+ghost use Rattle.commands.specs.Printing.{programLimit};
 ghost use Rattle.commands.specs.Sifting.{EndsCallsOn, GoesOn, Sifts};
 
 // The state after a block of scans, and whether there may be more.
@@ -26,7 +28,7 @@ struct BlockResult {
 
 // Runs over a block of scans, and writes those that are kept. (A slice of u8 consists of bytes.)
 fn sift_block(
-    table: &[u8],
+    table: &[u16],
     count: usize,
     state: State,
     scans: &[u8],
@@ -46,7 +48,7 @@ fn sift_block(
 
 // Reads once, and sifts what came.
 fn sift_some(
-    table: &[u8],
+    table: &[u16],
     count: usize,
     state: State,
     scans: &mut [u8],
@@ -68,7 +70,7 @@ fn sift_some(
 }
 
 // Sifts all of standard input. The loop counts down from a number of turns that no input uses up, so that it ends.
-fn sift_all(table: &[u8], count: usize) -> State
+fn sift_all(table: &[u16], count: usize) -> State
     requires { ⌜ WellFormedTable most mark count (now table) ⌝ }
     ensures { λ r. ⌜ EndsCallsOn (now (table .entry)) count r ⌝ }
 {
@@ -89,12 +91,12 @@ fn sift_all(table: &[u8], count: usize) -> State
 }
 
 // Fills the table of a rule file, and sifts standard input under it.
-fn sift_under(file: &[u8], table: &mut [u8]) -> SiftResult
-    requires { ⌜ length (now table) ≡ 256 * 128 ⌝ }
+fn sift_under(file: &[u8], table: &mut [u16]) -> SiftResult
+    requires { ⌜ length (now table) ≡ 256 * programLimit ⌝ }
     ensures { λ _. ⌜ Bytes (now (file .entry)) ⌝ }
     ensures { λ r. ⌜ Sifts (now (file .entry)) (now (table .entry)) r ⌝ }
 {
-    let answer = synthesis::fill(file, table);
+    let answer = synthesis::fill_within(file, LIMIT, table);
     match answer {
         Counted::Equations(count) => {
             let state = sift_all(table, count);
@@ -117,6 +119,6 @@ pub fn sift() -> SiftResult
 {
     let mut file = io::buffer();
     let n = read_file(b"sift: rule.bin", b"rule.bin", &mut file);
-    let mut table = [0u8; TABLE];
+    let mut table = [0u16; TABLE];
     sift_under(&file[..n], &mut table)
 }

@@ -67,12 +67,12 @@ module _ (x : ℕ) where
   pub next-text : (x ≡ mark → ⊥) → answerText (meaning mark x) ≡ decimal x
   next-text e = rw (ne-eqb x mark e)
 
-  pub answer-digits : x < 256 → length (answerText (meaning mark x)) ≤ 4
+  pub answer-digits : x < 65536 → length (answerText (meaning mark x)) ≤ 5
   answer-digits h = on (eqb x mark) refl
     where
-      on : (b : Bool) → eqb x mark ≡ b → length (answerText (meaning mark x)) ≤ 4
+      on : (b : Bool) → eqb x mark ≡ b → length (answerText (meaning mark x)) ≤ 5
       on true e = rw (drop-text (eqb-true x mark e)) (omega arith)
-      on false e = rw (next-text (eqb-false x mark e)) (omega (arith, decimal-digits 2 x (omega arith)))
+      on false e = rw (next-text (eqb-false x mark e)) (omega (arith, decimal-digits 4 x (omega arith)))
 
 -- ---- the line of a pattern
 

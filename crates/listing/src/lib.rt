@@ -11,9 +11,6 @@ ghost use Rattle.listing.specs.Lines.{refusalLine, judgmentLine};
 ghost use Rattle.listing.specs.Positions.{lineOf, Within, noLine, rowLineAt, listingLineAt};
 ghost use Rattle.listing.specs.LineParts.{Gives};
 
-// A listing of 128 equations has no more lines than this.
-pub const LINES: usize = 32802;
-
 // A line of text: its first len bytes. The others are 0.
 pub struct Line {
     pub bytes: [u8; 64],

@@ -76,6 +76,9 @@ cast-run c = search needs
 cast-run-2 : tie.Need-cast-run-2
 cast-run-2 c = omega (arith, run-inside c .0)
 
+mul-run : tie.Need-mul-run
+mul-run c = search needs
+
 shared-slice-read-run : tie.Need-shared-slice-read-run
 shared-slice-read-run c = search needs
 
@@ -116,6 +119,7 @@ row-line-spec =
     run-end-requires
     cast-run
     cast-run-2
+    mul-run
     shared-slice-read-run
     run-requires
     mul-t10

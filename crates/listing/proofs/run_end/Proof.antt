@@ -14,6 +14,9 @@ Inv-loop row c entry last₀ last = Same row c last
 abbrev μ-loop : tie.MeasureT-loop
 μ-loop row c entry last₀ last = length row - last
 
+mul-entry : tie.Need-mul-entry Inv-loop μ-loop
+mul-entry c = search needs
+
 shared-slice-read-entry : tie.Need-shared-slice-read-entry Inv-loop μ-loop
 shared-slice-read-entry c = search needs
 
@@ -25,6 +28,9 @@ add-loop c = omega (arith, c .loop .inv .inside)
 
 add-if1 : tie.Need-add-if1 Inv-loop μ-loop
 add-if1 c = omega arith
+
+mul-if1 : tie.Need-mul-if1 Inv-loop μ-loop
+mul-if1 c = search needs
 
 shared-slice-read-if1 : tie.Need-shared-slice-read-if1 Inv-loop μ-loop
 shared-slice-read-if1 c = search needs
@@ -59,10 +65,12 @@ run-end-spec =
     (tie.spec
     Inv-loop
     μ-loop
+    mul-entry
     shared-slice-read-entry
     loop-holds
     add-loop
     add-if1
+    mul-if1
     shared-slice-read-if1
     add-last
     loop-less

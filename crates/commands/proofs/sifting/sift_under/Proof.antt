@@ -9,27 +9,29 @@ use Rattle.synthesis.specs.Monitor.{mark, most}
 use Rattle.synthesis.specs.Building.{synthesisOf, countedOf, tableAfter}
 use Rattle.running.specs.Calls.{noCalls, none}
 use Rattle.synthesis.specs.Table.{WellFormedTable}
+use Rattle.synthesis.proofs.Tables.WellFormedTables.{well-formed-weaken}
 use Rattle.synthesis.proofs.Tables.SynthesisOutcomes.{filling-within}
 use Rattle.synthesis.proofs.Tables.Built.{counted-well-formed}
+use Rattle.commands.specs.Printing.{programLimit}
 use Rattle.commands.proofs.SiftingLaws.{ends-calls-under-rule}
 use Rattle.commands.proofs.sifting.sift_under.Statement.{statement}
 use Rattle.commands.proofs.sifting.sift_under.Tie as tie
 
-bytes : (c : tie.After-fill) → Bytes (c .before .before .before .before .args .file .now)
+bytes : (c : tie.After-fill-within) → Bytes (c .before .before .before .before .args .file .now)
 bytes c =
     let known = c .before .before .before in
     slice-bytes (known .before .args .file .now) (known .shared-slice-known .given)
 
 -- the answer is that of counting, and the rows are filled in
-filled : (c : tie.After-fill) → let x = c .before .before .before .before .args in
-    (c .fill .result ≡ countedOf (synthesisOf 128 (x .file .now))) × (c .fill .last .1 .0 ≡ tableAfter mark (synthesisOf 128 (x .file .now)) (x .table .now))
+filled : (c : tie.After-fill-within) → let x = c .before .before .before .before .args in
+    (c .fill-within .result ≡ countedOf (synthesisOf programLimit (x .file .now))) × (c .fill-within .last .1 .1 .0 ≡ tableAfter mark (synthesisOf programLimit (x .file .now)) (x .table .now))
 filled c =
     let start = c .before .before .before .before in
     let x = start .args in
-    rw (filling-within 128 (x .file .now) (length (x .table .now)) (omega (arith, start .pre))) at (c .fill .ensures)
+    rw (filling-within programLimit (x .file .now) (length (x .table .now)) (omega (arith, start .pre))) at (c .fill-within .ensures)
 
-fill-requires : tie.Need-fill-requires
-fill-requires c κs = search needs
+fill-within-requires : tie.Need-fill-within-requires
+fill-within-requires c κs = search needs
 
 enum-known-answer : tie.Need-enum-known-answer
 enum-known-answer c = search needs
@@ -40,8 +42,9 @@ sift-all-requires c κs =
     let built = told .before .before .before .before in
     let x = built .before .before .before .before .args in
     let n = told .answer .given .0 .0 in
-    subst (WellFormedTable most mark n) (sym (built .fill .ensures .1))
-    (counted-well-formed most mark (x .file .now) (x .table .now) n (sym (built .fill .ensures .0) ∙ told .answer .given .1))
+    subst (WellFormedTable most mark n) (sym (built .fill-within .ensures .1))
+    (well-formed-weaken most (omega arith)
+    (counted-well-formed programLimit mark (x .file .now) (x .table .now) n (sym (built .fill-within .ensures .0) ∙ told .answer .given .1)))
 
 enum-known-answer-2 : tie.Need-enum-known-answer-2
 enum-known-answer-2 c = search needs
@@ -70,7 +73,7 @@ returns c =
       bytes built,
       record {
         answer = answer;
-        state = ends-calls-under-rule (synthesisOf 128 (x .file .now)) (x .table .now) (told .answer .given .0 .0) (filled built .1) (sym answer)
+        state = ends-calls-under-rule (synthesisOf programLimit (x .file .now)) (x .table .now) (told .answer .given .0 .0) (filled built .1) (sym answer)
             (c .sift-all .ensures);
       },
     )
@@ -93,7 +96,7 @@ pub sift-under-spec : {M : Type 1} → statement M
 sift-under-spec =
     tie.close
     (tie.spec
-    fill-requires
+    fill-within-requires
     enum-known-answer
     sift-all-requires
     enum-known-answer-2

@@ -34,10 +34,10 @@ with-last c =
 
 with-entry : (c : tie.After-entry) →
     let x = c .before .before .before .before .before .args in
-    LineBegun (decimal (x .k) ∷ decimal (x .first) ∷ decimal (x .last) ∷ answerText (meaning mark (x .entry)) ∷ []) 31 (c .entry .result)
+    LineBegun (decimal (x .k) ∷ decimal (x .first) ∷ decimal (x .last) ∷ answerText (meaning mark (x .entry)) ∷ []) 30 (c .entry .result)
 with-entry c =
     let x = c .before .before .before .before .before .args in
-    next-field 31 (answerText (meaning mark (x .entry))) (with-last (c .before)) (c .entry .ensures)
+    next-field 30 (answerText (meaning mark (x .entry))) (with-last (c .before)) (c .entry .ensures)
     (omega (arith, answer-digits (x .entry) (search needs)))
 
 empty-requires : tie.Need-empty-requires
@@ -53,7 +53,7 @@ field-requires-2 : tie.Need-field-requires-2
 field-requires-2 c κs = has-room _ (with-first c) (omega (arith, decimal-digits 2 (c .before .before .before .args .last) (search needs)))
 
 entry-requires : tie.Need-entry-requires
-entry-requires c κs = has-room 5 (with-last c) (omega arith)
+entry-requires c κs = has-room 6 (with-last c) (omega arith)
 
 newline-requires : tie.Need-newline-requires
 newline-requires c κs = has-room 1 (with-entry c) (omega arith)
