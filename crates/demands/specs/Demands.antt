@@ -98,9 +98,9 @@ pub record LeavesTheRest : Type 0 where
 
 -- The numbers of the library: the most equations that a rule may have, at the desk and on the rule page, and the entry of a code that is dropped.
 pub record LibraryNumbers : Type 0 where
-  pub most-equations : most ≡ 128
+  pub most-equations : most ≡ 1000
   pub most-on-page : previewLimit ≡ 32
-  pub dropped-entry : mark ≡ 255
+  pub dropped-entry : mark ≡ 65535
 
 pub record DemandOne : Type 1 where
   pub numbers : LibraryNumbers
@@ -121,7 +121,7 @@ Takes n table =
 -- refused. The reason of a dropped scan is the lowest ff node at which they violate it, and a kept scan has none; a list violates a rule at an ff node
 -- exactly when it violates the rule that has no other ff. A file is read exactly where it is the encoding of a rule, or of a model, within the limits,
 -- and then as that one. Counting accepts exactly the rules of the grammar within the limits, except those that no finite model satisfies, and counts the
--- equations that are reached. Filling answers the same, where the table has 256 bytes for each, and accepts no other. A model is said to meet a rule
+-- equations that are reached. Filling answers the same, where the table has 256 entries for each, and accepts no other. A model is said to meet a rule
 -- exactly when it satisfies it.
 pub record DemandTwo : Type 1 where
   pub drops : (s table : List ℕ) (r : Rule) (n : ℕ) (left : List ℕ) → Fills most mark s table r n left → SiftsOn most mark r n left

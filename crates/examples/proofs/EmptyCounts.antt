@@ -17,7 +17,7 @@ use Rattle.examples.specs.FamilyExamples.{chain, chainRule, windowRule}
 use Rattle.examples.specs.EmptyExamples.{chainThen, emptyChainFile, emptyChainRule, emptyWindowFile, emptyWindowRule, EmptyCounts}
 use Rattle.examples.proofs.Enumerated.{Enumerates, reads-enumerated, reads-over}
 use Rattle.examples.proofs.Chains.{enumerates as chain-enumerates}
-use Rattle.examples.proofs.Windows.{shifts-8, enumerates as window-enumerates}
+use Rattle.examples.proofs.Windows.{shifts-10, enumerates as window-enumerates}
 use Rattle.examples.proofs.PreviewExamples.{at-desk-only}
 
 -- ---- the last pattern of a chain
@@ -78,14 +78,14 @@ chain-counted : ReadAs (emptyChainFile 31) (emptyChainRule 31) (Equations 33)
 unfolding unsatisfiable firstOf chainThen chain
 chain-counted = reads-enumerated (emptyChainFile 31) (emptyChainRule 31) chain-read refl 33 (by-answers (chain-alike 31) (chain-enumerates 32)) (omega arith)
 
-window-counted : ReadAs (emptyWindowFile 7) (emptyWindowRule 7) (Refused 9 0)
+window-counted : ReadAs (emptyWindowFile 9) (emptyWindowRule 9) (Refused 9 0)
 unfolding times chainThen chain ruleOf recordsAt formulaOf formulaAt unsatisfiable firstOf
 window-counted =
-    reads-over (emptyWindowFile 7) (emptyWindowRule 7) refl refl 256 (by-answers (window-alike 7) (window-enumerates 8 shifts-8)) (omega arith)
+    reads-over (emptyWindowFile 9) (emptyWindowRule 9) refl refl 1024 (by-answers (window-alike 9) (window-enumerates 10 shifts-10)) (omega arith)
 
 pub empty-counts : EmptyCounts
 empty-counts = record {
   chain-read = chain-read;
   chain-31 = at-desk-only (emptyChainFile 31) 33 (chain-counted .answers .counting) (omega arith);
-  window-7 = window-counted;
+  window-9 = window-counted;
 }

@@ -93,22 +93,40 @@ satisfiable : (m : ℕ) → unsatisfiable (windowRule m) ≡ false
 unfolding unsatisfiable
 satisfiable m = rw (chain-falsities 5 m, and-zero-r)
 
--- ---- the paper's two
+-- ---- the paper's two, and two more
 
 shifts-7 : (five : Bool) → shifts 7 five ≡ true
 unfolding least bit chain
 shifts-7 true = refl
 shifts-7 false = refl
 
-pub shifts-8 : (five : Bool) → shifts 8 five ≡ true
+shifts-8 : (five : Bool) → shifts 8 five ≡ true
 unfolding least bit chain
 shifts-8 true = refl
 shifts-8 false = refl
+
+shifts-9 : (five : Bool) → shifts 9 five ≡ true
+unfolding least bit chain
+shifts-9 true = refl
+shifts-9 false = refl
+
+pub shifts-10 : (five : Bool) → shifts 10 five ≡ true
+unfolding least bit chain
+shifts-10 true = refl
+shifts-10 false = refl
 
 pub window-7 : ReadAs (windowFile 7) (windowRule 7) (Equations 128)
 unfolding times chain ruleOf recordsAt formulaOf formulaAt
 window-7 = reads-enumerated (windowFile 7) (windowRule 7) refl (satisfiable 7) 128 (enumerates 7 shifts-7) (omega arith)
 
-pub window-8 : ReadAs (windowFile 8) (windowRule 8) (Refused 9 0)
+pub window-8 : ReadAs (windowFile 8) (windowRule 8) (Equations 256)
 unfolding times chain ruleOf recordsAt formulaOf formulaAt
-window-8 = reads-over (windowFile 8) (windowRule 8) refl (satisfiable 8) 256 (enumerates 8 shifts-8) (omega arith)
+window-8 = reads-enumerated (windowFile 8) (windowRule 8) refl (satisfiable 8) 256 (enumerates 8 shifts-8) (omega arith)
+
+pub window-9 : ReadAs (windowFile 9) (windowRule 9) (Equations 512)
+unfolding times chain ruleOf recordsAt formulaOf formulaAt
+window-9 = reads-enumerated (windowFile 9) (windowRule 9) refl (satisfiable 9) 512 (enumerates 9 shifts-9) (omega arith)
+
+pub window-10 : ReadAs (windowFile 10) (windowRule 10) (Refused 9 0)
+unfolding times chain ruleOf recordsAt formulaOf formulaAt
+window-10 = reads-over (windowFile 10) (windowRule 10) refl (satisfiable 10) 1024 (enumerates 10 shifts-10) (omega arith)

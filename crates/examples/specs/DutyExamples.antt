@@ -50,15 +50,15 @@ noteRule = rule (pattern 255 0 31 ∷ pattern 64 0 31 ∷ []) (max (both (necess
 abbrev pub holdRows : List ℕ
 holdRows =
     replicate 32 0 ++ replicate 32 1 ++ replicate 192 0
-    ++ replicate 32 255 ++ replicate 96 1 ++ replicate 32 0 ++ replicate 96 1
+    ++ replicate 32 65535 ++ replicate 96 1 ++ replicate 32 0 ++ replicate 96 1
 
 -- Race rule: a handover leads to the second equation, in which collects are dropped and every other code leads back.
 abbrev pub raceRows : List ℕ
-raceRows = replicate 224 0 ++ replicate 32 1 ++ replicate 64 0 ++ replicate 32 255 ++ replicate 128 0 ++ replicate 32 1
+raceRows = replicate 224 0 ++ replicate 32 1 ++ replicate 64 0 ++ replicate 32 65535 ++ replicate 128 0 ++ replicate 32 1
 
 -- Note rule: notes are dropped, and no code leads on.
 abbrev pub noteRows : List ℕ
-noteRows = replicate 192 0 ++ replicate 32 255 ++ replicate 32 0
+noteRows = replicate 192 0 ++ replicate 32 65535 ++ replicate 32 0
 
 -- What is lent: the table of the hold rule from 0 on, that of the race rule from 512 on, that of the note rule from 1,024 on.
 abbrev pub lent : List ℕ

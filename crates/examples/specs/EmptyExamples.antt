@@ -91,14 +91,14 @@ emptyWindowRule m =
     rule (pattern 255 0 31 ∷ pattern 1 5 5 ∷ pattern 0 0 0 ∷ [])
     (max (both (necessity 0 (variable 0)) (necessity 1 (chainThen 2 m))))
 
--- With tt the first has 32 equations and the second 128, as `chain-31` of specs/PreviewExamples.antt and `window-7` of specs/FamilyExamples.antt say: as many
--- as are let through. A necessity with an empty pattern is one more member, and 18 and 9 count the equations that have it.
+-- With tt the first has 32 equations and the second 512, as `chain-31` of specs/PreviewExamples.antt and `window-9` of specs/FamilyExamples.antt say, and
+-- neither is refused. A necessity with an empty pattern is one more member, and 18 and 9 count the equations that have it.
 pub record EmptyCounts : Type 0 where
   -- 33: 18 on the page
   pub chain-read : ruleOf (emptyChainFile 31) ≡ accepted (emptyChainRule 31)
   pub chain-31 : ShownAtDeskOnly (emptyChainFile 31) 33
-  -- over 128: 9
-  pub window-7 : ReadAs (emptyWindowFile 7) (emptyWindowRule 7) (Refused 9 0)
+  -- 1,024: 9
+  pub window-9 : ReadAs (emptyWindowFile 9) (emptyWindowRule 9) (Refused 9 0)
 
 -- ---- two rules that differ only after an empty pattern
 

@@ -63,15 +63,15 @@ pub record KindBytes : Type 0 where
 
 -- ---- what is said of a file
 
--- the bytes of a table that an answer needs: 256 for each equation, and none for a refusal
-abbrev pub bytesFor : Counted → ℕ
-bytesFor (Equations n) = 256 * n
-bytesFor (Refused number place) = 0
+-- the entries of a table that an answer needs: 256 for each equation, and none for a refusal
+abbrev pub entriesFor : Counted → ℕ
+entriesFor (Equations n) = 256 * n
+entriesFor (Refused number place) = 0
 
--- Counting answers so, and filling too with every table that has the bytes for it. So a refused file is refused by its own number with any table.
+-- Counting answers so, and filling too with every table that has the entries for it. So a refused file is refused by its own number with any table.
 pub record CountedAs (s : List ℕ) (answer : Counted) : Type 0 where
   pub counting : countedOf (synthesisOf most s) ≡ answer
-  pub filling : (capacity : ℕ) → bytesFor answer ≤ capacity → countedOf (fillingOf most s capacity) ≡ answer
+  pub filling : (capacity : ℕ) → entriesFor answer ≤ capacity → countedOf (fillingOf most s capacity) ≡ answer
 
 -- reading refuses the file, and so do counting and filling
 pub record Refuses (s : List ℕ) (number place : ℕ) : Type 0 where
@@ -123,7 +123,7 @@ pub record PoolRows (table : List ℕ) : Type 0 where
   -- the empty set, which passes everything
   pub row-1 : rowOf 256 table 1 ≡ replicate 256 1
   -- an issue of 5 is dropped, a sync starts the rule again, and any other scan ends it
-  pub row-2 : rowOf 256 table 2 ≡ replicate 5 1 ++ mark ∷ replicate 122 1 ++ replicate 32 0 ++ replicate 96 1
+  pub row-2 : rowOf 256 table 2 ≡ replicate 5 1 ++ 65535 ∷ replicate 122 1 ++ replicate 32 0 ++ replicate 96 1
 
 -- a table that filling leaves of it
 pub record PoolTable (table : List ℕ) : Type 0 where

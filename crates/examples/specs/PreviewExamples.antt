@@ -10,7 +10,7 @@ use Rattle.examples.specs.Examples.{poolFile, PoolTable}
 use Rattle.examples.specs.TableExamples.{Needs}
 use Rattle.examples.specs.FamilyExamples.{chainFile, windowFile}
 
--- The page and the desk count n equations, and the page fills a table that has the bytes for them. With fewer it is 10 at 0.
+-- The page and the desk count n equations, and the page fills a table that has the entries for them. With fewer it is 10 at 0.
 pub record ShownOnPage (s : List ℕ) (n : ℕ) : Type 0 where
   pub page : countedOf (previewOf s) ≡ Equations n
   pub filling : Needs (previewFillingOf s) (256 * n) n
@@ -21,23 +21,24 @@ pub record RefusedOnPage (s : List ℕ) (number place : ℕ) : Type 0 where
   pub counting : countedOf (previewOf s) ≡ Refused number place
   pub filling : (capacity : ℕ) → countedOf (previewFillingOf s capacity) ≡ Refused number place
 
--- The desk counts n equations and fills a table that has the bytes for them; on the page the file is 18 at 0.
+-- The desk counts n equations and fills a table that has the entries for them; on the page the file is 18 at 0.
 pub record ShownAtDeskOnly (s : List ℕ) (n : ℕ) : Type 0 where
   pub desk : countedOf (synthesisOf most s) ≡ Equations n
   pub filling : Needs (fillingOf most s) (256 * n) n
   pub page : RefusedOnPage s 18 0
 
 pub record PreviewExamples : Type 0 where
-  -- 32 equations are the most that the page shows, in 8192 bytes
+  -- 32 equations are the most that the page shows, in 8192 entries
   pub chain-31 : ShownOnPage (chainFile 31) 32
-  -- 33, in 8448 bytes at the desk
+  -- 33, in 8448 entries at the desk
   pub chain-32 : ShownAtDeskOnly (chainFile 32) 33
   pub chain-63 : ShownAtDeskOnly (chainFile 63) 64
   -- a node too many comes before 18
   pub chain-64 : RefusedOnPage (chainFile 64) 4 132
-  -- the most that the desk shows, and what is 9 there
+  -- more than bytes could number, and what is 9 at the desk
   pub window-7 : ShownAtDeskOnly (windowFile 7) 128
-  pub window-8 : RefusedOnPage (windowFile 8) 18 0
+  pub window-9 : ShownAtDeskOnly (windowFile 9) 512
+  pub window-10 : RefusedOnPage (windowFile 10) 18 0
   -- the number-pool rule: its count, and of the page's table the rows and the listing that the paper prints
   pub pool : ShownOnPage poolFile 3
   pub pool-table : (table : List ℕ) → 768 ≤ length table → PoolTable (tableAfter mark (previewFillingOf poolFile (length table)) table)

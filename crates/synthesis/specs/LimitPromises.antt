@@ -28,8 +28,8 @@ abbrev pub LimitsAgree : Type 0
 LimitsAgree = (limit limit′ : ℕ) (s : List ℕ) → limit ≤ limit′ → AgreeOn limit limit′ s
 
 -- 2. The answers under two limits, the second no smaller. A file is counted under the first exactly where it has that count under the second and this is up to
--- the first limit; by the short table it then has the same count, too. A refusal other than 9 is the same under both. What is refused with 9 under the first has
--- a count over that limit under the second, or is refused with 9 there as well. With 128 and `most` this says which files get another answer by C-19.
+-- the first limit; by the short table it then has the same count, too. A refusal other than 9 is the same under both. Refused with 9 under the first is what
+-- has a count over that limit under the second, and what is refused with 9 there as well. With 128 and `most` this says which files get another answer by C-19.
 pub record Stays (limit limit′ : ℕ) (s : List ℕ) : Type 0 where
   pub counted : (n : ℕ) → (countedOf (synthesisOf limit s) ≡ Equations n) ↔ ((countedOf (synthesisOf limit′ s) ≡ Equations n) × (n ≤ limit))
   pub short-counted : (m : ℕ) → countedOf (shortOf limit s) ≡ Equations m → countedOf (shortOf limit′ s) ≡ Equations m
@@ -37,6 +37,7 @@ pub record Stays (limit limit′ : ℕ) (s : List ℕ) : Type 0 where
       → (countedOf (synthesisOf limit s) ≡ Refused number place) ↔ (countedOf (synthesisOf limit′ s) ≡ Refused number place)
   pub nine : (place : ℕ) → countedOf (synthesisOf limit s) ≡ Refused 9 place
       → ((n : ℕ) × (limit < n) × (countedOf (synthesisOf limit′ s) ≡ Equations n)) ⊎ (countedOf (synthesisOf limit′ s) ≡ Refused 9 place)
+  pub over : (n : ℕ) → limit < n → countedOf (synthesisOf limit′ s) ≡ Equations n → countedOf (synthesisOf limit s) ≡ Refused 9 0
   pub still-nine : (place : ℕ) → countedOf (synthesisOf limit′ s) ≡ Refused 9 place → countedOf (synthesisOf limit s) ≡ Refused 9 place
 
 abbrev pub OldRulesStay : Type 0

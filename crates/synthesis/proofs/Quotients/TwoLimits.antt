@@ -8,7 +8,7 @@ use native.Mathlib.Decide.{decLe}
 use native.Mathlib.Omega.{arith}
 use lib.Dec.{ltb}
 use lib.ListN.{length}
-use borrow.Author.Tests.{le-ltb, ltb-true}
+use borrow.Author.Tests.{lt-ltb, le-ltb, ltb-true}
 use Rattle.reading.specs.File.{Outcome, accepted, refused, andThen}
 use Rattle.reading.proofs.Basics.Outcomes.{accepted-is, refuse-refused, andThen-refused, never-refused}
 use Rattle.synthesis.specs.Monitor.{lookup}
@@ -61,6 +61,9 @@ module _ (limit limit′ : ℕ) (s : List ℕ) (h : limit ≤ limit′) where
         refuse-refused (λ k p. ((n : ℕ) × (limit < n) × (countedOf (synthesisOf limit′ s) ≡ Equations n)) ⊎ (countedOf (synthesisOf limit′ s) ≡ Refused 9 place))
         (ltb limit (length (y .equations))) 9 0 (accepted y) within
         (λ over. inl (length (y .equations), ltb-true limit (length (y .equations)) over, ap countedOf is)) (λ f e′. absurd (never-refused e′));
+    over = λ n more e.
+        let (y, is, n-is) = counted-accepts (synthesisOf limit′ s) n e in
+        rw (limits-agree limit limit′ s h .by-limit, is, lt-ltb limit (length (y .equations)) (omega (arith, more, n-is)));
     still-nine = λ place e. ap countedOf (limits-agree limit limit′ s h .refuses 9 place (counted-refuses (synthesisOf limit′ s) 9 place e));
   }
 
