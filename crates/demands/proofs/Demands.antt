@@ -1,22 +1,24 @@
 -- The three demands hold, by the promises of the layers at the limit `most` and the mark `mark`.
-use Prim.Native.Nat.{ℕ, _≤_}
+use Prim.Native.Nat.{ℕ, min, _≤_}
 use mathlib.Core.Path.{_≡_, refl, sym, _∙_}
 use mathlib.Core.Logic.{inl, inr}
 use mathlib.Core.List.{List}
 use native.Mathlib.Omega.{arith}
 use lib.ListN.{length}
+use Rattle.reading.specs.Rule.{Rule, Bytes}
 use Rattle.reading.proofs.Accepting.Accepted.{answers-accepted as rules-accepted}
 use Rattle.reading.proofs.Refusing.FaultsRefused as rules
 use Rattle.synthesis.specs.Monitor.{mark, most}
-use Rattle.synthesis.specs.Building.{fillingOf, shortFillingOf, countedOf}
+use Rattle.synthesis.specs.Building.{fillingOf, shortFillingOf, countedOf, Fills}
 use Rattle.synthesis.specs.Promises.{SameAfterRows}
 use Rattle.synthesis.specs.declared.Counted.the-variants.{Equations}
-use Rattle.synthesis.proofs.Tables.Equations.{file-well-formed, counted-equations, reaches-equations}
+use Rattle.synthesis.proofs.Tables.Equations.{file-well-formed, answers-count, counted-equations, reaches-equations}
 use Rattle.synthesis.proofs.Tables.Built as tables
 use Rattle.synthesis.proofs.Tables.SynthesisOutcomes.{fills-as-counted, short-fills-as-counted}
 use Rattle.synthesis.proofs.Tables.Previews.{preview-counts, preview-fills-as-counted, preview-agrees, preview-fills-accepted}
 use Rattle.synthesis.proofs.Tables.PreviewRefusals.{preview-refused-unchanged}
 use Rattle.synthesis.proofs.Quotients.ShortFillings.{short-refuses-alike, short-refused-unchanged, short-counted-rest}
+use Rattle.synthesis.proofs.Quotients.TwoLimits.{old-rules-stay, fills-more}
 use Rattle.synthesis.proofs.Quotients.Minimal.{shortest-monitor}
 use Rattle.synthesis.proofs.Reasons.Alone.{violates-somewhere}
 use Rattle.synthesis.proofs.Reasons.Explained.{reasons-exactly}
@@ -41,11 +43,11 @@ use Rattle.models.proofs.Judgments.Accepting.{accepts-exactly, short-accepts-ex
 use Rattle.models.proofs.Judgments.Accepting.{preview-accepts-exactly, preview-fills-exactly}
 use Rattle.models.proofs.Judgments.JudgingLaws as judging
 use Rattle.models.proofs.Judgments.TablesEnforce.{tables-enforce, short-tables-enforce, short-bisimilar}
-use Rattle.demands.specs.Outcomes.{counting, filling, previewCounting, previewFilling, previewTableFilled}
+use Rattle.demands.specs.Outcomes.{fillingWithin, tableFilledWithin, previewCounting, previewFilling, previewTableFilled}
 use Rattle.demands.specs.Outcomes.{shortCounting, shortFilling, shortTableFilled, running}
 use Rattle.demands.specs.Refusals.{DeskRefused, PageRefused, RunRefused, short-buffer, unfit}
-use Rattle.demands.specs.Demands.{DemandOne, DemandTwo, DemandTwoShort, DemandTwoPreview, DemandTwoDuty, DemandThree}
-use Rattle.demands.proofs.Refused.{count-refused, count-short-refused, fill-refused}
+use Rattle.demands.specs.Demands.{DemandOne, DemandTwo, DemandTwoWithin, DemandTwoShort, DemandTwoPreview, DemandTwoDuty, DemandThree}
+use Rattle.demands.proofs.Refused.{count-refused, count-refused-within, count-short-refused, fill-refused, fill-refused-within}
 use Rattle.demands.proofs.RefusedOnPage.{count-preview-refused}
 use Rattle.demands.proofs.RefusedReasons.{explain-refused}
 use Rattle.demands.proofs.UnfitTables.{unfit-not-fit}
@@ -68,8 +70,9 @@ demand-one = record {
     read-rule = rules.refuses-at-the-fault;
     count = count-refused;
     explain = λ s kept scan bytes. explain-refused s bytes kept scan;
-    fill = λ s table bytes.
-        fill-refused (DeskRefused s) (counting s) (filling s table) (length table) (count-refused s bytes) (fills-as-counted most s (length table));
+    fill = fill-refused-within most;
+    count-within = λ limit. count-refused-within (min limit most);
+    fill-within = λ limit. fill-refused-within (min limit most);
     count-preview = count-preview-refused;
     fill-preview = λ s table bytes.
         fill-refused (PageRefused s) (previewCounting s) (previewFilling s table) (length table) (count-preview-refused s bytes)
@@ -83,10 +86,12 @@ demand-one = record {
     check-on-duty = check-refused;
     run-on-duty = duty-run-refused;
     read-model = models.refuses-at-the-fault;
-    judge = judge-refused;
+    judge = judge-refused most;
+    judge-within = λ limit. judge-refused (min limit most);
   };
   unchanged = record {
     fill = tables.refused-unchanged most mark;
+    fill-within = λ limit. tables.refused-unchanged (min limit most) mark;
     fill-preview = preview-refused-unchanged;
     fill-short = short-refused-unchanged most mark;
     run = leaving.refused-unchanged most mark;
@@ -94,14 +99,17 @@ demand-one = record {
     go-off = λ d number. goes d number .refused;
     run-on-duty = λ d c. duty-refused-unchanged most mark (c .tables) d (c .scans) (c .output) (c .verdicts);
     judge = λ s table f answer judged number place. judging.refused-unchanged most mark s f table answer judged .refused;
+    judge-within = λ limit s table f answer judged number place. judging.refused-unchanged (min limit most) mark s f table answer judged .refused;
   };
   rest = record {
     fill = tables.counted-rest most mark;
+    fill-within = λ limit. tables.counted-rest (min limit most) mark;
     fill-preview = preview-rest;
     fill-short = short-counted-rest most mark;
     run = leaving.rest-unchanged most mark;
     run-on-duty = λ d c. duty-rest-unchanged most mark (c .tables) d (c .scans) (c .output) (c .verdicts);
     judge = λ s table f answer judged. judging.refused-unchanged most mark s f table answer judged .judged;
+    judge-within = λ limit s table f answer judged. judging.refused-unchanged (min limit most) mark s f table answer judged .judged;
   };
 }
 
@@ -140,6 +148,29 @@ demand-two = record {
   as-counted = λ s table. fills-as-counted most s (length table);
   with-room = λ s table. fills-exactly most s (length table);
   judges = judging.judges-exactly most mark;
+}
+
+-- what is filled within a limit is filled under `most`
+filled-within : (limit : ℕ) (s table : List ℕ) (n : ℕ) → Bytes s → countedOf (fillingWithin limit s table) ≡ Equations n
+    → (r : Rule) × Fills (min limit most) mark s table r n (tableFilledWithin limit s table)
+filled-within limit s table n bytes e = tables.fills-accepted (min limit most) mark s table n (omega arith) bytes e
+
+pub demand-two-within : DemandTwoWithin
+demand-two-within = record {
+  accepts = λ limit. accepts-exactly (min limit most);
+  counts = λ limit s n.
+      let stays = old-rules-stay (min limit most) most s (omega arith) .counted n in (
+        λ e. let (counted, few) = stays .0 e in (counted, omega (arith, few)),
+        λ (e, few). stays .1 (e, omega (arith, few, answers-count most s n e .few)),
+      );
+  as-counted = λ limit s table. fills-as-counted (min limit most) s (length table);
+  with-room = λ limit s table. fills-exactly (min limit most) s (length table);
+  fills = λ limit s table n bytes e.
+      let (r, fills) = filled-within limit s table n bytes e in
+      (r, fills-more (min limit most) most mark s table r n (tableFilledWithin limit s table) (omega arith) (omega arith) fills);
+  judges = λ limit s table n bytes e f y answer read judged.
+      let (r, fills) = filled-within limit s table n bytes e in
+      (r, fills .read, judging.judges-exactly (min limit most) mark s table r n (tableFilledWithin limit s table) fills f y answer read judged);
 }
 
 pub demand-two-short : DemandTwoShort

@@ -16,10 +16,10 @@ use Rattle.reading.proofs.Accepting.Accepted.{accepts-encodings}
 use Rattle.reading.proofs.Refusing.FaultsRefused.{answer-refused, refuses-at-the-fault}
 use Rattle.synthesis.specs.Monitor.{most}
 use Rattle.synthesis.specs.Answering.{unsatisfiable}
-use Rattle.synthesis.specs.Building.{equationsOf, Synthesis, synthesisOfRule, synthesisOf, countedOf}
+use Rattle.synthesis.specs.Building.{equationsOf, Synthesis, synthesisOfRule, synthesisOf, fillingOf, countedOf}
 use Rattle.synthesis.specs.Promises.{FillsAsCounted}
 use Rattle.synthesis.specs.declared.Counted.the-variants as Counted
-use Rattle.synthesis.proofs.Tables.SynthesisOutcomes.{synthesis-of, counted-refuses}
+use Rattle.synthesis.proofs.Tables.SynthesisOutcomes.{synthesis-of, counted-refuses, fills-as-counted}
 use Rattle.synthesis.proofs.Tables.Equations.{refuses-too-many}
 use Rattle.synthesis.proofs.Quotients.ShortFillings.{short-refuses-alike}
 use Rattle.enforcement.specs.Model.{Model, Finite, Satisfies}
@@ -114,3 +114,9 @@ module _ (Clause : (number place : ℕ) → Type 1) (counts filling : Outcome Sy
 
   pub fill-refused : RefusedIff (countedOf filling) Counted.Refused (FillRefused Clause (countedOf counts) capacity)
   fill-refused number place = (fill-refusal-clause number place, fill-clause-refuses)
+
+pub fill-refused-within : (limit : ℕ) (s table : List ℕ) → Bytes s
+    → RefusedIff (countedOf (fillingOf limit s (length table))) Counted.Refused (FillRefused (CountRefused limit 9 s) (countedOf (synthesisOf limit s)) (length table))
+fill-refused-within limit s table bytes =
+    fill-refused (CountRefused limit 9 s) (synthesisOf limit s) (fillingOf limit s (length table)) (length table) (count-refused-within limit s bytes)
+    (fills-as-counted limit s (length table))

@@ -10,7 +10,7 @@ use Rattle.reading.specs.Rule.{Bytes}
 use Rattle.reading.specs.File.{Outcome, accepted, refused}
 use Rattle.reading.proofs.Basics.Outcomes.{refuse-refused, never-refused, andThen-refused}
 use Rattle.synthesis.specs.Monitor.{mark, most}
-use Rattle.synthesis.specs.Building.{countedOf}
+use Rattle.synthesis.specs.Building.{Synthesis, synthesisOf, fillingOf, countedOf}
 use Rattle.synthesis.proofs.Tables.SynthesisOutcomes.{filling-by-count, filling-accepted, fills-as-counted, counted-accepts, counted-refuses}
 use Rattle.synthesis.specs.declared.Counted.the-variants as Counted
 use Rattle.running.specs.Running.{hasRoom, fits, Run, runOf, checkedOf, resultOf}
@@ -24,9 +24,9 @@ use Rattle.models.specs.Judging.{RuleAndModel, judgingOf, JudgedAs}
 use Rattle.models.specs.declared.Judged.{Judged}
 use Rattle.models.specs.declared.Judged.the-variants as Judged′
 use Rattle.models.proofs.Files.FileFaults.{model-refused, refuses-at-the-fault}
-use Rattle.demands.specs.Outcomes.{counting, filling, running, judging, RefusedIff}
-use Rattle.demands.specs.Refusals.{DeskRefused, FillRefused, RunRefused, short-buffer, unfit, JudgeRefused, in-filling, in-model}
-use Rattle.demands.proofs.Refused.{count-refused, fill-refused}
+use Rattle.demands.specs.Outcomes.{running, RefusedIff}
+use Rattle.demands.specs.Refusals.{CountRefused, RunRefused, short-buffer, unfit, JudgeRefused, in-filling, in-model}
+use Rattle.demands.proofs.Refused.{fill-refused-within}
 use Rattle.demands.proofs.UnfitTables.{unfit-not-fit, not-fit-unfit}
 
 -- ---- running
@@ -81,36 +81,43 @@ refusal-only-answer : (o : Outcome RuleAndModel) (answer : Judged) (number place
     → answer ≡ Judged′.Refused number place
 refusal-only-answer o answer number place judged refuses = rw (judged-refuses o number place refuses) at judged
 
-module _ (s table f : List ℕ) (bytes : Bytes s) (bytes′ : Bytes f) where
-  filling-refused : RefusedIff (countedOf (filling s table)) Counted.Refused (FillRefused (DeskRefused s) (countedOf (counting s)) (length table))
-  filling-refused = fill-refused (DeskRefused s) (counting s) (filling s table) (length table) (count-refused s bytes) (fills-as-counted most s (length table))
+module _ (limit : ℕ) (s table f : List ℕ) (bytes : Bytes s) (bytes′ : Bytes f) where
+  abbrev counts : Outcome Synthesis
+  counts = synthesisOf limit s
 
-  judge-refusal-clause : (number place : ℕ) → JudgedAs (judging s table f) (Judged′.Refused number place)
-      → JudgeRefused s (countedOf (counting s)) (length table) f number place
+  abbrev fills : Outcome Synthesis
+  fills = fillingOf limit s (length table)
+
+  abbrev judges : Outcome RuleAndModel
+  judges = judgingOf limit s (length table) f
+
+
+  judge-refusal-clause : (number place : ℕ) → JudgedAs (judges) (Judged′.Refused number place)
+      → JudgeRefused (CountRefused limit 9 s) (countedOf counts) (length table) f number place
   unfolding judgingOf
   judge-refusal-clause number place judged =
-      andThen-refused (filling s table) _ (judged-refuses (judging s table f) number place judged)
-      (λ e. in-filling (filling-refused number place .0 (ap countedOf e)))
-      (λ y fills e.
-      let (counts, room) = filling-accepted {counting = counting s} (length table) (filling-by-count most s (length table)) y fills in
+      andThen-refused fills _ (judged-refuses (judges) number place judged)
+      (λ e. in-filling (fill-refused-within limit s table bytes number place .0 (ap countedOf e)))
+      (λ y filled e.
+      let (counts, room) = filling-accepted {counting = counts} (length table) (filling-by-count limit s (length table)) y filled in
       andThen-refused (phoneOf f) _ e
       (λ e′.
       in-model (length (y .equations)) (ap countedOf counts) room
       (refuses-at-the-fault f bytes′ number place .0 (model-refused (phoneOf f) number place .0 e′)))
       (λ p read e′. absurd (never-refused e′)))
 
-  judge-clause-refuses : {number place : ℕ} → JudgeRefused s (countedOf (counting s)) (length table) f number place
-      → JudgedAs (judging s table f) (Judged′.Refused number place)
+  judge-clause-refuses : {number place : ℕ} → JudgeRefused (CountRefused limit 9 s) (countedOf counts) (length table) f number place
+      → JudgedAs (judges) (Judged′.Refused number place)
   unfolding judgingOf
-  judge-clause-refuses {number} {place} (in-filling b) = rw (counted-refuses (filling s table) number place (filling-refused number place .1 b))
+  judge-clause-refuses {number} {place} (in-filling b) = rw (counted-refuses fills number place (fill-refused-within limit s table bytes number place .1 b))
   judge-clause-refuses {number} {place} (in-model n e room fault) =
-      let (y, fills, long) = counted-accepts (filling s table) n (fills-as-counted most s (length table) .enough n e room) in
+      let (y, filled, long) = counted-accepts fills n (fills-as-counted limit s (length table) .enough n e room) in
       let read = model-refused (phoneOf f) number place .1 (refuses-at-the-fault f bytes′ number place .1 fault) in
-      rw (fills, read)
+      rw (filled, read)
 
-  pub judge-refused : (answer : Judged) → JudgedAs (judging s table f) answer
-      → RefusedIff answer Judged′.Refused (JudgeRefused s (countedOf (counting s)) (length table) f)
+  pub judge-refused : (answer : Judged) → JudgedAs (judges) answer
+      → RefusedIff answer Judged′.Refused (JudgeRefused (CountRefused limit 9 s) (countedOf counts) (length table) f)
   judge-refused answer judged number place = (
     λ e. judge-refusal-clause number place (rw e at judged),
-    λ h. refusal-only-answer (judging s table f) answer number place judged (judge-clause-refuses h),
+    λ h. refusal-only-answer (judges) answer number place judged (judge-clause-refuses h),
   )

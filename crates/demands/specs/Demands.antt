@@ -1,7 +1,7 @@
 -- The three demands on the product. Each is a record of claims in the very terms of the contracts in the layers' `src/`: what a function answers, and
 -- what it leaves in a buffer that it is lent (`Outcomes`). A rule file that isn't refused is `encode r` of a rule within the limits, and a model file
 -- `encodePhone y` of a model within them (`reads-rule`, `reads-model`).
-use Prim.Native.Nat.{ℕ, _≤_}
+use Prim.Native.Nat.{ℕ, min, _≤_}
 use mathlib.Core.Path.{_≡_}
 use mathlib.Core.Logic.{_↔_, _⊎_}
 use mathlib.Core.List.{List}
@@ -38,10 +38,10 @@ use Rattle.models.specs.Judging.{stored, modelReadingOf, JudgedAs}
 use Rattle.models.specs.Promises.{EnforcesRule, Acceptable, FillsWithRoom, JudgedExactly}
 use Rattle.models.specs.declared.Judged.{Judged}
 use Rattle.models.specs.declared.Judged.the-variants as Judged′
-use Rattle.demands.specs.Outcomes.{counting, explaining, filling, tableFilled, previewCounting, previewFilling, previewTableFilled}
-use Rattle.demands.specs.Outcomes.{shortCounting, shortFilling, shortTableFilled, running, judging, tableAfterJudging, RefusedIff, IfRefused}
+use Rattle.demands.specs.Outcomes.{counting, explaining, filling, tableFilled, countingWithin, fillingWithin, tableFilledWithin, previewCounting, previewFilling, previewTableFilled}
+use Rattle.demands.specs.Outcomes.{shortCounting, shortFilling, shortTableFilled, running, judging, tableAfterJudging, judgingWithin, tableAfterJudgingWithin, RefusedIff, IfRefused}
 use Rattle.demands.specs.Outcomes.{comingOn, goingOff, runningOnDuty}
-use Rattle.demands.specs.Refusals.{DeskRefused, PageRefused, ExplainRefused, FillRefused, RunRefused, JudgeRefused}
+use Rattle.demands.specs.Refusals.{DeskRefused, WithinRefused, PageRefused, ExplainRefused, FillRefused, RunRefused, JudgeRefused}
 use Rattle.demands.specs.Refusals.{ComeRefused, GoRefused, DutyRunRefused}
 
 -- ---- demand 1
@@ -54,6 +54,10 @@ pub record RefusesExactly : Type 1 where
   pub explain : (s kept : List ℕ) (scan : ℕ) → Bytes s → RefusedIff (reasonOf (explaining s kept scan)) Reason.Refused (ExplainRefused s kept)
   pub fill : (s table : List ℕ) → Bytes s
       → RefusedIff (countedOf (filling s table)) Counted.Refused (FillRefused (DeskRefused s) (countedOf (counting s)) (length table))
+  pub count-within : (limit : ℕ) (s : List ℕ) → Bytes s → RefusedIff (countedOf (countingWithin limit s)) Counted.Refused (WithinRefused limit s)
+  pub fill-within : (limit : ℕ) (s table : List ℕ) → Bytes s
+      → RefusedIff (countedOf (fillingWithin limit s table)) Counted.Refused
+      (FillRefused (WithinRefused limit s) (countedOf (countingWithin limit s)) (length table))
   pub count-preview : (s : List ℕ) → Bytes s → RefusedIff (countedOf (previewCounting s)) Counted.Refused (PageRefused s)
   pub fill-preview : (s table : List ℕ) → Bytes s
       → RefusedIff (countedOf (previewFilling s table)) Counted.Refused (FillRefused (PageRefused s) (countedOf (previewCounting s)) (length table))
@@ -67,11 +71,15 @@ pub record RefusesExactly : Type 1 where
   pub run-on-duty : (d : Duty) (c : DutyCall) → RefusedIff (dutyRanOf d (runningOnDuty d c) .checked) Checked.Refused (DutyRunRefused d c)
   pub read-model : (f : List ℕ) → Bytes f → RefusedIff (modelReadingOf (phoneOf f) .answer) Reading.Refused (ModelFault f)
   pub judge : (s table f : List ℕ) → Bytes s → Bytes f → (answer : Judged) → JudgedAs (judging s table f) answer
-      → RefusedIff answer Judged′.Refused (JudgeRefused s (countedOf (counting s)) (length table) f)
+      → RefusedIff answer Judged′.Refused (JudgeRefused (DeskRefused s) (countedOf (counting s)) (length table) f)
+  pub judge-within : (limit : ℕ) (s table f : List ℕ) → Bytes s → Bytes f → (answer : Judged) → JudgedAs (judgingWithin limit s table f) answer
+      → RefusedIff answer Judged′.Refused (JudgeRefused (WithinRefused limit s) (countedOf (countingWithin limit s)) (length table) f)
 
 -- A refused call changes no lent buffer, and hands back the state that it was given, a refused run with counts of 0.
 pub record LeavesUnchanged : Type 0 where
   pub fill : (s table : List ℕ) → IfRefused (countedOf (filling s table)) Counted.Refused (TableUnchanged mark table (filling s table))
+  pub fill-within : (limit : ℕ) (s table : List ℕ)
+      → IfRefused (countedOf (fillingWithin limit s table)) Counted.Refused (TableUnchanged mark table (fillingWithin limit s table))
   pub fill-preview : (s table : List ℕ) → IfRefused (countedOf (previewFilling s table)) Counted.Refused (TableUnchanged mark table (previewFilling s table))
   pub fill-short : (s table : List ℕ) → IfRefused (countedOf (shortFilling s table)) Counted.Refused (TableUnchanged mark table (shortFilling s table))
   pub run : (s : State) (c : Call) → IfRefused (resultOf s (running s c) .checked) Checked.Refused (RunUnchanged s c (running s c))
@@ -81,11 +89,15 @@ pub record LeavesUnchanged : Type 0 where
       → IfRefused (dutyRanOf d (runningOnDuty d c) .checked) Checked.Refused (DutyUnchanged d (c .output) (c .verdicts) (runningOnDuty d c))
   pub judge : (s table f : List ℕ) (answer : Judged) → JudgedAs (judging s table f) answer
       → IfRefused answer Judged′.Refused (tableAfterJudging s table f ≡ table)
+  pub judge-within : (limit : ℕ) (s table f : List ℕ) (answer : Judged) → JudgedAs (judgingWithin limit s table f) answer
+      → IfRefused answer Judged′.Refused (tableAfterJudgingWithin limit s table f ≡ table)
 
--- Any other changes no byte that isn't its own: filling none behind the rows, a run none behind the kept scans and the verdicts. Judging leaves what
+-- Any other changes nothing that isn't its own: filling no entry behind the rows, a run no byte behind the kept scans and the verdicts. Judging leaves what
 -- filling leaves. Counting is lent nothing.
 pub record LeavesTheRest : Type 0 where
   pub fill : (s table : List ℕ) (n : ℕ) → countedOf (filling s table) ≡ Counted.Equations n → SameAfterRows n table (tableFilled s table)
+  pub fill-within : (limit : ℕ) (s table : List ℕ) (n : ℕ) → countedOf (fillingWithin limit s table) ≡ Counted.Equations n
+      → SameAfterRows n table (tableFilledWithin limit s table)
   pub fill-preview : (s table : List ℕ) (n : ℕ) → countedOf (previewFilling s table) ≡ Counted.Equations n
       → SameAfterRows n table (previewTableFilled s table)
   pub fill-short : (s table : List ℕ) (n : ℕ) → countedOf (shortFilling s table) ≡ Counted.Equations n
@@ -95,8 +107,10 @@ pub record LeavesTheRest : Type 0 where
       → Fronts (c .scans) (c .output) (c .verdicts) (runningOnDuty d c) (dutyRanOf d (runningOnDuty d c) .kept)
   pub judge : (s table f : List ℕ) (answer : Judged) → JudgedAs (judging s table f) answer → (answer ≡ Judged′.Meets) ⊎ (answer ≡ Judged′.Breaks)
       → tableAfterJudging s table f ≡ tableFilled s table
+  pub judge-within : (limit : ℕ) (s table f : List ℕ) (answer : Judged) → JudgedAs (judgingWithin limit s table f) answer
+      → (answer ≡ Judged′.Meets) ⊎ (answer ≡ Judged′.Breaks) → tableAfterJudgingWithin limit s table f ≡ tableFilledWithin limit s table
 
--- The numbers of the library: the most equations that a rule may have, at the desk and on the rule page, and the entry of a code that is dropped.
+-- The numbers of the library: the most equations that a rule may have, in the library and on the rule page, and the entry of a code that is dropped.
 pub record LibraryNumbers : Type 0 where
   pub most-equations : most ≡ 1000
   pub most-on-page : previewLimit ≡ 32
@@ -143,6 +157,22 @@ pub record DemandTwo : Type 1 where
   pub with-room : (s table : List ℕ) → Bytes s → FillsWithRoom most s (counting s) (filling s table) (length table)
   pub judges : (s table : List ℕ) (r : Rule) (n : ℕ) (left : List ℕ) → Fills most mark s table r n left
       → (f : List ℕ) (y : Phone) (answer : Judged) → phoneOf f ≡ accepted y → JudgedAs (judging s table f) answer → JudgedExactly r y answer
+
+-- The same within a limit of the caller's. The rules that are taken are those of the grammar with at most so many equations; they are those that are taken
+-- without it and counted up to it, each table that is filled is one that is filled without it, and so all that is said of these holds of them.
+pub record DemandTwoWithin : Type 1 where
+  pub accepts : (limit : ℕ) (s : List ℕ) → Bytes s
+      → ((n : ℕ) × (countedOf (countingWithin limit s) ≡ Counted.Equations n)) ↔ Acceptable (min limit most) s
+  pub counts : (limit : ℕ) (s : List ℕ) (n : ℕ) → (countedOf (countingWithin limit s) ≡ Counted.Equations n)
+      ↔ ((countedOf (counting s) ≡ Counted.Equations n) × (n ≤ limit))
+  pub as-counted : (limit : ℕ) (s table : List ℕ) → FillsAsCounted (countingWithin limit s) (fillingWithin limit s table) (length table)
+  pub with-room : (limit : ℕ) (s table : List ℕ) → Bytes s
+      → FillsWithRoom (min limit most) s (countingWithin limit s) (fillingWithin limit s table) (length table)
+  pub fills : (limit : ℕ) (s table : List ℕ) (n : ℕ) → Bytes s → countedOf (fillingWithin limit s table) ≡ Counted.Equations n
+      → (r : Rule) × Fills most mark s table r n (tableFilledWithin limit s table)
+  pub judges : (limit : ℕ) (s table : List ℕ) (n : ℕ) → Bytes s → countedOf (fillingWithin limit s table) ≡ Counted.Equations n
+      → (f : List ℕ) (y : Phone) (answer : Judged) → phoneOf f ≡ accepted y → JudgedAs (judgingWithin limit s table f) answer
+      → (r : Rule) × (ruleOf s ≡ accepted r) × JudgedExactly r y answer
 
 -- The same of the short table, and of the files that it can be filled from. Its count is at least 1 and at most that of the long table, and no table that
 -- monitors the rule has fewer rows.

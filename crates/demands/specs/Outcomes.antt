@@ -1,6 +1,6 @@
 -- The calls of the layers, in the very terms of their contracts: the outcome of each, and what it leaves in a table. The limit on equations is `most`,
--- on the rule page `previewLimit`, and the mark for dropped is `mark`.
-use Prim.Native.Nat.{ℕ}
+-- or what the caller says, on the rule page `previewLimit`, and the mark for dropped is `mark`.
+use Prim.Native.Nat.{ℕ, min}
 use mathlib.Core.Path.{_≡_}
 use mathlib.Core.Logic.{_↔_}
 use mathlib.Core.List.{List}
@@ -34,6 +34,16 @@ filling s table = fillingOf most s (length table)
 
 abbrev pub tableFilled : (s table : List ℕ) → List ℕ
 tableFilled s table = tableLeft most mark s table
+
+-- counting within a limit, and filling a table; a limit over `most` counts as `most`
+abbrev pub countingWithin : (limit : ℕ) → List ℕ → Outcome Synthesis
+countingWithin limit s = synthesisOf (min limit most) s
+
+abbrev pub fillingWithin : (limit : ℕ) → (s table : List ℕ) → Outcome Synthesis
+fillingWithin limit s table = fillingOf (min limit most) s (length table)
+
+abbrev pub tableFilledWithin : (limit : ℕ) → (s table : List ℕ) → List ℕ
+tableFilledWithin limit s table = tableLeft (min limit most) mark s table
 
 -- counting on the page, and filling a table there
 abbrev pub previewCounting : List ℕ → Outcome Synthesis
@@ -75,6 +85,13 @@ judging s table f = judgingOf most s (length table) f
 
 abbrev pub tableAfterJudging : (s table f : List ℕ) → List ℕ
 tableAfterJudging s table f = tableJudged (judging s table f) (tableFilled s table) table
+
+-- the same within a limit
+abbrev pub judgingWithin : (limit : ℕ) → (s table f : List ℕ) → Outcome RuleAndModel
+judgingWithin limit s table f = judgingOf (min limit most) s (length table) f
+
+abbrev pub tableAfterJudgingWithin : (limit : ℕ) → (s table f : List ℕ) → List ℕ
+tableAfterJudgingWithin limit s table f = tableJudged (judgingWithin limit s table f) (tableFilledWithin limit s table) table
 
 -- ---- answers
 

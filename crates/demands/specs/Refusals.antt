@@ -1,6 +1,6 @@
 -- When a call is refused, for each function that can refuse: a clause for each way, with the paper's number and place. `RuleFault` and `ModelFault` have
--- those of files. A table has 256 bytes for each equation; there are at most `most`, on the rule page at most `previewLimit`, and `mark` stands for dropped.
-use Prim.Native.Nat.{ℕ, _+_, _*_, _≤_, _<_}
+-- those of files. A table has 256 entries for each equation; there are at most `most`, on the rule page at most `previewLimit`, and `mark` stands for dropped.
+use Prim.Native.Nat.{ℕ, min, _+_, _*_, _≤_, _<_}
 use mathlib.Core.Path.{_≡_}
 use mathlib.Core.Logic.{_⊎_}
 use mathlib.Core.List.{List}
@@ -37,6 +37,10 @@ pub data CountRefused (limit beyond : ℕ) (s : List ℕ) : (number place : ℕ)
 abbrev pub DeskRefused : (s : List ℕ) → (number place : ℕ) → Type 1
 DeskRefused s = CountRefused most 9 s
 
+-- counting within a limit
+abbrev pub WithinRefused : (limit : ℕ) → (s : List ℕ) → (number place : ℕ) → Type 1
+WithinRefused limit s = CountRefused (min limit most) 9 s
+
 -- counting on the page
 abbrev pub PageRefused : (s : List ℕ) → (number place : ℕ) → Type 1
 PageRefused s = CountRefused previewLimit 18 s
@@ -48,14 +52,14 @@ pub data ExplainRefused (s kept : List ℕ) : (number place : ℕ) → Type 1 wh
   -- 17: it isn't, and the shortest front of the kept scans that violates the rule ends with the one at this place
   violating-scan : (a : Acceptable most s) (i : ℕ) → FirstViolated (a .rule) kept i → ExplainRefused s kept 17 i
 
--- filling a table of so many bytes, where counting for it is refused by these clauses, and gives this answer
+-- filling a table of so many entries, where counting for it is refused by these clauses, and gives this answer
 pub data FillRefused (Counting : (number place : ℕ) → Type 1) (counted : Counted) (capacity : ℕ) : (number place : ℕ) → Type 1 where
   -- 1 to 9, or on the page 1 to 8 and 18: counting is refused
   in-rule : {number place : ℕ} → Counting number place → FillRefused Counting counted capacity number place
-  -- 10: it isn't, and the table has fewer bytes than the rows of all that are counted
+  -- 10: it isn't, and the table has fewer entries than the rows of all that are counted
   short-table : (n : ℕ) → counted ≡ Equations n → capacity < 256 * n → FillRefused Counting counted capacity 10 0
 
--- what makes a table, a count and a state unfit for a run: byte 256 × k + c is the entry of equation k for the code c
+-- what makes a table, a count and a state unfit for a run: element 256 × k + c is the entry of equation k for the code c
 pub data Unfit (table : List ℕ) (count : ℕ) (s : State) : Type 0 where
   no-equations : count ≡ 0 → Unfit table count s
   many-equations : most < count → Unfit table count s
@@ -99,10 +103,10 @@ pub data DutyRunRefused (d : Duty) (c : DutyCall) : (number place : ℕ) → Typ
   unfit-rule : length (c .scans) ≤ length (c .output) → length (c .scans) ≤ length (c .verdicts) → SoundDuty d → (i : ℕ) → i < d .count
       → Unfit (drop (ruleIn d i .base) (c .tables)) (ruleIn d i .count) (moved start (ruleIn d i .equation)) → DutyRunRefused d c 16 0
 
--- judging a model file under a rule file, with a table of so many bytes, where counting gives this answer
-pub data JudgeRefused (s : List ℕ) (counted : Counted) (capacity : ℕ) (f : List ℕ) : (number place : ℕ) → Type 1 where
+-- judging a model file under a rule file, with a table of so many entries, where counting is refused by these clauses, and gives this answer
+pub data JudgeRefused (Counting : (number place : ℕ) → Type 1) (counted : Counted) (capacity : ℕ) (f : List ℕ) : (number place : ℕ) → Type 1 where
   -- 1 to 10: filling is refused
-  in-filling : {number place : ℕ} → FillRefused (DeskRefused s) counted capacity number place → JudgeRefused s counted capacity f number place
+  in-filling : {number place : ℕ} → FillRefused Counting counted capacity number place → JudgeRefused Counting counted capacity f number place
   -- 11 to 14: it isn't, and the file is no model
   in-model : {number place : ℕ} (n : ℕ) → counted ≡ Equations n → 256 * n ≤ capacity → ModelFault f number place
-      → JudgeRefused s counted capacity f number place
+      → JudgeRefused Counting counted capacity f number place
