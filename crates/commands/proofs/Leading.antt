@@ -39,6 +39,11 @@ module _ {rule : NumberedRule} {table : List ℕ} {count : ℕ} where
         on = after .0;
       })
 
+  -- so all lines that lead to a position do
+  pub lead-leads : {lines at : ℕ} → LeadTo rule table count lines at → Leads rule table count lines at
+  lead-leads first = leads-none
+  lead-leads (next {lines} lead some) = rw (← add-one lines) (leads-next (lead-leads lead) refl some .leads)
+
 -- ---- the text of lines from a position on
 
 module _ (rule : NumberedRule) (table : List ℕ) (count : ℕ) where

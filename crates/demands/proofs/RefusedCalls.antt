@@ -91,7 +91,6 @@ module _ (limit : ℕ) (s table f : List ℕ) (bytes : Bytes s) (bytes′ : Byte
   abbrev judges : Outcome RuleAndModel
   judges = judgingOf limit s (length table) f
 
-
   judge-refusal-clause : (number place : ℕ) → JudgedAs (judges) (Judged′.Refused number place)
       → JudgeRefused (CountRefused limit 9 s) (countedOf counts) (length table) f number place
   unfolding judgingOf
