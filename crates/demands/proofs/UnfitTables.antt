@@ -1,5 +1,5 @@
 -- A table, a count and a state are unfit exactly where the table isn't well formed for the count or the state isn't under it: where all else is in
--- order, some byte of the rows isn't in range, and its place says which entry it is.
+-- order, some element of the rows isn't in range, and its place says which entry it is.
 use Prim.Native.Nat.{ℕ, _+_, _*_, _/_, _%_, _≤_, _<_}
 use mathlib.Core.Path.{_≡_, refl}
 use mathlib.Core.Logic.{inl, inr}
@@ -16,7 +16,7 @@ use Rattle.reading.specs.Pattern.{every}
 use Rattle.reading.proofs.Measures.BoundedTests.{every-fails, every-is}
 use Rattle.synthesis.specs.Monitor.{mark, most}
 use Rattle.synthesis.specs.Table.{InRange, WellFormedTable}
-use Rattle.synthesis.proofs.Tables.WellFormedTables.{well-formed-room, well-formed-entry, well-formed-by-bytes}
+use Rattle.synthesis.proofs.Tables.WellFormedTables.{well-formed-room, well-formed-entry, well-formed-by-elements}
 use Rattle.running.specs.Running.{inRange}
 use Rattle.running.specs.declared.State.{State}
 use Rattle.running.proofs.Tables.{in-range}
@@ -58,7 +58,7 @@ module _ (table : List ℕ) (count : ℕ) (s : State) (bad : Fits table count s 
   rows-unfit some few under room false q = let (i, h, e) = every-fails (256 * count) entryTest q in entry-unfit room i h e
   rows-unfit some few under room true q =
       absurd (bad (
-        well-formed-by-bytes most mark count table some few room
+        well-formed-by-elements most mark count table some few room
             (λ i h. in-range mark count (getD table i 0) .0 (every-is (256 * count) entryTest .0 q i h)),
         under,
       ))

@@ -20,7 +20,7 @@ use Rattle.synthesis.proofs.Tables.SynthesisOutcomes.{filling-by-count, filling
 use Rattle.examples.specs.Examples.{CountedAs, Refuses, ReadAs}
 
 module _ (s : List ℕ) where
-  -- with the bytes for the answer, filling answers as counting does
+  -- with the entries for the answer, filling answers as counting does
   answers : (answer : Counted) → countedOf (synthesisOf most s) ≡ answer → CountedAs s answer
   answers (Equations n) e = record { counting = e; filling = λ capacity. fills-as-counted most s capacity .enough n e }
   answers (Refused number place) e = record { counting = e; filling = λ capacity none. fills-as-counted most s capacity .refused number place e }

@@ -28,7 +28,7 @@ refused-bare s number place e = record {
   short = short-fills-as-counted most s 0 .refused number place (short-refuses-alike most s .refused number place .1 e);
 }
 
--- what is counted as n equations needs 256 × n bytes
+-- what is counted as n equations needs 256 × n entries
 pub needs : {counting : Outcome Synthesis} {filling : ℕ → Outcome Synthesis} → ((capacity : ℕ) → FillsAsCounted counting (filling capacity) capacity)
     → (n : ℕ) → countedOf counting ≡ Equations n → Needs filling (256 * n) n
 needs counts n e = record { fits = counts (256 * n) .enough n e (omega arith); too-short = λ capacity. counts capacity .too-short n e }

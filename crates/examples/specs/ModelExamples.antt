@@ -27,13 +27,13 @@ step from label to = record { from = from; label = label; to = to }
 abbrev pub behind : (s table : List ℕ) → Model → Model
 behind s table = monitored (suppressing (lookup 256 mark (tableLeft most mark s table))) 0
 
--- With a table of so many bytes this is an answer of judging a model under a rule, and it is the only one.
+-- With a table of so many entries this is an answer of judging a model under a rule, and it is the only one.
 abbrev pub JudgesIn : (s : List ℕ) → (capacity : ℕ) → (model : List ℕ) → Judged → Type 0
 JudgesIn s capacity f answer = (r : Judged) → JudgedAs (judgingOf most s capacity f) r ↔ (r ≡ answer)
 
--- the same with every table of at least so many bytes
-abbrev pub Judges : (s : List ℕ) → (bytes : ℕ) → (model : List ℕ) → Judged → Type 0
-Judges s bytes f answer = (capacity : ℕ) → bytes ≤ capacity → JudgesIn s capacity f answer
+-- the same with every table of at least so many entries
+abbrev pub Judges : (s : List ℕ) → (room : ℕ) → (model : List ℕ) → Judged → Type 0
+Judges s room f answer = (capacity : ℕ) → room ≤ capacity → JudgesIn s capacity f answer
 
 abbrev pub JudgesPool : (model : List ℕ) → Judged → Type 0
 JudgesPool = Judges poolFile 768

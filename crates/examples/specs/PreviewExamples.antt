@@ -35,7 +35,7 @@ pub record PreviewExamples : Type 0 where
   pub chain-63 : ShownAtDeskOnly (chainFile 63) 64
   -- a node too many comes before 18
   pub chain-64 : RefusedOnPage (chainFile 64) 4 132
-  -- more than bytes could number, and what is 9 at the desk
+  -- what the programs take at most, what only the library takes, and what is 9 there
   pub window-7 : ShownAtDeskOnly (windowFile 7) 128
   pub window-9 : ShownAtDeskOnly (windowFile 9) 512
   pub window-10 : RefusedOnPage (windowFile 10) 18 0

@@ -53,7 +53,7 @@ ShowsAnswers =
     (table : List ℕ) (k : ℕ) → All (λ (r : CodeRun). (c : ℕ) → r .first ≤ c → c ≤ r .last → lookup 256 mark table k c ≡ meaning mark (r .entry))
     (runs (rowOf 256 table k))
 
--- 4. A line goes by the rows that are listed, and by no other byte of the table: over tables with the same rows each position has the same line.
+-- 4. A line goes by the rows that are listed, and by no other entry of the table: over tables with the same rows each position has the same line.
 abbrev pub ListsByRows : Type 0
 ListsByRows =
     (rule : NumberedRule) (table table′ : List ℕ) (count : ℕ) → ((k : ℕ) → k < count → rowOf 256 table k ≡ rowOf 256 table′ k)

@@ -43,7 +43,7 @@ pub record RuleAndModel : Type 0 where
 abbrev pub withModel : (model : List ℕ) → Synthesis → Outcome RuleAndModel
 withModel f y = andThen (phoneOf f) (λ p. accepted (record { rule = y .rule; phone = p }))
 
--- What is judged, with a table of so many bytes: 1 to 9 of the rule come first, then 10 of the table, and then 11 to 14 of the model.
+-- What is judged, with a table of so many entries: 1 to 9 of the rule come first, then 10 of the table, and then 11 to 14 of the model.
 unfoldable pub judgingOf : (limit : ℕ) → (rule : List ℕ) → (capacity : ℕ) → (model : List ℕ) → Outcome RuleAndModel
 judgingOf limit s capacity f = andThen (fillingOf limit s capacity) (withModel f)
 

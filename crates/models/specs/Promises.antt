@@ -79,7 +79,7 @@ JudgedAlike =
     → (table table′ : List ℕ) → length table ≡ length table′ → (f : List ℕ) (answer answer′ : Judged)
     → JudgedAs (judgingOf limit s (length table) f) answer → JudgedAs (judgingOf limit s′ (length table′) f) answer′ → answer ≡ answer′
 
--- What judging leaves in the table, in the terms of its contract: where the answer is a refusal, of the rule or of the model, all bytes as they were,
+-- What judging leaves in the table, in the terms of its contract: where the answer is a refusal, of the rule or of the model, all entries as they were,
 -- and else exactly what filling leaves.
 pub record JudgingLeaves (answer : Judged) (before left after : List ℕ) : Type 0 where
   pub refused : {number place : ℕ} → answer ≡ NotJudged number place → after ≡ before
@@ -91,7 +91,7 @@ RefusedUnchanged =
     let left = tableLeft limit mark s table in
     JudgingLeaves answer table left (tableJudged (judgingOf limit s (length table) f) left table)
 
--- The order of refusals: that of the rule, if it has one; else 10, if the table has under 256 bytes for each equation counted; else that of the model. Where
+-- The order of refusals: that of the rule, if it has one; else 10, if the table has under 256 entries for each equation counted; else that of the model. Where
 -- there is none, the model is judged.
 pub record InOrder (limit : ℕ) (s : List ℕ) (capacity : ℕ) (f : List ℕ) (answer : Judged) : Type 0 where
   pub rule : (number place : ℕ) → countedOf (synthesisOf limit s) ≡ Refused number place → answer ≡ NotJudged number place
@@ -129,7 +129,7 @@ AcceptsExactly = (limit : ℕ) (s : List ℕ) → Bytes s → ((n : ℕ) × (cou
 abbrev pub ShortAcceptsExactly : Type 1
 ShortAcceptsExactly = (limit : ℕ) (s : List ℕ) → Bytes s → ((n : ℕ) × (countedOf (shortOf limit s) ≡ Equations n)) ↔ Acceptable limit s
 
--- Filling isn't refused exactly when besides the table has 256 bytes for each equation counted.
+-- Filling isn't refused exactly when besides the table has 256 entries for each equation counted.
 abbrev pub FillsWithRoom : (limit : ℕ) → (s : List ℕ) → (counting filling : Outcome Synthesis) → (capacity : ℕ) → Type 1
 FillsWithRoom limit s counting filling capacity =
     ((n : ℕ) × (countedOf filling ≡ Equations n)) ↔ (Acceptable limit s × ((n : ℕ) → countedOf counting ≡ Equations n → 256 * n ≤ capacity))

@@ -1,4 +1,4 @@
--- The test of a table holds exactly where the table is well formed, since the bytes that it looks at are the entries of the rows. A run on a
+-- The test of a table holds exactly where the table is well formed, since what it looks at are the entries of the rows. A run on a
 -- well-formed table never leaves its equations, and goes alike on every table with the same rows.
 use Prim.Native.Nat.{ℕ, _+_, _*_, _≤_, _<_}
 use mathlib.Core.Path.{_≡_, refl, ap}
@@ -13,7 +13,7 @@ use borrow.Author.Tests.{eqb-true, eqb-false, ltb-true, lt-ltb, leb-true, le-leb
 use Rattle.synthesis.specs.Monitor.{Answer, dropped, next, cases, ended, meaning, lookup}
 use Rattle.synthesis.specs.Table.{InRange, WellFormedTable}
 use Rattle.synthesis.proofs.Tables.Rows.{row-at}
-use Rattle.synthesis.proofs.Tables.WellFormedTables.{well-formed-room, well-formed-row, well-formed-byte, well-formed-by-bytes}
+use Rattle.synthesis.proofs.Tables.WellFormedTables.{well-formed-room, well-formed-row, well-formed-element, well-formed-by-elements}
 use Rattle.synthesis.proofs.Tables.WellFormedTables.{lookup-inside, same-row}
 use Rattle.synthesis.proofs.Monitors.Runs.{run-induction}
 use Rattle.running.specs.Running.{moved, answerIn, inRange, entriesInRange, isWellFormed, fits}
@@ -55,7 +55,7 @@ module _ (limit mark : ℕ) (table : List ℕ) (count : ℕ) where
       let room : 256 * count ≤ length table = leb-true (256 * count) (length table) (three .0) in
       let long : length (take (256 * count) table) ≡ 256 * count = length-take-le (256 * count) table room in
       let entries-in-range-at = all-in-range mark count (take (256 * count) table) .0 (three .1) in
-      well-formed-by-bytes limit mark count table (leb-true 1 count (one .0)) (leb-true count limit (two .0)) room
+      well-formed-by-elements limit mark count table (leb-true 1 count (one .0)) (leb-true count limit (two .0)) room
       (λ i h. rw (getD-take (256 * count) table i 0 h) at (entries-in-range-at i (omega arith)))
 
   well-formed-test : WellFormedTable limit mark count table → isWellFormed limit mark table count ≡ true
@@ -65,7 +65,7 @@ module _ (limit mark : ℕ) (table : List ℕ) (count : ℕ) where
       let long : length (take (256 * count) table) ≡ 256 * count = length-take-le (256 * count) table room in
       rw (le-leb 1 count (wf .some), le-leb count limit (wf .few), le-leb (256 * count) (length table) room)
       (all-in-range mark count (take (256 * count) table) .1
-      (λ i h. rw (getD-take (256 * count) table i 0 (omega arith)) (well-formed-byte wf i (omega arith))))
+      (λ i h. rw (getD-take (256 * count) table i 0 (omega arith)) (well-formed-element wf i (omega arith))))
 
   pub is-well-formed-iff : (isWellFormed limit mark table count ≡ true) ↔ WellFormedTable limit mark count table
   is-well-formed-iff = (test-well-formed, well-formed-test)

@@ -68,7 +68,7 @@ pub record MayHappen (limit mark : ℕ) (desk : Desk) : Type 0 where
 -- ---- tables that are filled in place
 
 -- 2. What a desk lends after it has filled a table in place, from any base inside of what it lends, by the long or the short filling: with the count
--- that was answered the table is fit to come on, and monitors the rule of the file, which is well formed. No other byte has changed, so the rows of
+-- that was answered the table is fit to come on, and monitors the rule of the file, which is well formed. No other entry has changed, so the rows of
 -- other rules are as they were, if they lie elsewhere.
 pub record FilledInPlace (limit mark : ℕ) (tables : List ℕ) (base : ℕ) (r : Rule) (n : ℕ) (lent : List ℕ) : Type 0 where
   pub table : WellFormedTable limit mark n (drop base lent)

@@ -74,7 +74,7 @@ MonitorsAlike =
     (r r′ : Rule) → RulesAlike r r′ → (E F : Type 0) (answer : E → ℕ → Answer E) (first : E) (answer′ : F → ℕ → Answer F) (first′ : F)
     → Monitors r answer first → Monitors r′ answer′ first′ → DropAlike 256 answer first answer′ first′
 
--- two tables have as many rows, and these are the same byte for byte
+-- two tables have as many rows, and these are the same entry for entry
 pub record SameRows (n : ℕ) (left : List ℕ) (n′ : ℕ) (left′ : List ℕ) : Type 0 where
   pub count : n ≡ n′
   pub rows : (k : ℕ) → k < n → rowOf 256 left k ≡ rowOf 256 left′ k

@@ -46,11 +46,11 @@ synthesisOfRule limit r =
 unfoldable pub synthesisOf : (limit : ℕ) → List ℕ → Outcome Synthesis
 synthesisOf limit s = andThen (ruleOf s) (synthesisOfRule limit)
 
--- The outcome of these equations in a table of so many bytes: 10 where their rows don't fit, 256 bytes each.
+-- The outcome of these equations in a table of so many entries: 10 where their rows don't fit, 256 entries each.
 abbrev pub inTable : (capacity : ℕ) → Synthesis → Outcome Synthesis
 inTable capacity y = refuse (ltb capacity (256 * length (y .equations))) 10 0 (accepted y)
 
--- The outcome of filling a table of so many bytes: that of counting, and then whether the rows fit.
+-- The outcome of filling a table of so many entries: that of counting, and then whether the rows fit.
 unfoldable pub fillingOf : (limit : ℕ) → List ℕ → (capacity : ℕ) → Outcome Synthesis
 fillingOf limit s capacity = andThen (synthesisOf limit s) (inTable capacity)
 

@@ -24,7 +24,7 @@ PreviewCounts = (s : List ℕ) (n : ℕ) → (countedOf (previewOf s) ≡ Equati
 abbrev pub PreviewFillsAsCounted : Type 0
 PreviewFillsAsCounted = (s : List ℕ) (capacity : ℕ) → FillsAsCounted (previewOf s) (previewFillingOf s capacity) capacity
 
--- Where the page answers n, both fillings answer the same for every table and leave the very same table. Two tables, each with the bytes of n rows, get
+-- Where the page answers n, both fillings answer the same for every table and leave the very same table. Two tables, each with the entries of n rows, get
 -- the same rows from the two, however long they are and whatever they held.
 pub record SameAtDesk (s : List ℕ) (n : ℕ) : Type 0 where
   pub count : countedOf (synthesisOf most s) ≡ Equations n
@@ -75,7 +75,7 @@ pub record PreviewRefusals (s : List ℕ) : Type 0 where
 abbrev pub PreviewRefuses : Type 0
 PreviewRefuses = (s : List ℕ) → PreviewRefusals s
 
--- A filling that is refused leaves every byte of the table as it was.
+-- A filling that is refused leaves every entry of the table as it was.
 abbrev pub PreviewRefusedUnchanged : Type 0
 PreviewRefusedUnchanged =
     (s table : List ℕ) (number place : ℕ) → countedOf (previewFillingOf s (length table)) ≡ Refused number place

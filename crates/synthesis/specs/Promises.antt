@@ -72,15 +72,15 @@ pub record Counts (limit : ℕ) (s : List ℕ) (n : ℕ) : Type 0 where
 abbrev pub AnswersCount : Type 0
 AnswersCount = (limit : ℕ) (s : List ℕ) (n : ℕ) → countedOf (synthesisOf limit s) ≡ Equations n → Counts limit s n
 
--- Filling a table of so many bytes goes by counting: it is refused where counting is, with the same number and place, and where counting answers n it
--- answers n, if 256 × n bytes are there, and else 10. What it fills in is what was counted. Both tables are filled so.
+-- Filling a table of so many entries goes by counting: it is refused where counting is, with the same number and place, and where counting answers n it
+-- answers n, if 256 × n entries are there, and else 10. What it fills in is what was counted. Both tables are filled so.
 pub record FillsAsCounted (counting filling : Outcome Synthesis) (capacity : ℕ) : Type 0 where
   pub refused : (number place : ℕ) → countedOf counting ≡ Refused number place → countedOf filling ≡ Refused number place
   pub enough : (n : ℕ) → countedOf counting ≡ Equations n → 256 * n ≤ capacity → countedOf filling ≡ Equations n
   pub too-short : (n : ℕ) → countedOf counting ≡ Equations n → capacity < 256 * n → countedOf filling ≡ Refused 10 0
   pub same : (n : ℕ) → countedOf filling ≡ Equations n → filling ≡ counting
 
--- A filling that is refused leaves every byte of what it is lent as it was: the table.
+-- A filling that is refused leaves every entry of what it is lent as it was: the table.
 pub record TableUnchanged (mark : ℕ) (before : List ℕ) (outcome : Outcome Synthesis) : Type 0 where
   pub table : tableAfter mark outcome before ≡ before
 
@@ -189,7 +189,7 @@ OneNumbering =
     (r : Rule) (es es′ : List ℕ) → ReachableEquations r es → ReachableEquations r es′ → AsFound 256 (answerOf r) (firstOf r) es
     → AsFound 256 (answerOf r) (firstOf r) es′ → es ≡ es′
 
--- ---- the bytes of the table
+-- ---- the entries of the table
 
 -- The table is well formed for its count: each equation has a whole row, whose entries are the mark or under the count.
 abbrev pub BuiltWellFormed : Type 0
@@ -217,7 +217,7 @@ TableRest =
     (limit mark : ℕ) (s table : List ℕ) (r : Rule) (n : ℕ) (left : List ℕ) → Fills limit mark s table r n left
     → SameAfterRows n table left
 
--- What `row` hands back, of any table and for any number: the entries of the row, byte 256 × k + c for the code c, where it is wholly inside the table,
+-- What `row` hands back, of any table and for any number: the entries of the row, element 256 × k + c for the code c, where it is wholly inside the table,
 -- and else an empty part.
 pub record RowPart (table : List ℕ) (k : ℕ) : Type 0 where
   pub whole : 256 * k + 256 ≤ length table → length (rowOf 256 table k) ≡ 256

@@ -30,7 +30,7 @@ ShortRefusesAlike = (limit : ℕ) (s : List ℕ) → RefusesAlike limit s
 abbrev pub ShortFillsAsCounted : Type 0
 ShortFillsAsCounted = (limit : ℕ) (s : List ℕ) (capacity : ℕ) → FillsAsCounted (shortOf limit s) (shortFillingOf limit s capacity) capacity
 
--- A filling that is refused leaves every byte of the table as it was.
+-- A filling that is refused leaves every entry of the table as it was.
 abbrev pub ShortRefusedUnchanged : Type 0
 ShortRefusedUnchanged =
     (limit mark : ℕ) (s table : List ℕ) (number place : ℕ) → countedOf (shortFillingOf limit s (length table)) ≡ Refused number place
@@ -110,7 +110,7 @@ ShortAsFound =
     → AsFound 256 (lookup 256 mark left) 0 (numbersBelow n)
 
 -- So the short table is the only one: a well-formed table with as many rows, whose row 0 drops alike and whose rows are numbered as found, has the same
--- rows, byte for byte.
+-- rows, entry for entry.
 abbrev pub ShortIsOnly : Type 0
 ShortIsOnly =
     (limit mark : ℕ) (s table : List ℕ) (r : Rule) (n : ℕ) (left : List ℕ) → FillsShort limit mark s table r n left

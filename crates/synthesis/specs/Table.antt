@@ -42,6 +42,6 @@ module _ (mark : ℕ) (answer : ℕ → ℕ → Answer ℕ) (found : List ℕ) w
   rows codes zero = []
   rows codes (suc k) = rows codes k ++ entriesOf (getD found k 0) codes
 
-  -- a table with a row for each equation; the bytes after the last row are as they were
+  -- a table with a row for each equation; the entries after the last row are as they were
   unfoldable pub filled : (codes : ℕ) → List ℕ → List ℕ
   filled codes table = rows codes (length found) ++ drop (codes * length found) table

@@ -49,7 +49,7 @@ module _ (limit : ℕ) (s s′ : List ℕ) (bytes : Bytes s) (bytes′ : Bytes s
   other : InOrder limit s′ (length table′) f answer′
   other = judges-in-order limit s′ (length table′) f answer′ judged′
 
-  -- where both tables have the bytes of all that is counted
+  -- where both tables have the entries of all that is counted
   filled-alike : (n : ℕ) → countedOf (synthesisOf limit s) ≡ Equations n → countedOf (synthesisOf limit s′) ≡ Equations n → 256 * n ≤ length table
       → (o : Outcome Phone) → phoneOf f ≡ o → answer ≡ answer′
   filled-alike n q q′ room (accepted y) model =

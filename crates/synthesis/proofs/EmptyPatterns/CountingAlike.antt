@@ -31,7 +31,7 @@ on-page-alike (refused number place) (refused number′ place′) e =
 
 -- ---- for the short table
 
--- a table with the bytes of n rows is filled where n are counted
+-- a table with the entries of n rows is filled where n are counted
 filled-short : (limit : ℕ) (s : List ℕ) → Bytes s → (r : Rule) → ruleOf s ≡ accepted r → (n : ℕ) → countedOf (shortOf limit s) ≡ Equations n
     → FillsShort limit limit s (zeroRows n) r n (tableAfter limit (shortFillingOf limit s (length (zeroRows n))) (zeroRows n))
 filled-short limit s bytes r read n e =

@@ -85,7 +85,7 @@ names-numbers codes answer answer′ n name renames apart start inside f f′ k 
     let at : getD (numbersBelow n) k 0 ≡ k = number-at n k below in
     cc (name-at name (numbersBelow n) k below)
 
--- ---- the bytes of a row
+-- ---- the entries of a row
 
 -- entries that mean the same are the same
 meaning-injective : (mark x y : ℕ) → meaning mark x ≡ meaning mark y → x ≡ y

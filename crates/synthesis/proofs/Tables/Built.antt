@@ -156,7 +156,7 @@ fills-accepted limit mark s table n below bytes e =
       },
     )
 
--- where counting answers n, a table with the bytes of n rows is filled, by either filling
+-- where counting answers n, a table with the entries of n rows is filled, by either filling
 pub fills-when-counted : (outcomeOf : (limit : ℕ) → List ℕ → (capacity : ℕ) → Outcome Synthesis) (counting : Outcome Synthesis) (limit mark : ℕ)
     (s table : List ℕ) (r : Rule) (n : ℕ) → limit ≤ mark → Bytes s → ruleOf s ≡ accepted r → countedOf counting ≡ Equations n
     → FillsAsCounted counting (outcomeOf limit s (length table)) (length table) → 256 * n ≤ length table

@@ -1,4 +1,4 @@
--- The rows of any table: row k is the 256 bytes from 256 × k on where the table has them all, and else it has no entry.
+-- The rows of any table: row k is the 256 elements from 256 × k on where the table has them all, and else it has no entry.
 use Prim.Native.Nat.{ℕ, suc, _+_, _*_, _≤_, _<_}
 use mathlib.Core.Path.{_≡_, refl, ap, _∙_}
 use mathlib.Core.Logic.{_⊎_, inl, inr, ⊎-elim}

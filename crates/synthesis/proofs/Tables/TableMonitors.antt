@@ -65,7 +65,7 @@ module _ (codes mark : ℕ) (answer : ℕ → ℕ → Answer ℕ) (l : List ℕ)
           let m = closed k c e h b q in
           (ap next (index-is e l m), λ j p. let z : indexOf e l ≡ j = cc in omega arith)
 
--- ---- a table of bytes
+-- ---- a table with a row of 256 entries for each equation
 
 module _ (limit mark : ℕ) (answer : ℕ → ℕ → Answer ℕ) (l : List ℕ) (table : List ℕ) (room : 256 * length l ≤ length table) where
   pub filled-well-formed : ClosedUnder 256 answer l → 0 < length l → length l ≤ limit

@@ -49,8 +49,8 @@ module _ {limit mark count : ℕ} {table : List ℕ} (wf : WellFormedTable limit
   pub well-formed-entry : (k c : ℕ) → k < count → c < 256 → InRange mark count (getD table (256 * k + c) 0)
   well-formed-entry k c h b = rw (row-at table k c 0 (well-formed-row k h) b) at (wf .row k h .range c b)
 
-  pub well-formed-byte : (i : ℕ) → i < 256 * count → InRange mark count (getD table i 0)
-  well-formed-byte i h =
+  pub well-formed-element : (i : ℕ) → i < 256 * count → InRange mark count (getD table i 0)
+  well-formed-element i h =
       let is : 256 * (i / 256) + i % 256 ≡ i = div-add-mod i 256 in
       let code : i % 256 < 256 = mod-lt i (omega arith) in
       rw is at (well-formed-entry (i / 256) (i % 256) (omega arith) code)
@@ -74,9 +74,9 @@ module _ {limit mark count : ℕ} {table : List ℕ} (wf : WellFormedTable limit
       on true q r e = let z : _≡_ {A = ℕ} 0 1 = cc in absurd (omega arith)
       on false q r e = let same : x ≡ j = cc in omega (arith, not-mark r (eqb-false x mark q))
 
-pub well-formed-by-bytes : (limit mark count : ℕ) (table : List ℕ) → 1 ≤ count → count ≤ limit → 256 * count ≤ length table
+pub well-formed-by-elements : (limit mark count : ℕ) (table : List ℕ) → 1 ≤ count → count ≤ limit → 256 * count ≤ length table
     → ((i : ℕ) → i < 256 * count → InRange mark count (getD table i 0)) → WellFormedTable limit mark count table
-well-formed-by-bytes limit mark count table some few room range = record {
+well-formed-by-elements limit mark count table some few room range = record {
   some = some;
   few = few;
   row = λ k h. record {
@@ -94,8 +94,8 @@ module _ {limit mark count : ℕ} {table : List ℕ} (wf : WellFormedTable limit
       let long = length-take-le (256 * count) table (well-formed-room wf) in
       omega (arith, length-take (256 * count) other, ap length same)
 
-  same-byte : (i : ℕ) → i < 256 * count → getD other i 0 ≡ getD table i 0
-  same-byte i h = rw (← getD-take (256 * count) other i 0 h, ← getD-take (256 * count) table i 0 h, same)
+  same-element : (i : ℕ) → i < 256 * count → getD other i 0 ≡ getD table i 0
+  same-element i h = rw (← getD-take (256 * count) other i 0 h, ← getD-take (256 * count) table i 0 h, same)
 
   pub same-row : (k : ℕ) → k < count → rowOf 256 other k ≡ rowOf 256 table k
   same-row k h =
@@ -104,7 +104,7 @@ module _ {limit mark count : ℕ} {table : List ℕ} (wf : WellFormedTable limit
       ext-getD 0 (rowOf 256 other k) (rowOf 256 table k) (long ∙ sym (wf .row k h .whole))
       (λ c b.
       let code : c < 256 = omega arith in
-      row-at other k c 0 inside code ∙ (same-byte (256 * k + c) (omega arith) ∙ sym (row-at table k c 0 (well-formed-row wf k h) code)))
+      row-at other k c 0 inside code ∙ (same-element (256 * k + c) (omega arith) ∙ sym (row-at table k c 0 (well-formed-row wf k h) code)))
 
   pub same-rows-well-formed : WellFormedTable limit mark count other
   same-rows-well-formed = record {
