@@ -9,7 +9,7 @@ enum { MOST_RULES = 4, MOST_RULE = 1024, BLOCK = 65536, PRIME = 1000000007 };
 
 /* The rules on duty: where the table of each begins, and in which equation it is. */
 struct duty {
-    const uint8_t *tables[MOST_RULES];
+    const uint16_t *tables[MOST_RULES];
     size_t equations[MOST_RULES], count;
 };
 
@@ -18,7 +18,7 @@ struct duty {
 typedef size_t duty_loop(struct duty *duty, const uint8_t *scans, size_t n, uint8_t *output, uint8_t *verdicts);
 
 /* The entry of each rule for a code, and whether one of them is dropped. */
-static inline uint8_t look_up(const struct duty *d, uint8_t code, uint8_t *entries)
+static inline uint8_t look_up(const struct duty *d, uint8_t code, uint16_t *entries)
 {
     uint8_t dropped = 0;
     for (size_t k = 0; k < d->count; k++) {
@@ -34,7 +34,8 @@ static size_t jump(struct duty *duty, const uint8_t *restrict scans, size_t n, u
     struct duty d = *duty;
     size_t kept = 0;
     for (size_t i = 0; i < n; i++) {
-        uint8_t code = scans[i], entries[MOST_RULES], dropped = look_up(&d, code, entries);
+        uint16_t entries[MOST_RULES];
+        uint8_t code = scans[i], dropped = look_up(&d, code, entries);
         verdicts[i] = dropped;
         if (!dropped) {
             output[kept++] = code;
@@ -53,7 +54,8 @@ static size_t choice(struct duty *duty, const uint8_t *restrict scans, size_t n,
     struct duty d = *duty;
     size_t kept = 0;
     for (size_t i = 0; i < n; i++) {
-        uint8_t code = scans[i], entries[MOST_RULES], dropped = look_up(&d, code, entries);
+        uint16_t entries[MOST_RULES];
+        uint8_t code = scans[i], dropped = look_up(&d, code, entries);
         verdicts[i] = dropped;
         output[kept] = code;
         kept += !dropped;
@@ -120,9 +122,9 @@ static uint64_t digest(const uint8_t *bytes, size_t n)
 /* Fills a table for each rule, 0 or the refusal with its place. */
 static uint8_t come_on(const struct task *task, struct duty *duty, size_t *place)
 {
-    static uint8_t tables[MOST_RULES][MOST_TABLE];
+    static uint16_t tables[MOST_RULES][PROGRAM_TABLE];
     for (duty->count = 0; duty->count < task->rules; duty->count++) {
-        uint8_t refused = twin_fill(task->rule, task->len, tables[duty->count], MOST_TABLE, place);
+        uint8_t refused = twin_fill(task->rule, task->len, tables[duty->count], PROGRAM_TABLE, place);
         if (refused)
             return refused;
         duty->tables[duty->count] = tables[duty->count];

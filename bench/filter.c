@@ -31,7 +31,8 @@ static int write_all(const uint8_t *bytes, size_t n)
 
 int main(int argc, char **argv)
 {
-    static uint8_t rule[MOST_RULE], table[MOST_TABLE], scans[BLOCK], output[BLOCK], verdicts[BLOCK];
+    static uint8_t rule[MOST_RULE], scans[BLOCK], output[BLOCK], verdicts[BLOCK];
+    static uint16_t table[PROGRAM_TABLE];
     run_loop *loop = argc > 1 ? loop_named(argv[1]) : NULL;
     if (!loop) {
         fprintf(stderr, "usage: filter LOOP\n");
@@ -39,7 +40,7 @@ int main(int argc, char **argv)
     }
     struct run run = {0, 0};
     size_t value;
-    uint8_t refused = twin_fill(rule, read_rule(rule), table, sizeof table, &value);
+    uint8_t refused = twin_fill_within(rule, read_rule(rule), PROGRAM_MOST, table, PROGRAM_TABLE, &value);
     if (refused) {
         printf("refused %u at %zu\n", refused, value);
         return 0;

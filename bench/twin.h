@@ -5,7 +5,8 @@
 #include <stddef.h>
 #include <stdint.h>
 
-enum { SLOTS = 32, CODES = 256, DROPPED = 255, MOST_EQUATIONS = 128, PREVIEW_MOST = 32, MOST_TABLE = CODES * MOST_EQUATIONS };
+enum { SLOTS = 32, CODES = 256, DROPPED = 65535, MOST_EQUATIONS = 1000, PROGRAM_MOST = 128, PREVIEW_MOST = 32 };
+enum { MOST_TABLE = CODES * MOST_EQUATIONS, PROGRAM_TABLE = CODES * PROGRAM_MOST };
 enum { MOST_PATTERNS = 32, MOST_NODES = 64, MOST_STATES = 64, MOST_STEPS = 512 };
 enum kind { PATTERN = 1, TRUTH, FALSITY, BOTH, NECESSITY, MAX, VARIABLE };
 
@@ -25,13 +26,25 @@ uint8_t twin_read(const uint8_t *bytes, size_t len, struct rule *rule, size_t *p
 
 /* As the functions of jarveun.h. */
 uint8_t twin_count(const uint8_t *rule, size_t rule_len, size_t *value);
-uint8_t twin_fill(const uint8_t *rule, size_t rule_len, uint8_t *table, size_t table_len, size_t *value);
+uint8_t twin_fill(const uint8_t *rule, size_t rule_len, uint16_t *table, size_t table_len, size_t *value);
 uint8_t twin_count_preview(const uint8_t *rule, size_t rule_len, size_t *value);
-uint8_t twin_fill_preview(const uint8_t *rule, size_t rule_len, uint8_t *table, size_t table_len, size_t *value);
+uint8_t twin_fill_preview(const uint8_t *rule, size_t rule_len, uint16_t *table, size_t table_len, size_t *value);
 uint8_t twin_count_short(const uint8_t *rule, size_t rule_len, size_t *value);
-uint8_t twin_fill_short(const uint8_t *rule, size_t rule_len, uint8_t *table, size_t table_len, size_t *value);
+uint8_t twin_fill_short(const uint8_t *rule, size_t rule_len, uint16_t *table, size_t table_len, size_t *value);
 uint8_t twin_explain(const uint8_t *rule, size_t rule_len, const uint8_t *kept, size_t kept_len, uint8_t scan, size_t *value);
-uint8_t twin_judge(const uint8_t *rule, size_t rule_len, const uint8_t *model, size_t model_len, uint8_t *table, size_t table_len, size_t *value);
+uint8_t twin_judge(const uint8_t *rule, size_t rule_len, const uint8_t *model, size_t model_len, uint16_t *table, size_t table_len, size_t *value);
+
+/* As twin_fill, with another limit on equations, which is at most MOST_EQUATIONS. */
+uint8_t twin_fill_within(const uint8_t *rule, size_t rule_len, size_t limit, uint16_t *table, size_t table_len, size_t *value);
+
+/* 0 where so many rows fit into a table, or refusal 10 with its place. */
+static inline uint8_t fit(size_t table_len, size_t *value)
+{
+    if (table_len >= CODES * *value)
+        return 0;
+    *value = 0;
+    return 10;
+}
 
 /* Where a run is, and how many scans its last block kept. */
 struct run {
@@ -39,7 +52,7 @@ struct run {
 };
 
 /* A loop over a block of n scans. It checks nothing, and may write over the byte of the output after the kept scans. */
-typedef void run_loop(const uint8_t *table, struct run *run, const uint8_t *scans, size_t n, uint8_t *output, uint8_t *verdicts);
+typedef void run_loop(const uint16_t *table, struct run *run, const uint8_t *scans, size_t n, uint8_t *output, uint8_t *verdicts);
 
 struct named_loop {
     const char *name;
@@ -53,7 +66,7 @@ extern const size_t nloops;
 run_loop *loop_named(const char *name);
 
 /* As jarveun_run: the loop "jump", after the same checks. */
-uint8_t twin_run(const uint8_t *table, size_t table_len, size_t count, size_t *equation, const uint8_t *scans, size_t scans_len, uint8_t *output,
+uint8_t twin_run(const uint16_t *table, size_t table_len, size_t count, size_t *equation, const uint8_t *scans, size_t scans_len, uint8_t *output,
                  size_t output_len, uint8_t *verdicts, size_t verdicts_len, size_t *kept, size_t *dropped);
 
 #endif

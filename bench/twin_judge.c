@@ -78,7 +78,7 @@ static void link_steps(struct model *m)
 }
 
 /* Whether no step is dropped of the pairs that are reached. State s beside equation e is pair 64 * e + s. */
-static int never_drops(const struct model *m, const uint8_t *table)
+static int never_drops(const struct model *m, const uint16_t *table)
 {
     uint8_t seen[MOST_STATES * MOST_EQUATIONS] = {1};
     uint16_t pairs[MOST_STATES * MOST_EQUATIONS] = {0};
@@ -106,12 +106,11 @@ static uint8_t refuse_model(const uint8_t *rule, size_t rule_len, size_t table_l
     uint8_t refused = twin_count(rule, rule_len, value);
     if (refused)
         return refused;
-    if (table_len < CODES * *value)
-        return refuse(value, 10, 0);
-    return refuse(value, number, place);
+    refused = fit(table_len, value);
+    return refused ? refused : refuse(value, number, place);
 }
 
-uint8_t twin_judge(const uint8_t *rule, size_t rule_len, const uint8_t *model, size_t model_len, uint8_t *table, size_t table_len, size_t *value)
+uint8_t twin_judge(const uint8_t *rule, size_t rule_len, const uint8_t *model, size_t model_len, uint16_t *table, size_t table_len, size_t *value)
 {
     struct model m;
     size_t place;
