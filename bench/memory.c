@@ -1,4 +1,5 @@
-/* Measures the library against its C twins in memory. Prints a line for each pair: what, C's name, both times of a call in nanoseconds, ratio. */
+/* Measures the library against its C twins in memory. Prints a line for each pair: what, C's name, both times in nanoseconds, ratio. The times are of
+   a scan where a run goes over a block, and else of a call. */
 #include "contest.h"
 #include "jarveun.h"
 #include "random.h"
@@ -9,18 +10,18 @@
 #include <stdlib.h>
 #include <string.h>
 
-enum { BLOCK = 65536, BLOCKS = 16, RUN_CALLS = 16, SMALL_CALLS = 256, JOB_CALLS = 7 };
+enum { BLOCK = 65536, BLOCKS = 16, RUN_CALLS = 16 };
 
 static uint8_t scans[BLOCKS * BLOCK];
 
-typedef uint8_t run_function(const uint8_t *, size_t, size_t, size_t *, const uint8_t *, size_t, uint8_t *, size_t, uint8_t *, size_t, size_t *,
+typedef uint8_t run_function(const uint16_t *, size_t, size_t, size_t *, const uint8_t *, size_t, uint8_t *, size_t, uint8_t *, size_t, size_t *,
                              size_t *);
 
 /* Runs over the scans, so many a call and so many calls a turn: by a function that checks, or else by a loop in C that doesn't. */
 struct runner {
     run_function *function;
     run_loop *loop;
-    const uint8_t *table;
+    const uint16_t *table;
     size_t count, size, calls, turn, kept, dropped;
     struct run run;
     uint8_t refused, output[BLOCK], verdicts[BLOCK];
@@ -58,17 +59,19 @@ static int same_turn(const void *a, const void *b)
 }
 
 /* A table of so many equations with entries at random, so many in 100 of them dropped. */
-static void random_table(uint8_t *table, size_t count, unsigned percent)
+static void random_table(uint16_t *table, size_t count, unsigned percent)
 {
     uint64_t seed = 1000 + percent;
     for (size_t i = 0; i < CODES * count; i++)
-        table[i] = random_under(&seed, 100) < percent ? DROPPED : (uint8_t)random_under(&seed, (unsigned)count);
+        table[i] = random_under(&seed, 100) < percent ? DROPPED : (uint16_t)random_under(&seed, (unsigned)count);
 }
 
-static void print(const char *what, const struct entrant *entrants, size_t n)
+/* The times are those of so many calls or scans. */
+static void print(const char *what, const struct entrant *entrants, size_t n, size_t units)
 {
     for (size_t j = 1; j < n; j++)
-        printf("%s\t%s\t%.1f\t%.1f\t%.4f\n", what, entrants[j].name, entrants[0].time, entrants[j].time, entrants[j].ratio);
+        printf("%s\t%s\t%.3f\t%.3f\t%.4f\n", what, entrants[j].name, entrants[0].time / (double)units, entrants[j].time / (double)units,
+               entrants[j].ratio);
     fflush(stdout);
 }
 
@@ -83,12 +86,12 @@ static void enter(size_t j, const char *name, const struct runner *runner)
 }
 
 /* One call on a block. */
-static void contest_of_runs(unsigned percent, size_t rounds)
+static void contest_of_runs(size_t count, unsigned percent, size_t rounds)
 {
-    static uint8_t table[MOST_TABLE];
+    static uint16_t table[MOST_TABLE];
     char what[80];
-    random_table(table, MOST_EQUATIONS, percent);
-    struct runner runner = {.table = table, .count = MOST_EQUATIONS, .size = BLOCK, .calls = 1};
+    random_table(table, count, percent);
+    struct runner runner = {.table = table, .count = count, .size = BLOCK, .calls = 1};
     runner.function = jarveun_run;
     enter(0, "run", &runner);
     runner.function = NULL;
@@ -97,17 +100,17 @@ static void contest_of_runs(unsigned percent, size_t rounds)
         enter(j + 1, loops[j].name, &runner);
     }
     compete(entrants, nloops + 1, rounds, RUN_CALLS, same_turn);
-    snprintf(what, sizeof what, "run %u", percent);
-    print(what, entrants, nloops + 1);
+    snprintf(what, sizeof what, "run %zu %u", count, percent);
+    print(what, entrants, nloops + 1, BLOCK);
 }
 
-/* Calls on a few scans each: the loop "jump", without and with the checks of a run. */
-static void contest_of_small_calls(size_t count, size_t size, size_t rounds)
+/* So many calls a turn, on a few scans each: the loop "jump", without and with the checks of a run. */
+static void contest_of_small_calls(size_t count, size_t size, size_t calls, size_t rounds)
 {
-    static uint8_t table[MOST_TABLE];
+    static uint16_t table[MOST_TABLE];
     char what[80];
     random_table(table, count, 1);
-    struct runner runner = {.table = table, .count = count, .size = size, .calls = SMALL_CALLS};
+    struct runner runner = {.table = table, .count = count, .size = size, .calls = calls};
     runner.function = jarveun_run;
     enter(0, "run", &runner);
     runner.function = twin_run;
@@ -117,18 +120,18 @@ static void contest_of_small_calls(size_t count, size_t size, size_t rounds)
     enter(2, "jump", &runner);
     compete(entrants, 3, rounds, RUN_CALLS, same_turn);
     snprintf(what, sizeof what, "small %zu %zu", count, size);
-    print(what, entrants, 3);
+    print(what, entrants, 3, calls);
 }
 
 /* One of these, of the library or of its twin. */
 struct function {
     uint8_t (*count)(const uint8_t *, size_t, size_t *);
-    uint8_t (*fill)(const uint8_t *, size_t, uint8_t *, size_t, size_t *);
+    uint8_t (*fill)(const uint8_t *, size_t, uint16_t *, size_t, size_t *);
     uint8_t (*explain)(const uint8_t *, size_t, const uint8_t *, size_t, uint8_t, size_t *);
-    uint8_t (*judge)(const uint8_t *, size_t, const uint8_t *, size_t, uint8_t *, size_t, size_t *);
+    uint8_t (*judge)(const uint8_t *, size_t, const uint8_t *, size_t, uint16_t *, size_t, size_t *);
 };
 
-/* With a table of so many bytes, which the header says are enough. */
+/* With a table of so many entries, which the header says are enough. */
 struct operation {
     const char *name;
     size_t table_len;
@@ -171,7 +174,8 @@ struct job {
     struct function function;
     const struct named_rule *rule;
     size_t table_len, value;
-    uint8_t refused, table[MOST_TABLE];
+    uint8_t refused;
+    uint16_t table[MOST_TABLE];
 };
 
 static uint8_t model[LARGEST_MODEL];
@@ -194,46 +198,75 @@ static void do_job(void *work)
 static int same_job(const void *a, const void *b)
 {
     const struct job *x = a, *y = b;
-    return x->refused == y->refused && x->value == y->value && memcmp(x->table, y->table, MOST_TABLE) == 0;
+    return x->refused == y->refused && x->value == y->value && memcmp(x->table, y->table, x->table_len * sizeof *x->table) == 0;
 }
 
-static void contest_of_jobs(const struct operation *operation, const struct named_rule *rule, size_t rounds)
+/* How many rounds a contest has, and how many calls a round. */
+struct effort {
+    size_t rounds, calls;
+};
+
+static void contest_of_jobs(const struct operation *operation, const struct named_rule *rule, struct effort effort)
 {
+    static struct job ours, twin;
     char what[80];
     snprintf(what, sizeof what, "%s %s", operation->name, rule->name);
-    struct job ours = {.function = operation->ours, .rule = rule, .table_len = operation->table_len}, twin = ours;
+    ours = (struct job){.function = operation->ours, .rule = rule, .table_len = operation->table_len};
+    twin = ours;
     twin.function = operation->twin;
     struct entrant entrants[] = {{what, &ours, do_job, 0, 0}, {"twin", &twin, do_job, 0, 0}};
-    compete(entrants, 2, rounds, JOB_CALLS, same_job);
+    compete(entrants, 2, effort.rounds, effort.calls, same_job);
     fprintf(stderr, "%s: %u %zu\n", what, ours.refused, ours.value);
     if (ours.refused != rule->due) {
         fprintf(stderr, "%u was due\n", rule->due);
         exit(1);
     }
-    print(what, entrants, 2);
+    print(what, entrants, 2, 1);
 }
 
-static void contests_of_rule(const struct operation *all, size_t n, const struct named_rule *rule, size_t rounds)
+static void contests_of_rule(const struct operation *all, size_t n, const struct named_rule *rule, struct effort effort)
 {
     for (size_t i = 0; i < n; i++)
-        contest_of_jobs(&all[i], rule, rounds);
+        contest_of_jobs(&all[i], rule, effort);
 }
 
-static void contests_of_rules(size_t rounds)
+/* Rules of up to 128 equations. */
+static void contests_of_rules(struct effort effort)
 {
     uint8_t chain_bytes[CHAIN_RULE];
     const struct named_rule paper = {"paper", paper_rule, sizeof paper_rule, 0}, hard = {"hard", hard_rule, sizeof hard_rule, 0},
                             page = {"page", page_rule, sizeof page_rule, 0}, over = {"over", paper_rule, sizeof paper_rule, 18},
                             chain = {"chain", chain_bytes, CHAIN_RULE, 0}, wheels = {"wheels", wheels_rule, sizeof wheels_rule, 0};
     chain_rule(chain_bytes);
-    largest_model(model);
-    contests_of_rule(operations, OPERATIONS, &paper, rounds);
-    contests_of_rule(operations, OPERATIONS, &hard, rounds);
-    contests_of_rule(preview_operations, PREVIEW_OPERATIONS, &page, rounds);
-    contests_of_rule(preview_operations, PREVIEW_OPERATIONS, &over, rounds);
-    contests_of_rule(short_operations, SHORT_OPERATIONS, &hard, rounds);
-    contests_of_rule(short_operations, SHORT_OPERATIONS, &chain, rounds);
-    contests_of_rule(short_operations, SHORT_OPERATIONS, &wheels, rounds);
+    contests_of_rule(operations, OPERATIONS, &paper, effort);
+    contests_of_rule(operations, OPERATIONS, &hard, effort);
+    contests_of_rule(preview_operations, PREVIEW_OPERATIONS, &page, effort);
+    contests_of_rule(preview_operations, PREVIEW_OPERATIONS, &over, effort);
+    contests_of_rule(short_operations, SHORT_OPERATIONS, &hard, effort);
+    contests_of_rule(short_operations, SHORT_OPERATIONS, &chain, effort);
+    contests_of_rule(short_operations, SHORT_OPERATIONS, &wheels, effort);
+}
+
+/* Rules of up to 1,000. */
+static void contests_of_long_rules(struct effort effort)
+{
+    const struct named_rule window = {"window", window_rule, sizeof window_rule, 0}, thousand = {"thousand", thousand_rule, sizeof thousand_rule, 0},
+                            slow = {"slow", slow_rule, sizeof slow_rule, 0}, clash = {"clash", clash_rule, sizeof clash_rule, 0},
+                            ring = {"ring", ring_rule, sizeof ring_rule, 0};
+    contests_of_rule(operations, OPERATIONS, &window, effort);
+    contests_of_rule(operations, OPERATIONS, &thousand, effort);
+    contests_of_rule(operations, OPERATIONS, &slow, effort);
+    contests_of_rule(operations, OPERATIONS, &clash, effort);
+    contests_of_rule(short_operations, SHORT_OPERATIONS, &thousand, effort);
+    contests_of_rule(short_operations, SHORT_OPERATIONS, &slow, effort);
+    contests_of_rule(short_operations, SHORT_OPERATIONS, &ring, effort);
+}
+
+static void contests_of_small_calls(size_t count, size_t calls, size_t rounds)
+{
+    contest_of_small_calls(count, 1, calls, rounds);
+    contest_of_small_calls(count, 16, calls, rounds);
+    contest_of_small_calls(count, 50, calls, rounds);
 }
 
 int main(int argc, char **argv)
@@ -244,14 +277,15 @@ int main(int argc, char **argv)
         return 2;
     }
     random_bytes(1, scans, sizeof scans);
-    contest_of_runs(1, rounds);
-    contest_of_runs(10, rounds);
-    contest_of_runs(50, rounds);
-    for (size_t count = 3; count <= MOST_EQUATIONS; count += MOST_EQUATIONS - 3) {
-        contest_of_small_calls(count, 1, rounds);
-        contest_of_small_calls(count, 16, rounds);
-        contest_of_small_calls(count, 50, rounds);
-    }
-    contests_of_rules(rounds);
+    largest_model(model);
+    contest_of_runs(PROGRAM_MOST, 1, rounds);
+    contest_of_runs(PROGRAM_MOST, 10, rounds);
+    contest_of_runs(PROGRAM_MOST, 50, rounds);
+    contest_of_runs(MOST_EQUATIONS, 10, rounds);
+    contests_of_small_calls(3, 256, rounds);
+    contests_of_small_calls(PROGRAM_MOST, 256, rounds);
+    contests_of_small_calls(MOST_EQUATIONS, 16, rounds);
+    contests_of_rules((struct effort){rounds, 7});
+    contests_of_long_rules((struct effort){(rounds + 3) / 4, 3});
     return 0;
 }

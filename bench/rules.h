@@ -47,6 +47,56 @@ static const uint8_t wheels_rule[] = {
     6, 5, 0, 4, 5, 1, 3, 5, 0, 4, 5, 1, 3, 5, 0, 4, 5, 1, 3, 5, 0, 4, 5, 1, 3, 5, 0, 4, 5, 1, 3, 5, 0, 4, 5, 1, 3, 5, 0, 4, 5, 1, 3, 5, 0, 7, 0,
 };
 
+/* The paper's rule with nine: 512 equations. */
+static const uint8_t window_rule[] = {
+    1, 255, 0, 31, 1, 1, 5, 5,
+    6, 4, 5, 0, 7, 0, 5, 1, 5, 0, 5, 0, 5, 0, 5, 0, 5, 0, 5, 0, 5, 0, 5, 0, 5, 0, 2,
+};
+
+/* A rule of 1,000 equations. */
+static const uint8_t thousand_rule[] = {
+    1, 255, 0, 31, 1, 2, 26, 28, 1, 13, 7, 26,
+    6, 4, 5, 0, 7, 0,
+    4, 5, 0, 5, 0, 5, 0, 5, 0, 2,
+    4, 5, 0, 7, 0,
+    4, 5, 0, 5, 0, 5, 0, 5, 0, 2,
+    4, 5, 1, 5, 1, 5, 1, 5, 0, 5, 2, 5, 2, 5, 1, 5, 2, 5, 0, 5, 2, 5, 1, 5, 2, 5, 2, 7, 0,
+    4, 5, 1, 5, 0, 5, 0, 5, 2, 5, 0, 5, 0, 5, 0, 5, 0, 5, 0, 5, 0, 5, 0, 5, 0, 2,
+    4, 5, 2, 5, 0, 5, 0, 5, 0, 2,
+    5, 2, 5, 1, 5, 0, 5, 1, 5, 1, 5, 2, 3,
+};
+
+/* The slowest to count that a search at random found: 64 nodes, 995 equations of 6 to 52 members. */
+static const uint8_t slow_rule[] = {
+    1, 255, 0, 31, 1, 77, 7, 27, 1, 8, 9, 25,
+    6, 4, 5, 0, 7, 0,
+    4, 5, 0, 5, 0, 5, 0, 5, 0, 5, 0, 5, 0, 5, 0, 5, 0, 5, 0, 5, 0, 2,
+    4, 5, 0, 5, 0, 5, 0, 5, 0, 5, 0, 5, 0, 5, 0, 5, 0, 5, 0, 5, 0, 5, 0, 5, 0, 5, 0, 5, 0, 7, 0,
+    4, 5, 0, 5, 0, 5, 0, 5, 0, 5, 0, 5, 0, 5, 0, 5, 0, 5, 0, 5, 0, 7, 0,
+    4, 5, 0, 5, 0, 5, 2, 5, 0, 5, 0, 5, 0, 5, 1, 5, 2, 5, 0, 5, 0, 5, 0, 5, 0, 5, 1, 2,
+    5, 0, 5, 0, 5, 0, 5, 2, 2,
+};
+
+/* A rule that is made so that hints fail: 960 equations. In half of them the eleven necessities of single slots are members, and the sum of these is a
+   multiple of 4,093. So there the answers to one code and to the next have the same hint, for most codes. */
+static const uint8_t clash_rule[] = {
+    1, 255, 0, 31, 1, 85, 0, 31, 1, 255, 0, 0, 1, 255, 2, 2, 1, 255, 4, 4, 1, 255, 6, 6, 1, 255, 8, 8, 1, 255, 10, 10, 1, 255, 12, 12,
+    1, 255, 14, 14, 1, 255, 16, 16, 1, 255, 18, 18, 1, 255, 20, 20,
+    4, 6, 5, 0, 5, 0, 5, 0, 7, 0, 4, 6, 5, 0, 5, 0, 5, 0, 5, 0, 5, 0, 7, 0, 4, 6, 4, 4, 4, 5, 2, 7, 0, 5, 3, 7, 0, 4, 5, 4, 7, 0, 4, 4, 4, 5, 5,
+    7, 0, 5, 6, 7, 0, 4, 5, 7, 7, 0, 5, 8, 7, 0, 4, 5, 9, 7, 0, 4, 5, 10, 7, 0, 5, 11, 7, 0, 5, 12, 7, 0, 6, 4, 5, 0, 7, 0, 5, 1, 5, 0, 5, 0,
+    5, 0, 5, 0, 5, 0, 2,
+};
+
+/* As the wheels above, with 5, 13, 3 and 4 places, of which 3, 1, 2 and 3 drop code 5: 780 equations in a ring that stay, in 565 rounds. */
+static const uint8_t ring_rule[] = {
+    1, 255, 0, 31, 1, 1, 5, 5,
+    4, 4, 4,
+    6, 4, 5, 1, 3, 5, 0, 4, 5, 1, 3, 5, 0, 4, 5, 1, 3, 5, 0, 5, 0, 5, 0, 7, 0,
+    6, 4, 5, 1, 3, 5, 0, 5, 0, 5, 0, 5, 0, 5, 0, 5, 0, 5, 0, 5, 0, 5, 0, 5, 0, 5, 0, 5, 0, 5, 0, 7, 0,
+    6, 4, 5, 1, 3, 5, 0, 4, 5, 1, 3, 5, 0, 5, 0, 7, 0,
+    6, 4, 5, 1, 3, 5, 0, 4, 5, 1, 3, 5, 0, 4, 5, 1, 3, 5, 0, 5, 0, 7, 0,
+};
+
 enum { CHAIN_RULE = 4 + 2 * (MOST_NODES - 1) + 1 };
 
 /* As many necessities of any code as there can be, and ff: 63 equations, and each round of merging parts one more of them. */

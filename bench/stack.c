@@ -7,10 +7,10 @@
 #include <string.h>
 #include <ucontext.h>
 
-enum { STACK = 1 << 20, PAINT = 0xa5, SCANS = 4096 };
+enum { STACK = 1 << 22, PAINT = 0xa5, SCANS = 4096 };
 
 static uint8_t stack[STACK], model[LARGEST_MODEL], scans[SCANS], output[SCANS], verdicts[SCANS];
-static uint8_t table[JARVEUN_TABLE], page_table[JARVEUN_PREVIEW_TABLE], short_table[JARVEUN_TABLE];
+static uint16_t table[JARVEUN_TABLE], page_table[JARVEUN_PREVIEW_TABLE], short_table[JARVEUN_TABLE];
 static const uint8_t *rule;
 static size_t rule_len, equations;
 
@@ -22,7 +22,7 @@ static void count(void)
 
 static void fill(void)
 {
-    jarveun_fill(rule, rule_len, table, sizeof table, &equations);
+    jarveun_fill(rule, rule_len, table, JARVEUN_TABLE, &equations);
 }
 
 static void count_preview(void)
@@ -34,7 +34,7 @@ static void count_preview(void)
 static void fill_preview(void)
 {
     size_t value;
-    jarveun_fill_preview(rule, rule_len, page_table, sizeof page_table, &value);
+    jarveun_fill_preview(rule, rule_len, page_table, JARVEUN_PREVIEW_TABLE, &value);
 }
 
 static void count_short(void)
@@ -46,7 +46,7 @@ static void count_short(void)
 static void fill_short(void)
 {
     size_t value;
-    jarveun_fill_short(rule, rule_len, short_table, sizeof short_table, &value);
+    jarveun_fill_short(rule, rule_len, short_table, JARVEUN_TABLE, &value);
 }
 
 static void explain(void)
@@ -58,13 +58,13 @@ static void explain(void)
 static void judge(void)
 {
     size_t value;
-    jarveun_judge(rule, rule_len, model, sizeof model, table, sizeof table, &value);
+    jarveun_judge(rule, rule_len, model, sizeof model, table, JARVEUN_TABLE, &value);
 }
 
 static void run(void)
 {
     size_t equation = 0, kept, dropped;
-    jarveun_run(table, sizeof table, equations, &equation, scans, SCANS, output, SCANS, verdicts, SCANS, &kept, &dropped);
+    jarveun_run(table, JARVEUN_TABLE, equations, &equation, scans, SCANS, output, SCANS, verdicts, SCANS, &kept, &dropped);
 }
 
 /* How many bytes of the painted stack a call changes. */
@@ -123,6 +123,8 @@ int main(void)
     largest_model(model);
     random_bytes(1, scans, SCANS);
     measure(hard_rule, sizeof hard_rule);
+    measure(thousand_rule, sizeof thousand_rule);
+    measure(slow_rule, sizeof slow_rule);
     measure(page_rule, sizeof page_rule);
     measure(nested, MOST_NODES);
     /* One node more, where the file ends: no file has the reader go deeper. */
