@@ -124,7 +124,6 @@ int main(void)
     random_bytes(1, scans, SCANS);
     measure(hard_rule, sizeof hard_rule);
     measure(thousand_rule, sizeof thousand_rule);
-    measure(slow_rule, sizeof slow_rule);
     measure(page_rule, sizeof page_rule);
     measure(nested, MOST_NODES);
     /* One node more, where the file ends: no file has the reader go deeper. */

@@ -34,9 +34,9 @@
 
    What a call takes
    - No globals, heap, files or locks: calls share nothing, and may run side by side, any number of them on one table that they only read.
-   - Stack. At most 200 bytes were seen in use by a run, 43,000 by counting and 47,000 by filling, for the page too, 46,000 by explaining, and 81,000
-     by judging and by counting and filling for the short table, all but the first on rules with 64 nodes, each inside the one before; bench/stack.c
-     measures this.
+   - Stack. At most 200 bytes were seen in use by a run, 65,000 by counting and 84,000 by filling, for the page too, 68,000 by explaining, 290,000 by
+     judging, and 610,000 by counting and filling for the short table, all but the first on rules with 64 nodes, each inside the one before;
+     bench/stack.c measures this.
 
    The refusals. The first to apply is answered. Each function names those that it looks for, in their order; 1 to 7 go by the records of the rule from
    left to right, 8 comes after them and 9 after 8, on the page 18 in the place of 9, and 11 to 14 go by the records of the model from left to right.
