@@ -22,8 +22,8 @@ static const uint8_t page_rule[] = {
     5, 1, 5, 0, 5, 0, 5, 0, 5, 0, 5, 0, 2,
 };
 
-/* The hardest rule that a search at random found, but that the slots of its second pattern go round: 64 nodes, 127 equations of 9 to 46 members. All but
-   one of its necessities are of any code, so that most members of an equation count under each code. */
+/* The hardest rule of up to 128 equations that a search at random found, but that the slots of its second pattern go round: 64 nodes, 127 equations
+   of 9 to 46 members. All but one of its necessities are of any code, so that most members of an equation count under each code. */
 static const uint8_t hard_rule[] = {
     1, 255, 0, 31, 1, 174, 16, 12,
     6, 4, 5, 0, 7, 0,
@@ -77,8 +77,8 @@ static const uint8_t slow_rule[] = {
     5, 0, 5, 0, 5, 0, 5, 2, 2,
 };
 
-/* A rule that is made so that hints fail: 960 equations. In half of them the eleven necessities of single slots are members, and the sum of these is a
-   multiple of 4,093. So there the answers to one code and to the next have the same hint, for most codes. */
+/* A rule that is made so that hints fail: 960 equations. Half of them have the eleven necessities of single slots, whose sum is a multiple of 4,093.
+   So there, for most codes, the answers to one code and to the next share a hint. */
 static const uint8_t clash_rule[] = {
     1, 255, 0, 31, 1, 85, 0, 31, 1, 255, 0, 0, 1, 255, 2, 2, 1, 255, 4, 4, 1, 255, 6, 6, 1, 255, 8, 8, 1, 255, 10, 10, 1, 255, 12, 12,
     1, 255, 14, 14, 1, 255, 16, 16, 1, 255, 18, 18, 1, 255, 20, 20,
