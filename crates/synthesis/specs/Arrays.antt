@@ -141,6 +141,10 @@ pub record AreClasses (n : ℕ) (classes : List ℕ) : Type 0 where
   pub le : (k : ℕ) → k < n → getD classes k 0 ≤ k
   pub again : (k : ℕ) → k < n → getD classes (getD classes k 0) 0 ≡ getD classes k 0
 
+-- The class of each equation is that of an equation which isn't after it.
+abbrev pub ClassesEarlier : List ℕ → Type 0
+ClassesEarlier classes = (j : ℕ) → j < length classes → getD classes j 0 ≤ j
+
 -- Each of n equations has a number: where the class of the equation stands in a list.
 pub record AreNumbers (n : ℕ) (classes listed numbers : List ℕ) : Type 0 where
   pub is : (k : ℕ) → k < n → getD numbers k 0 ≡ indexOf (getD classes k 0) listed

@@ -10,6 +10,7 @@ ghost use Rattle.reading.specs.Pattern.{least, every};
 ghost use Rattle.synthesis.specs.Monitor.{mark, most, meaning, lookup};
 ghost use Rattle.synthesis.specs.Table.{InRange, RowInRange, WellFormedTable};
 ghost use Rattle.synthesis.specs.Merging.{upTo, sameAnswer, together, refined, rounds};
+ghost use Rattle.synthesis.specs.Arrays.{ClassesEarlier};
 
 // Whether two entries are the same up to classes.
 fn is_same(x: u16, y: u16, classes: &[u16]) -> bool
@@ -68,15 +69,15 @@ fn joins(long: &[u16], classes: &[u16], next: &[u16], k: usize, l: usize) -> boo
     stay_together(long, classes, k, l)
 }
 
-// The class of equation k after the round: the first equation with which it stays together. `next` has the classes of the equations before k; of each
-// class only the first equation is asked.
+// The class of equation k after the round: the first equation with which it stays together. Before the first of its old class there is none. `next` has the
+// classes of the equations before k; of each class only the first equation is asked.
 fn class_after(long: &[u16], classes: &[u16], next: &[u16], k: usize) -> usize
     requires { ⌜ WellFormedTable most mark (length (now classes)) (now long) × (k < length (now classes)) × (length (now next) ≡ length (now classes))
-        × (take k (now next) ≡ refined 256 (lookup 256 mark (now long)) (now classes) k) ⌝ }
+        × (take k (now next) ≡ refined 256 (lookup 256 mark (now long)) (now classes) k) × ClassesEarlier (now classes) ⌝ }
     ensures { λ r. ⌜ r ≡ least k (together 256 (lookup 256 mark (now (long .entry))) (now (classes .entry)) k) ⌝ }
     ensures { λ r. ⌜ r ≤ k ⌝ }
 {
-    let mut l: usize = 0;
+    let mut l = classes[k] as usize;
     while l < k {
         if joins(long, classes, next, k, l) {
             return l;
@@ -88,7 +89,7 @@ fn class_after(long: &[u16], classes: &[u16], next: &[u16], k: usize) -> usize
 
 // One more round: puts the classes after it into `next`.
 fn refine(long: &[u16], classes: &[u16], next: &mut [u16])
-    requires { ⌜ WellFormedTable most mark (length (now classes)) (now long) × (length (now next) ≡ length (now classes)) ⌝ }
+    requires { ⌜ WellFormedTable most mark (length (now classes)) (now long) × (length (now next) ≡ length (now classes)) × ClassesEarlier (now classes) ⌝ }
     ensures { λ _. ⌜ now (next .exit) ≡ refined 256 (lookup 256 mark (now (long .entry))) (now (classes .entry)) (length (now (classes .entry))) ⌝ }
 {
     let mut k: usize = 0;
@@ -128,7 +129,7 @@ fn copy(from: &[u16], to: &mut [u16])
 
 // One more round, with `next` for room. Says whether it left the classes as they were.
 fn round(long: &[u16], classes: &mut [u16], next: &mut [u16]) -> bool
-    requires { ⌜ WellFormedTable most mark (length (now classes)) (now long) × (length (now next) ≡ length (now classes)) ⌝ }
+    requires { ⌜ WellFormedTable most mark (length (now classes)) (now long) × (length (now next) ≡ length (now classes)) × ClassesEarlier (now classes) ⌝ }
     ensures { λ _. ⌜ now (classes .exit) ≡ refined 256 (lookup 256 mark (now (long .entry))) (now (classes .entry)) (length (now (classes .entry))) ⌝ }
     ensures { λ r. ⌜ (r ≡ true → now (classes .exit) ≡ now (classes .entry)) ⌝ }
 {

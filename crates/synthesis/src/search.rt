@@ -1,5 +1,6 @@
 // The search for the equations of a rule. They are numbered by their indices in an array. Hints say where a set may stand in it.
 ghost use mathlib.Core.Path.{_≡_};
+ghost use mathlib.Core.Bool.{true};
 ghost use Prim.Native.Nat.{ℕ, _≤_, _<_};
 ghost use mathlib.Core.List.{List};
 ghost use lib.ListN.{length, getD, take};
@@ -12,8 +13,10 @@ ghost use Rattle.synthesis.specs.Arrays.{gathered, answerBy, IsPlaceOf, 
 // How many hints there are.
 pub(crate) const HINTS: usize = 4096;
 
-// The hint of a set is at its number modulo the largest prime up to their count.
+// A set has two hints, at its number modulo the two largest primes up to their count.
 const HINT_MODULUS: u64 = 4093;
+
+const SECOND_MODULUS: u64 = 4091;
 
 // The union of those sets whose indices are in `live`. Each iteration takes the lowest index out: rest & (rest - 1) is rest
 // without its lowest bit.
@@ -54,21 +57,37 @@ fn find(list: &[u64], n: usize, e: u64) -> usize
     n
 }
 
-// A place of a set among the first n of the list, or n. Its hint is tried first, and believed only where the set stands there. After a search the
-// hint is what was found; n, where a new set may be put next.
+// Whether a set stands at an index among the first n of the list.
+fn stands_at(list: &[u64], n: usize, i: usize, e: u64) -> bool
+    requires { ⌜ n ≤ length (now list) ⌝ }
+    ensures { λ r. ⌜ (r ≡ true → (i < n) × (getD (now (list .entry)) i 0 ≡ e)) ⌝ }
+{
+    if i < n {
+        return list[i] == e;
+    }
+    false
+}
+
+// A place of a set among the first n of the list, or n. Its hints are tried first, and one is believed only where the set stands there. After a search
+// both are what was found; n, where a new set may be put next.
 pub(crate) fn find_by_hint(list: &[u64], hints: &mut [u16], n: usize, e: u64) -> usize
     requires { ⌜ (n ≤ most) × (n ≤ length (now list)) × (length (now hints) ≡ 4096) ⌝ }
     ensures { λ r. ⌜ IsPlaceOf e (take n (now (list .entry))) r ⌝ }
 {
-    let slot = (e % HINT_MODULUS) as usize;
-    let hint = hints[slot] as usize;
-    if hint < n {
-        if list[hint] == e {
-            return hint;
-        }
+    let first = (e % HINT_MODULUS) as usize;
+    let hint = hints[first] as usize;
+    if stands_at(list, n, hint, e) {
+        return hint;
+    }
+    let second = (e % SECOND_MODULUS) as usize;
+    let other = hints[second] as usize;
+    if stands_at(list, n, other, e) {
+        return other;
     }
     let i = find(list, n, e);
-    hints[slot] = i as u16;
+    let index = i as u16;
+    hints[first] = index;
+    hints[second] = index;
     i
 }
 

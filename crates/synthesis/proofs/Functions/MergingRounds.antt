@@ -14,6 +14,7 @@ use Rattle.reading.proofs.Basics.ListLaws.{getD-inside}
 use Rattle.reading.proofs.Measures.Counting.{least-is, least-holds, least-le}
 use Rattle.synthesis.specs.Monitor.{Answer, rowOf, meaning, lookup}
 use Rattle.synthesis.specs.Merging.{upTo, sameAnswer, together, refined, rounds}
+use Rattle.synthesis.specs.Arrays.{ClassesEarlier}
 use Rattle.synthesis.proofs.Quotients.Together.{answer-same, together-agree, agree-together, agree-trans, refined-at, rounds-next}
 
 -- ---- two entries
@@ -59,6 +60,13 @@ module _ (codes : ℕ) (answer : ℕ → ℕ → Answer ℕ) (classes : List ℕ
   -- k stays together with none of the first l equations
   abbrev NoneBelow : ℕ → Type 0
   NoneBelow l = (i : ℕ) → i < l → together codes answer classes k i ≡ false
+
+  -- so it is with those before the first of its class, where classes are named by earlier equations
+  pub none-before-class : ClassesEarlier classes → k < length classes → NoneBelow (getD classes k 0)
+  unfolding together
+  none-before-class earlier h i b =
+      let inside = earlier k h in
+      rw (ne-eqb (getD classes k 0) (getD classes i 0) (λ e. omega (arith, e, inside, earlier i (omega (arith, inside)))))
 
   -- the first l with which it does is the first of its class
   first-asked : (l : ℕ) → together codes answer classes k l ≡ true → NoneBelow l → (least l (together codes answer classes l) ≡ l → ⊥) → ⊥

@@ -75,6 +75,9 @@ module _ (e : ℕ) (l : List ℕ) (n : ℕ) (inside : n ≤ length l) where
 
 -- ---- a place of a number
 
+pub take-place : (e : ℕ) (l : List ℕ) (n : ℕ) → n ≤ length l → (i : ℕ) → (i < n) × (getD l i 0 ≡ e) → IsPlaceOf e (take n l) i
+take-place e l n inside i (h, is) = inl (omega (arith, h, length-take-le n l inside), getD-take n l i 0 h ∙ is)
+
 pub index-place : (e : ℕ) (l : List ℕ) → IsPlaceOf e l (indexOf e l)
 index-place e l = on (decLt (indexOf e l) (length l))
   where

@@ -97,7 +97,7 @@ module _ (codes : ℕ) (answer : ℕ → ℕ → Answer ℕ) (count : ℕ) where
   first-class : (k : ℕ) → k < count → getD (classesAfter 0) k 0 ≡ 0
   first-class k h = rw (rounds-first codes answer count) (getD-replicate count k 0 0 h)
 
-  rounds-le : (r k : ℕ) → k < count → getD (classesAfter r) k 0 ≤ k
+  pub rounds-le : (r k : ℕ) → k < count → getD (classesAfter r) k 0 ≤ k
   rounds-le zero k h = omega (arith, first-class k h)
   rounds-le (suc r) k h = rw (← rounds-next codes answer count r) (refined-le codes answer count (classesAfter r) k h)
 

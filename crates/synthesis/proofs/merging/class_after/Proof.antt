@@ -8,7 +8,7 @@ use borrow.Author.Needs.{needs}
 use Rattle.reading.proofs.Measures.Counting.{least-none}
 use Rattle.synthesis.specs.Monitor.{mark, lookup}
 use Rattle.synthesis.specs.Merging.{together}
-use Rattle.synthesis.proofs.Functions.MergingRounds.{joined, not-joined}
+use Rattle.synthesis.proofs.Functions.MergingRounds.{none-before-class, joined, not-joined}
 use Rattle.synthesis.proofs.merging.class_after.Statement.{statement}
 use Rattle.synthesis.proofs.merging.class_after.Tie as tie
 
@@ -18,8 +18,19 @@ Inv-loop long classes next k l₀ l = (l ≤ k) × ((i : ℕ) → i < l → toge
 abbrev μ-loop : tie.MeasureT-loop
 μ-loop long classes next k l₀ l = k - l
 
+mul-l : tie.Need-mul-l Inv-loop μ-loop
+mul-l c = search needs
+
+shared-slice-read-l : tie.Need-shared-slice-read-l Inv-loop μ-loop
+shared-slice-read-l c = search needs
+
+cast-l : tie.Need-cast-l Inv-loop μ-loop
+cast-l c = omega (arith, c .shared-slice-known4 .given (c .before .before .before .before .args .k))
+
 loop-holds : tie.Need-loop-holds Inv-loop μ-loop
-loop-holds c = (search needs, λ j h. absurd (omega arith))
+loop-holds c =
+    let start = c .before .before .before .before in
+    (start .pre .4 (start .args .k) (start .pre .1), none-before-class 256 _ _ _ (start .pre .4) (start .pre .1))
 
 joins-requires : tie.Need-joins-requires Inv-loop μ-loop
 joins-requires c κs = search needs
@@ -27,7 +38,7 @@ joins-requires c κs = search needs
 returns : tie.Need-returns Inv-loop μ-loop
 returns c =
     let l = c .before .before .before in
-    let pre = l .before .before .before .before .pre in
+    let pre = l .before .before .before .before .before .pre in
     (sym (joined 256 _ _ _ _ (pre .3) _ (search needs) (c .before .joins .ensures) (c .if1 .taken) (l .loop .inv .1)), search needs)
 
 add-l : tie.Need-add-l Inv-loop μ-loop
@@ -39,13 +50,13 @@ loop-less c = search needs
 loop-again : tie.Need-loop-again Inv-loop μ-loop
 loop-again c =
     let l = c .before .before .before in
-    let pre = l .before .before .before .before .pre in
+    let pre = l .before .before .before .before .before .pre in
     let none = l .loop .inv .1 in
     (search needs, below-more _ _ none (not-joined 256 _ _ _ _ (pre .3) _ (search needs) (c .before .joins .ensures) (c .if1 .left) none))
 
 returns-2 : tie.Need-returns-2 Inv-loop μ-loop
 returns-2 c =
-    let all : c .before .loop .l ≡ c .before .before .before .before .before .args .k = omega arith in
+    let all : c .before .loop .l ≡ c .before .before .before .before .before .before .args .k = omega arith in
     (sym (least-none _ _ (rw all at (c .before .loop .inv .1))), search needs)
 
 pub class-after-spec : {M : Type 1} → statement M
@@ -54,6 +65,9 @@ class-after-spec =
     (tie.spec
     Inv-loop
     μ-loop
+    mul-l
+    shared-slice-read-l
+    cast-l
     loop-holds
     joins-requires
     returns

@@ -9,6 +9,7 @@ use Rattle.synthesis.specs.Merging.{refined, rounds}
 use Rattle.synthesis.specs.Table.{WellFormedTable}
 use Rattle.synthesis.proofs.Functions.MergingRounds.{rounds-on, rounds-end}
 use Rattle.synthesis.proofs.Quotients.Together.{rounds-first}
+use Rattle.synthesis.proofs.Quotients.Refinement.{rounds-le}
 use Rattle.synthesis.proofs.merging.merge.Statement.{statement}
 use Rattle.synthesis.proofs.merging.merge.Tie as tie
 
@@ -34,7 +35,11 @@ round-requires : tie.Need-round-requires Inv-loop μ-loop
 round-requires c κs =
     let l = c .before .before .before in
     let start = l .before .before .before .before in
-    (subst (λ (n : ℕ). WellFormedTable most mark n (start .args .long .now)) (sym (l .loop .inv .1)) (start .pre .0), search needs)
+    let x = start .args in (
+      subst (λ (n : ℕ). WellFormedTable most mark n (x .long .now)) (sym (l .loop .inv .1)) (start .pre .0),
+      search needs,
+      λ j h. rw (l .loop .inv .3) (rounds-le 256 (lookup 256 mark (x .long .now)) (length (x .classes .now)) _ j (omega (arith, h, l .loop .inv .1))),
+    )
 
 same-length : tie.Need-same-length Inv-loop μ-loop
 same-length c = search needs

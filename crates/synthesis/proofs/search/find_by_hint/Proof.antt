@@ -1,12 +1,9 @@
 -- `search::find_by_hint` meets its contract, whatever the hints are: one is believed only where the set stands there.
 use Prim.Native.Nat.{_%_}
-use mathlib.Core.Path.{_∙_}
-use mathlib.Core.Logic.{inl}
 use native.Mathlib.Omega.{arith}
-use lib.ListN.{take}
-use lib.Seq.{length-take-le, getD-take}
+use lib.ListN.{take, length-set}
 use borrow.Author.Needs.{needs}
-use Rattle.synthesis.proofs.Numberings.Indices.{take-index-le, index-place}
+use Rattle.synthesis.proofs.Numberings.Indices.{take-index-le, take-place, index-place}
 use Rattle.synthesis.proofs.search.find_by_hint.Statement.{statement}
 use Rattle.synthesis.proofs.search.find_by_hint.Tie as tie
 
@@ -19,25 +16,33 @@ slice-read-hint c = search needs
 cast-hint : tie.Need-cast-hint
 cast-hint c = omega (arith, c .slice-known2 .given (c .before .before .before .args .e % 4093))
 
-mul-if2 : tie.Need-mul-if2
-mul-if2 c = search needs
-
-shared-slice-read-if2 : tie.Need-shared-slice-read-if2
-shared-slice-read-if2 c = search needs
+stands-at-requires : tie.Need-stands-at-requires
+stands-at-requires c κs = search needs
 
 returns : tie.Need-returns
-returns c =
-    let start = c .before .before .before .before .before .before in
-    let x = start .args in
-    let inside = c .before .before .if1 .taken in
-    inl (omega (arith, inside, length-take-le (x .n) (x .list .now) (start .pre .1)), getD-take (x .n) (x .list .now) _ 0 inside ∙ c .if2 .taken)
+returns c = take-place _ _ _ (c .before .before .before .before .before .pre .1) _ (c .before .stands-at .ensures (c .if1 .taken))
+
+mul-other : tie.Need-mul-other
+mul-other c = search needs
+
+slice-read-other : tie.Need-slice-read-other
+slice-read-other c = search needs
+
+cast-other : tie.Need-cast-other
+cast-other c = omega (arith, c .slice-known3 .given (c .before .before .before .before .before .before .args .e % 4091))
+
+stands-at-requires-2 : tie.Need-stands-at-requires-2
+stands-at-requires-2 c κs = search needs
+
+returns-2 : tie.Need-returns-2
+returns-2 c = take-place _ _ _ (c .before .before .before .before .before .before .before .before .pre .1) _ (c .before .stands-at2 .ensures (c .if2 .taken))
 
 find-requires : tie.Need-find-requires
 find-requires c κs = search needs
 
-cast-hints : tie.Need-cast-hints
-cast-hints c =
-    let start = c .before .before .before .before .before in
+cast-index : tie.Need-cast-index
+cast-index c =
+    let start = c .before .before .before .before .before .before .before .before .before in
     omega (arith, c .find .ensures, take-index-le (start .args .e) (start .args .list .now) (start .args .n) (start .pre .1), start .pre .0)
 
 mul-hints : tie.Need-mul-hints
@@ -46,12 +51,18 @@ mul-hints c = search needs
 slice-write-hints : tie.Need-slice-write-hints
 slice-write-hints c = search needs
 
+mul-hints-2 : tie.Need-mul-hints-2
+mul-hints-2 c = search needs
+
+slice-write-hints-2 : tie.Need-slice-write-hints-2
+slice-write-hints-2 c = simp length-set (omega (arith, c .before .before .before .before .before .before .before .before .before .pre .2))
+
 same-length : tie.Need-same-length
 same-length c = search needs
 
-returns-2 : tie.Need-returns-2
-returns-2 c =
-    let x = c .before .before .before .before .before .args in
+returns-3 : tie.Need-returns-3
+returns-3 c =
+    let x = c .before .before .before .before .before .before .before .before .before .args in
     rw (c .find .ensures) (index-place (x .e) (take (x .n) (x .list .now)))
 
 pub find-by-hint-spec : {M : Type 1} → statement M
@@ -61,12 +72,18 @@ find-by-hint-spec =
     mul-hint
     slice-read-hint
     cast-hint
-    mul-if2
-    shared-slice-read-if2
+    stands-at-requires
     returns
+    mul-other
+    slice-read-other
+    cast-other
+    stands-at-requires-2
+    returns-2
     find-requires
-    cast-hints
+    cast-index
     mul-hints
     slice-write-hints
+    mul-hints-2
+    slice-write-hints-2
     same-length
-    returns-2)
+    returns-3)
