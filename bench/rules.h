@@ -77,8 +77,8 @@ static const uint8_t slow_rule[] = {
     5, 0, 5, 0, 5, 0, 5, 2, 2,
 };
 
-/* A rule that is made so that hints fail: 960 equations. Half of them have the eleven necessities of single slots, whose sum is a multiple of 4,093.
-   So there, for most codes, the answers to one code and to the next share a hint. */
+/* A rule that is made so that first hints fail: 960 equations. Half of them have the eleven necessities of single slots, whose sum is a multiple of 4,093.
+   So there, for most codes, the answers to one code and to the next share a first hint. */
 static const uint8_t clash_rule[] = {
     1, 255, 0, 31, 1, 85, 0, 31, 1, 255, 0, 0, 1, 255, 2, 2, 1, 255, 4, 4, 1, 255, 6, 6, 1, 255, 8, 8, 1, 255, 10, 10, 1, 255, 12, 12,
     1, 255, 14, 14, 1, 255, 16, 16, 1, 255, 18, 18, 1, 255, 20, 20,

@@ -67,21 +67,23 @@ static inline uint64_t reached(const struct graph *g, uint64_t equation, size_t 
     return all;
 }
 
-/* Hints where a set was found last, by its remainder. */
-enum { HINTS = 4096, HINT_PRIME = 4093 };
+/* Hints where a set was found last, two for each, by its remainders. */
+enum { HINTS = 4096, FIRST_PRIME = 4093, SECOND_PRIME = 4091 };
 
 /* The place of an equation among the first n, or n. A hint is checked before it is believed. Else the equation is put after them, so that the loop
-   needs no test for the end, and its place is the new hint. */
+   needs no test for the end, and its place is what both hints say then. */
 static inline size_t find(uint64_t *found, size_t n, uint64_t equation, uint16_t *hints)
 {
-    uint16_t *hint = &hints[equation % HINT_PRIME];
-    if (*hint < n && found[*hint] == equation)
-        return *hint;
+    uint16_t *first = &hints[equation % FIRST_PRIME], *second = &hints[equation % SECOND_PRIME];
+    if (*first < n && found[*first] == equation)
+        return *first;
+    if (*second < n && found[*second] == equation)
+        return *second;
     size_t i = 0;
     found[n] = equation;
     while (found[i] != equation)
         i++;
-    *hint = (uint16_t)i;
+    *first = *second = (uint16_t)i;
     return i;
 }
 

@@ -15,12 +15,13 @@ static int stay_together(const uint16_t *table, const uint16_t *classes, size_t 
     return 1;
 }
 
-/* One round: the new class of each equation is the first one with which it stays together. Says whether any class has changed. */
+/* One round: the new class of each equation is the first one with which it stays together; none is before the first of its old class. Says whether any
+   class has changed. */
 static int refine(const uint16_t *table, size_t n, uint16_t *classes)
 {
     uint16_t next[MOST_EQUATIONS];
     for (size_t k = 0; k < n; k++) {
-        size_t l = 0;
+        size_t l = classes[k];
         while (l < k && (next[l] != l || !stay_together(table, classes, k, l)))
             l++;
         next[k] = (uint16_t)l;
