@@ -17,11 +17,8 @@ fn is_same(x: u16, y: u16, classes: &[u16]) -> bool
     requires { ⌜ InRange mark (length (now classes)) x × InRange mark (length (now classes)) y ⌝ }
     ensures { λ r. ⌜ r ≡ sameAnswer (upTo (now (classes .entry)) (meaning mark x)) (upTo (now (classes .entry)) (meaning mark y)) ⌝ }
 {
-    if x == y {
-        return true;
-    }
     if x == DROPPED {
-        return false;
+        return y == DROPPED;
     }
     if y == DROPPED {
         return false;

@@ -2,7 +2,7 @@
 -- class, so it is enough to ask first equations. After a round that changes nothing no other does.
 use Prim.Native.Nat.{ℕ, zero, suc, _+_, _-_, _≤_, _<_}
 use mathlib.Core.Path.{_≡_, refl, sym, _∙_, ap}
-use mathlib.Core.Bool.{Bool, true, false, _&&_, true≢false}
+use mathlib.Core.Bool.{Bool, true, false, cond, _&&_, true≢false}
 use mathlib.Core.List.{List}
 use native.Mathlib.Omega.{arith}
 use lib.Dec.{eqb}
@@ -12,10 +12,10 @@ use borrow.Author.Tests.{eq-eqb, ne-eqb, eqb-false}
 use Rattle.reading.specs.Pattern.{least, every}
 use Rattle.reading.proofs.Basics.ListLaws.{getD-inside}
 use Rattle.reading.proofs.Measures.Counting.{least-is, least-holds, least-le}
-use Rattle.synthesis.specs.Monitor.{Answer, rowOf, meaning, lookup}
+use Rattle.synthesis.specs.Monitor.{Answer, dropped, next, rowOf, meaning, lookup}
 use Rattle.synthesis.specs.Merging.{upTo, sameAnswer, together, refined, rounds}
 use Rattle.synthesis.specs.Arrays.{ClassesEarlier}
-use Rattle.synthesis.proofs.Quotients.Together.{answer-same, together-agree, agree-together, agree-trans, refined-at, rounds-next}
+use Rattle.synthesis.proofs.Quotients.Together.{together-agree, agree-together, agree-trans, refined-at, rounds-next}
 
 -- ---- two entries
 
@@ -24,11 +24,12 @@ module _ (mark : ℕ) (classes : List ℕ) where
   abbrev sameEntry : (x y : ℕ) → Bool
   sameEntry x y = sameAnswer (upTo classes (meaning mark x)) (upTo classes (meaning mark y))
 
-  pub same-equal : (x y : ℕ) → x ≡ y → sameEntry x y ≡ true
-  same-equal x y e = answer-same _ _ (ap (λ (z : ℕ). upTo classes (meaning mark z)) e)
-
-  pub same-first : (x y : ℕ) → (x ≡ y → ⊥) → x ≡ mark → sameEntry x y ≡ false
-  same-first x y n e = rw (eq-eqb x mark e, ne-eqb y mark (λ z. n (e ∙ sym z)))
+  pub same-dropped : (x y : ℕ) → x ≡ mark → sameEntry x y ≡ eqb y mark
+  same-dropped x y e = rw (eq-eqb x mark e) (on (eqb y mark))
+    where
+      on : (b : Bool) → sameAnswer dropped (upTo classes (cond b dropped (next y))) ≡ b
+      on true = refl
+      on false = refl
 
   pub same-second : (x y : ℕ) → (x ≡ mark → ⊥) → y ≡ mark → sameEntry x y ≡ false
   same-second x y n e = rw (ne-eqb x mark n, eq-eqb y mark e)
