@@ -21,7 +21,7 @@ same-answer dropped (next j) h = absurd (true≢false (sym h))
 same-answer (next i) dropped h = absurd (true≢false (sym h))
 same-answer (next i) (next j) h = rw (eqb-true i j h)
 
-pub answer-same : (a b : Answer ℕ) → a ≡ b → sameAnswer a b ≡ true
+answer-same : (a b : Answer ℕ) → a ≡ b → sameAnswer a b ≡ true
 answer-same a b e = rw e (on b)
   where
     on : (b : Answer ℕ) → sameAnswer b b ≡ true
