@@ -5,7 +5,7 @@ from random import Random
 
 import known_equations
 import violation
-from equations import CODES, DROPPED_ENTRY, MOST_EQUATIONS, Equations, fill, listing, rows_of, said
+from equations import CODES, DESK, DROPPED, Equations, fill, listing, rows_of, said
 from expected import fresh_table
 from merging import short_rows
 from rules import After, Refusal, numbered, read_rule
@@ -64,17 +64,17 @@ def verdicts_by_table(table, scans, state=0):
     """Of each scan, whether it is dropped, by the rows of a table from one of them on."""
     dropped = []
     for scan in scans:
-        entry = table[state][scan]
-        dropped.append(entry == DROPPED_ENTRY)
-        if entry != DROPPED_ENTRY:
-            state = entry
+        answer = table[state][scan]
+        dropped.append(answer is DROPPED)
+        if answer is not DROPPED:
+            state = answer
     return dropped
 
 
 def check_rows(table):
     """Each number but 0 first appears, row by row, after the numbers below it, and all numbers appear."""
-    entries = [entry for row in table for entry in row if entry != DROPPED_ENTRY]
-    expect(list(dict.fromkeys([0] + entries)) == list(range(len(table))), "order")
+    answers = [answer for row in table for answer in row if answer is not DROPPED]
+    expect(list(dict.fromkeys([0] + answers)) == list(range(len(table))), "order")
 
 
 def check_rule(random, rule, short):
@@ -100,12 +100,12 @@ def check_rule(random, rule, short):
 
 
 def check_filling(fill_table, data, size, answer):
-    """A filling answers as typed. It leaves the bytes behind the last row, and all where it is refused."""
+    """A filling answers as typed. It leaves the entries behind the last row, and all where it is refused."""
     table = fresh_table(size, 0)
     counted = fill_table(data, table)
     expect(said(counted) == answer, "filling", list(data), size, said(counted))
     written = 0 if isinstance(counted, Refusal) else CODES * len(counted)
-    expect(table[written:] == fresh_table(size, 0)[written:], "bytes that stay", list(data), size)
+    expect(table[written:] == fresh_table(size, 0)[written:], "entries that stay", list(data), size)
 
 
 def check_typed():
@@ -113,7 +113,7 @@ def check_typed():
     for data, typed in known_equations.listings():
         expect(listing(data) == typed, "listing", listing(data))
     for data, typed in known_equations.sets():
-        found = list(Equations(read_rule(data)).numbers(MOST_EQUATIONS))
+        found = list(Equations(read_rule(data)).numbers(DESK.most))
         expect(found == typed, "equations", list(data), found)
     for data, size, answer in known_equations.fillings():
         check_filling(fill, data, size, answer)

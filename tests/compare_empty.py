@@ -18,7 +18,7 @@ LEAST = 100
 
 def check_tables(pair):
     """Both have the same count, table and listing: the long ones, on the rule page, and the short ones."""
-    for fill_table in (fill, partial(fill, limit=PAGE), fill_short):
+    for fill_table in (fill, partial(fill, terms=PAGE), fill_short):
         tables = [fresh_table(LARGEST_TABLE, 0) for _ in pair]
         counted = [fill_table(data, table) for data, table in zip(pair, tables)]
         expect(said(counted[0]) == said(counted[1]), "counts of a pair", *map(list, pair))

@@ -14,12 +14,12 @@ def check_typed():
         text = text_of(data, rows(data, PAGE))
         expect(text == typed, "listing on the page", list(data), text)
     for data, size, answer in known_page.fillings():
-        check_filling(partial(fill, limit=PAGE), data, size, answer)
+        check_filling(partial(fill, terms=PAGE), data, size, answer)
 
 
-def is_beyond(counted, limit):
+def is_beyond(counted, terms):
     """Whether this is the refusal of too many equations."""
-    return str(counted) == str(Refusal(limit.number, 0))
+    return str(counted) == str(Refusal(terms.number, 0))
 
 
 def check_beyond(size, data):
@@ -42,8 +42,8 @@ def check_alike(size, data):
 
 
 def check(cases):
-    """Checks what was typed, and the page beside the desk in each case, a table's size and a file."""
+    """Checks what was typed, and the page beside the desk in each case, by its table's size and its file."""
     check_typed()
-    for size, data in cases:
+    for size, _, data in cases:
         check_case = check_beyond if is_beyond(rows(data, PAGE), PAGE) else check_alike
         check_case(size, data)

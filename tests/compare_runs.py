@@ -5,7 +5,7 @@ import known_equations
 import known_runs
 import violation
 from compare import expect
-from equations import CODES, rows
+from equations import entries_of, rows
 from rules import read_rule
 from running import run
 from sifting import Sifting
@@ -18,8 +18,8 @@ def check_typed():
         rule = read_rule(data)
         expect(Sifting(rule).sift(scans) == verdicts, "typed verdicts, by sifting", list(data), list(scans))
         expect(bytes(violation.verdicts(rule, list(scans))) == verdicts, "typed verdicts", list(data), list(scans))
-        table, buffers = b"".join(rows(data)), [bytearray(len(scans)), bytearray(len(scans))]
-        run(table, len(table) // CODES, 0, scans, *buffers)
+        table, buffers = rows(data), [bytearray(len(scans)), bytearray(len(scans))]
+        run(entries_of(table), len(table), 0, scans, *buffers)
         expect(buffers[1] == verdicts, "typed verdicts, by a run", list(data), list(scans))
     for (table, count, state, scans, *buffers), line, *after in known_runs.runs():
         buffers = [bytearray(buffer) for buffer in buffers]

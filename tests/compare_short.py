@@ -3,7 +3,7 @@ from collections import Counter
 
 import known_short
 from compare import check_filling, expect, verdicts_by_table
-from equations import DROPPED_ENTRY, rows, text_of
+from equations import DROPPED, rows, text_of
 from merging import fill_short, short_rows
 from rules import Refusal
 
@@ -24,7 +24,7 @@ def telling_list(table, codes, k, l):
     for k, l, before in queue:
         for code in codes:
             x, y = table[k][code], table[l][code]
-            if (x == DROPPED_ENTRY) != (y == DROPPED_ENTRY):
+            if (x is DROPPED) != (y is DROPPED):
                 return before + [code]
             if x != y and (x, y) not in met:
                 met.add((x, y))
@@ -32,26 +32,39 @@ def telling_list(table, codes, k, l):
     return None
 
 
-def are_told_apart(table, codes, k, l):
-    """Whether some list tells rows k and l apart. It has to do so when they are run on it."""
-    telling = telling_list(table, codes, k, l)
-    if telling is not None:
-        expect(verdicts_by_table(table, telling, k) != verdicts_by_table(table, telling, l), "telling", k, l, telling)
-    return telling is not None
+class Sieve:
+    """A class of rows, by its first row; or a list of codes that tells classes apart, with a sieve for each way in which rows answer it."""
+
+    def __init__(self, first):
+        self.first = first
+        self.telling = None
+        self.parts = {}
+
+    def add(self, table, codes, k):
+        """Gives the first row of the class of row k, which is k itself in a new class. It is run beside the first row of a class
+        only where no list so far tells the two apart."""
+        if self.telling is None:
+            telling = telling_list(table, codes, self.first, k)
+            if telling is None:
+                return self.first
+            self.telling = telling
+            self.parts = {answer_to(table, telling, row): Sieve(row) for row in (self.first, k)}
+            expect(len(self.parts) == 2, "telling", self.first, k, telling)
+        return self.parts.setdefault(answer_to(table, self.telling, k), Sieve(k)).add(table, codes, k)
+
+
+def answer_to(table, telling, k):
+    return tuple(verdicts_by_table(table, telling, k))
 
 
 def merged_by_firsts(table):
-    """The short table by another way: each row is held against the first row of each class so far, and the classes are
+    """The short table by another way: each row is held against the first rows of classes so far, and the classes are
     numbered in the order of these."""
-    codes = codes_of(table)
-    firsts, classes = [], []
-    for k in range(len(table)):
-        others = (number for number, first in enumerate(firsts) if not are_told_apart(table, codes, first, k))
-        number = next(others, len(firsts))
-        firsts += [k] if number == len(firsts) else []
-        classes.append(number)
-    entries = dict(enumerate(classes)) | {DROPPED_ENTRY: DROPPED_ENTRY}
-    return [bytes(entries[entry] for entry in table[first]) for first in firsts]
+    codes, sieve = codes_of(table), Sieve(0)
+    firsts = [sieve.add(table, codes, k) for k in range(len(table))]
+    numbers = {first: number for number, first in enumerate(dict.fromkeys(firsts))}
+    answers = {k: numbers[first] for k, first in enumerate(firsts)} | {DROPPED: DROPPED}
+    return [tuple(answers[answer] for answer in table[first]) for first in numbers]
 
 
 def check_typed():

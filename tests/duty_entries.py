@@ -7,7 +7,7 @@ from duty_plays import set_up_anew
 from equations import CODES, DROPPED_ENTRY, rows
 from stream_faults import enough, other_entry
 from stream_plays import BEHIND
-from stream_script import MOST_BYTES
+from expected import MOST_ENTRIES
 
 COUNTS = [1, 1, 2, 2, 3, 5, 16, 64, 128]
 
@@ -43,7 +43,7 @@ def play_foreign(random, script, number, rate):
         expect(script.come_on(numbers[place], size, bases[place], counts[place], Entries()) is None, "a foreign coming")
         fit_run(random, script, size, scans_for(random))
     for _ in range(3):
-        fit_run(random, script, random.choice([size, MOST_BYTES]), scans_for(random))
+        fit_run(random, script, random.choice([size, MOST_ENTRIES]), scans_for(random))
     script.go_off(random.choice(numbers))
     fit_run(random, script, size, scans_for(random))
     script.tally["days by entries: tables of no rule"] += 1
@@ -55,18 +55,18 @@ def play_changed(random, script, number, data, others):
     table, beside = set_up_anew(random, script, number, [data, random.choice(others)])
     script.new_day()
     for place, name in zip((table, beside, table), random.sample(range(256), 3)):
-        expect(script.come_on(name, MOST_BYTES, place.base, place.count, Entries()) is None, "a coming")
-    fit_run(random, script, MOST_BYTES, scans_for(random))
+        expect(script.come_on(name, MOST_ENTRIES, place.base, place.count, Entries()) is None, "a coming")
+    fit_run(random, script, MOST_ENTRIES, scans_for(random))
     fitting = [other for other in others if len(rows(other)) <= table.count]
     script.fill(table.base, random.choice(fitting))
-    fit_run(random, script, MOST_BYTES, scans_for(random))
+    fit_run(random, script, MOST_ENTRIES, scans_for(random))
     with duty_faults.wrong_entry(random, script, table):
         scans = scans_for(random)
-        duty_faults.expect_refused(script, 16, lambda: script.run(scans, MOST_BYTES, len(scans), len(scans))[0].refusal)
-    fit_run(random, script, MOST_BYTES, scans_for(random))
+        duty_faults.expect_refused(script, 16, lambda: script.run(scans, MOST_ENTRIES, len(scans), len(scans))[0].refusal)
+    fit_run(random, script, MOST_ENTRIES, scans_for(random))
     scans = scans_for(random)
     equation = script.desk.places[0].equation
     for scan in scans[:2]:
         with other_entry(script, table.base + CODES * equation + scan, random.choice([DROPPED_ENTRY, table.count - 1])):
-            fit_run(random, script, MOST_BYTES, scans)
+            fit_run(random, script, MOST_ENTRIES, scans)
     script.tally["days by entries: rows that change"] += 1

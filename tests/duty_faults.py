@@ -8,7 +8,7 @@ from compare import expect
 from duty import MOST_ON_DUTY, OnDuty
 from equations import CODES
 from stream_faults import COUNTS, STATES, enough, other_entry, short_sizes
-from stream_script import MOST_BYTES
+from expected import MOST_ENTRIES
 
 # Bases near 2^64: with some of them the rows of a rule would end where the lent tables begin, or in them.
 BASES = [2**64 - 1, 2**64 - 255, 2**64 - 256, 2**64 - 512, 2**64 - 768, 2**64 - 65536]
@@ -26,8 +26,8 @@ def free_number(random, desk):
 
 def unfit_tables(random, table):
     """Ways to lend a table that is fit, so that it is unfit: how much is lent, the base and the count."""
-    lent = random.choice([table.end, table.end, MOST_BYTES, random.randrange(table.end, MOST_BYTES + 1)])
-    low = min(table.base, MOST_BYTES - CODES * 129)
+    lent = random.choice([table.end, table.end, MOST_ENTRIES, random.randrange(table.end, MOST_ENTRIES + 1)])
+    low = min(table.base, MOST_ENTRIES - CODES * 129)
     return [
         (table.end - 1, table.base, table.count),
         (random.randrange(table.base, table.end), table.base, table.count),
@@ -35,7 +35,7 @@ def unfit_tables(random, table):
         (lent, lent + random.choice([1, 1, 255, 256, 65536]), table.count),
         (lent, random.choice(BASES + [2**64 - CODES * table.count, 2**64 - table.base - 1]), table.count),
         (lent, table.base, 0),
-        (MOST_BYTES, low, 129),
+        (MOST_ENTRIES, low, 129),
         (lent, table.base, random.choice(COUNTS)),
     ]
 
@@ -52,7 +52,7 @@ def refused_coming(random, script, table):
     is_known = desk.count > 0 and random.randrange(2) == 0
     is_unfit = random.randrange(2) == 0 or not (is_known or desk.count == MOST_ON_DUTY)
     is_entry = is_unfit and random.randrange(5) == 0
-    lending = (MOST_BYTES, table.base, table.count)
+    lending = (MOST_ENTRIES, table.base, table.count)
     if is_unfit and not is_entry:
         lending = random.choice(unfit_tables(random, table))
     number = random.choice(desk.numbers()) if is_known else free_number(random, desk)
@@ -84,7 +84,7 @@ def handed_in(script, count, places):
 
 def unfit_rules(random, rule):
     """The rule with another equation, another count or another base, each of which makes it unfit."""
-    counts, bases = [0, 129, random.choice(COUNTS)], [MOST_BYTES, MOST_BYTES + random.choice([1, 256]), random.choice(BASES)]
+    counts, bases = [0, 129, random.choice(COUNTS)], [MOST_ENTRIES, MOST_ENTRIES + random.choice([1, 256]), random.choice(BASES)]
     others = [replace(rule, count=count) for count in counts] + [replace(rule, base=base) for base in bases]
     return others + [replace(rule, equation=equation) for equation in (rule.count, random.choice(STATES))]
 
@@ -104,7 +104,7 @@ def refused_run(random, script, scans, tables):
     if not (is_unfit or is_short):
         return
     sizes = short_sizes(random, len(scans)) if is_short else [enough(random, len(scans)) for _ in range(2)]
-    lent, changed = MOST_BYTES, nullcontext()
+    lent, changed = MOST_ENTRIES, nullcontext()
     if is_unfit:
         place = random.randrange(desk.count)
         way = random.randrange(4)
@@ -121,7 +121,7 @@ def refused_run(random, script, scans, tables):
 def remains(random, desk):
     """What may stand in a place that no rule has: numbers that are on duty, and anything else."""
     number = random.choice(desk.numbers() + [0, random.randrange(256)])
-    base = random.choice([0, random.randrange(MOST_BYTES)] + BASES)
+    base = random.choice([0, random.randrange(MOST_ENTRIES)] + BASES)
     count, equation = random.choice([0, 1, 3] + COUNTS), random.choice([0, 1, 2] + STATES)
     return OnDuty(number, base, count, equation)
 
@@ -137,11 +137,11 @@ def refused_by_state(random, script, table, scans):
     """Each call, over a state that is unsound: a run is refused by 15 where its buffers are short."""
     desk = script.desk
     number = random.choice([place.number for place in desk.places] + [random.randrange(256)])
-    expect_refused(script, 16, lambda: script.come_on(number, MOST_BYTES, table.base, table.count))
+    expect_refused(script, 16, lambda: script.come_on(number, MOST_ENTRIES, table.base, table.count))
     expect_refused(script, 16, lambda: script.go_off(number))
-    expect_refused(script, 16, lambda: script.run(scans, MOST_BYTES, len(scans), len(scans))[0].refusal)
+    expect_refused(script, 16, lambda: script.run(scans, MOST_ENTRIES, len(scans), len(scans))[0].refusal)
     if scans:
-        expect_refused(script, 15, lambda: script.run(scans, MOST_BYTES, *short_sizes(random, len(scans)))[0].refusal)
+        expect_refused(script, 15, lambda: script.run(scans, MOST_ENTRIES, *short_sizes(random, len(scans)))[0].refusal)
 
 
 def over_four(random, script, table, scans):

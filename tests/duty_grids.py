@@ -6,7 +6,7 @@ import duty_faults
 from compare import expect
 from duty import MOST_ON_DUTY
 from duty_plays import new_day
-from stream_script import MOST_BYTES
+from expected import MOST_ENTRIES
 
 
 def all_on(random, script, number, files, count):
@@ -51,7 +51,7 @@ def change_beside(random, script, table):
     """Another rule comes on and goes off again, whatever the rules on duty are."""
     number = duty_faults.free_number(random, script.desk)
     if script.desk.count < MOST_ON_DUTY:
-        expect(script.come_on(number, MOST_BYTES, table.base, table.count) is None, "a coming beside an unfit rule")
+        expect(script.come_on(number, MOST_ENTRIES, table.base, table.count) is None, "a coming beside an unfit rule")
         expect(script.go_off(number) is None, "a going beside an unfit rule")
 
 
@@ -63,11 +63,11 @@ def play_unfit(random, script, number, files):
     for place, rule in enumerate(script.desk.rules()):
         for other in random.sample(duty_faults.unfit_rules(random, rule), 3):
             with duty_faults.with_rule(script, place, other):
-                duty_faults.expect_refused(script, 16, lambda: script.run(scans, MOST_BYTES, 2, 2)[0].refusal)
-                duty_faults.expect_refused(script, 15, lambda: script.run(scans, MOST_BYTES, 2, 1)[0].refusal)
+                duty_faults.expect_refused(script, 16, lambda: script.run(scans, MOST_ENTRIES, 2, 2)[0].refusal)
+                duty_faults.expect_refused(script, 15, lambda: script.run(scans, MOST_ENTRIES, 2, 1)[0].refusal)
                 change_beside(random, script, day.tables[0])
         with duty_faults.wrong_entry(random, script, day.on[rule.number]):
-            duty_faults.expect_refused(script, 16, lambda: script.run(b"", MOST_BYTES, 0, 0)[0].refusal)
+            duty_faults.expect_refused(script, 16, lambda: script.run(b"", MOST_ENTRIES, 0, 0)[0].refusal)
     day.run_some(6, 0.6)
 
 

@@ -14,7 +14,7 @@ from rules import Refusal, read_rule
 from stream_faults import enough
 from stream_plays import BEHIND, RATES
 from stream_scans import pieces
-from stream_script import MOST_BYTES
+from expected import MOST_ENTRIES
 
 
 @dataclass(frozen=True)
@@ -40,7 +40,7 @@ def set_up(random, script, files):
     """Fills tables side by side in any order, long or short ones. Gives them in the order of the files."""
     kinds = [random.randrange(3) == 0 for _ in files]
     sizes = [CODES * len((short_rows if is_short else rows)(data)) for data, is_short in zip(files, kinds)]
-    spare = MOST_BYTES - sum(sizes)
+    spare = MOST_ENTRIES - sum(sizes)
     tables, at = {}, 0
     for place in random.sample(range(len(files)), len(files)):
         skipped = gap(random, spare)
@@ -63,7 +63,7 @@ class Day:
         self.on = {}
 
     def lent(self, end):
-        return self.random.choice([end, end, MOST_BYTES, self.random.randrange(end, MOST_BYTES + 1)])
+        return self.random.choice([end, end, MOST_ENTRIES, self.random.randrange(end, MOST_ENTRIES + 1)])
 
     def come_on(self, table, number):
         spell = Spell(table.data, table.is_short)
@@ -228,7 +228,7 @@ def play_join(random, script, number, files):
     is_accepted = not isinstance(answer, Refusal)
     tables = set_up_anew(random, script, number, files + [one] * is_accepted)
     if not is_accepted:
-        script.fill(random.randrange(MOST_BYTES), one)
+        script.fill(random.randrange(MOST_ENTRIES), one)
     day = Day(random, script, tables[: len(files)])
     come_together(random, day)
     lengths = [len(part) for part in pieces(random, bytes(random.randrange(10, 30)), 9)]

@@ -8,7 +8,7 @@ from joining import joined
 from known_duties import END
 from rules import Refusal
 from sifting import kept
-from stream_script import MOST_BYTES
+from expected import MOST_ENTRIES
 
 TABLES = known_duties.tables()
 
@@ -75,4 +75,4 @@ def play(script):
     for files, one, answer in known_duties.joins():
         expect(not any(isinstance(rows(data), Refusal) for data in files), "a typed rule, alone", answer)
         expect(joined(files) == one, "a typed join", list(joined(files)), list(one))
-        expect(said(script.fill(MOST_BYTES // 2, one)) == answer, "a typed join", answer)
+        expect(said(script.fill(MOST_ENTRIES // 2, one)) == answer, "a typed join", answer)

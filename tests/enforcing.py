@@ -1,7 +1,7 @@
 """Brute force on demand 3: the model behind the monitor, strong bisimilarity, walks one by one, and the first drop."""
 from dataclasses import dataclass
 
-from equations import DROPPED_ENTRY
+from equations import DROPPED
 from models import SILENT, Model, Step
 
 
@@ -10,9 +10,9 @@ def monitored(model, table):
     s × count + e, so that the start is 0 here too."""
     count, steps = len(table), []
     for step in model.steps:
-        for equation, entries in enumerate(table):
-            entry = DROPPED_ENTRY if step.label == SILENT else entries[step.label]
-            label, then = (SILENT, equation) if entry == DROPPED_ENTRY else (step.label, entry)
+        for equation, answers in enumerate(table):
+            answer = DROPPED if step.label == SILENT else answers[step.label]
+            label, then = (SILENT, equation) if answer is DROPPED else (step.label, answer)
             steps.append(Step(step.source * count + equation, label, step.target * count + then))
     return Model(model.states * count, tuple(steps))
 
@@ -53,16 +53,16 @@ def walk_ends(model, length, most):
 
 def met_steps(model, table):
     """The steps that the monitor meets, breadth first from the start, on walks of which it has dropped no step before:
-    the state and the equation where it meets them, their label and target, and the entry."""
+    the state and the equation where it meets them, their label and target, and the answer."""
     steps, found = outgoing(model), [(0, 0)]
     seen = set(found)
     for state, equation in found:
         for label, target in steps[state]:
-            entry = equation if label == SILENT else table[equation][label]
-            yield state, equation, label, target, entry
-            if entry != DROPPED_ENTRY and (target, entry) not in seen:
-                seen.add((target, entry))
-                found.append((target, entry))
+            answer = equation if label == SILENT else table[equation][label]
+            yield state, equation, label, target, answer
+            if answer is not DROPPED and (target, answer) not in seen:
+                seen.add((target, answer))
+                found.append((target, answer))
 
 
 @dataclass(frozen=True)
@@ -89,9 +89,9 @@ def labels_to(pair, before):
 def first_drop(model, table):
     """The drop that is met first, or None."""
     lengths, before = {(0, 0): 0}, {}
-    for state, equation, label, target, entry in met_steps(model, table):
-        pair, then = (state, equation), (target, entry)
-        if entry == DROPPED_ENTRY:
+    for state, equation, label, target, answer in met_steps(model, table):
+        pair, then = (state, equation), (target, answer)
+        if answer is DROPPED:
             labels = labels_to(pair, before) + [label]
             trace = tuple(label for label in labels if label != SILENT)
             nearer = sum(length < lengths[pair] for length in lengths.values())

@@ -1,10 +1,11 @@
 """Rules for their equations: the paper's families, small formulas, maxes in maxes, and rules at the limit."""
+from functools import partial
 from itertools import product
 
 import known
 import known_equations
 import known_page
-from equations import MOST_EQUATIONS, PAGE, rows
+from equations import CODES, DESK, PAGE, PROGRAMS, rows
 from rules import Refusal, read_rule
 from shapes import ANY, BOTH, FALSITY, MAX, TRUTH, after, pattern, variable
 from shapes import random_mask, random_patterns, telling_patterns
@@ -138,9 +139,28 @@ def padded_counters(random, count, most):
 
 
 def limit_rules(random):
-    """Rules with about as many equations as there may be."""
+    """Rules with about as many equations as the programs take."""
     rules = [known.bytes_of(known_equations.late(n)) for n in range(20, 29)]
-    return rules + padded_counters(random, 250, MOST_EQUATIONS)
+    return rules + padded_counters(random, 250, PROGRAMS.most)
+
+
+def registers(random, older, younger):
+    """The rule of that name in known_wide.py over other patterns, and with so many codes before each of the two that it drops."""
+    kinds, slots = random.sample(range(8), 4), wide_slots(random)
+    masks = [sum(2**kind for kind in kinds[:count]) for count in (4, random.randrange(1, 4))]
+    heads = b"".join(pattern(mask, *slots) for mask in masks) + random_patterns(random, 2)
+    ends = [after(end) + FALSITY for end in (3, 4)]
+    parts = [after(1) + after(0) * (older - 1) + ends[0], after(2) + after(0) * (younger - 1) + ends[1]]
+    return ANY + heads + MAX + all_hold([after(0) + variable(0)] + parts)
+
+
+def wide_rules(random):
+    """Rules with about 256 equations, and with about as many as there may be."""
+    rules = []
+    for older, younger, most in ((6, 3, CODES), (7, 5, DESK.most)):
+        for rule in drawn(random, partial(registers, older=older, younger=younger), 5):
+            rules += padded(rule, most)
+    return rules
 
 
 def page_rules(random):

@@ -1,31 +1,39 @@
 """The equations of a rule, their table and their listing, by the paper's "Equations"."""
+from array import array
 from functools import cache
-from itertools import groupby
+from itertools import chain, groupby
 from typing import NamedTuple
 
 from rules import Refusal, numbered, read_rule
 
 CODES = 256
-MOST_EQUATIONS = 128
 
-# A table of so many bytes has room for the rows of every rule.
-LARGEST_TABLE = CODES * MOST_EQUATIONS
-
-# What an equation answers to a code that it drops, in place of the next equation, and how the table has it.
+# What an equation answers to a code that it drops, in place of the next equation.
 DROPPED = None
-DROPPED_ENTRY = 255
 
 
-class Limit(NamedTuple):
-    """The most equations that a rule may have, and the number of its refusal where it has more."""
+class Terms(NamedTuple):
+    """The most equations that a rule may have, the number of its refusal where it has more, and the mark: the entry that
+    a table has where an equation drops a code."""
 
     most: int
     number: int
+    mark: int
 
 
-# The limit of the desk, and that of the rule page.
-DESK = Limit(MOST_EQUATIONS, 9)
-PAGE = Limit(32, 18)
+# The terms of the desk, of the programs and of the rule page.
+DESK = Terms(1000, 9, 65535)
+PROGRAMS = DESK._replace(most=128)
+PAGE = DESK._replace(most=32, number=18)
+
+# A table of so many entries has room for the rows of every rule, and one of so many for those that the programs take.
+LARGEST_TABLE = CODES * DESK.most
+PROGRAM_TABLE = CODES * PROGRAMS.most
+
+
+def within(limit):
+    """The terms of the desk with another limit. One over its own counts as that."""
+    return DESK._replace(most=min(limit, DESK.most))
 
 
 class Equations:
@@ -86,8 +94,8 @@ class Equations:
         return numbers
 
     def row(self, equation, numbers):
-        """The entries of an equation, by the numbers of all."""
-        return bytes(DROPPED_ENTRY if answer is DROPPED else numbers[answer] for answer in self.answers(equation))
+        """The numbers of an equation's answers, by the numbers of all, and where it drops a code, that it does."""
+        return tuple(DROPPED if answer is DROPPED else numbers[answer] for answer in self.answers(equation))
 
     def verdicts(self, scans):
         """Of each scan, whether it is dropped, from the first equation on."""
@@ -100,51 +108,58 @@ class Equations:
         return dropped
 
 
-def rows_of(equations, limit=DESK):
+def rows_of(equations, terms=DESK):
     """The rows of a rule's equations in order, or the refusal of the rule."""
     if equations.has_falsity(equations.first):
         return Refusal(8, 0)
-    numbers = equations.numbers(limit.most)
-    if len(numbers) > limit.most:
-        return Refusal(limit.number, 0)
+    numbers = equations.numbers(terms.most)
+    if len(numbers) > terms.most:
+        return Refusal(terms.number, 0)
     return [equations.row(equation, numbers) for equation in numbers]
 
 
 @cache
-def rows_within(limit, data):
+def rows_within(most, number, data):
     """The rows of the equations of the rule that a file holds, or the refusal of the file."""
     rule = read_rule(data)
-    return rule if isinstance(rule, Refusal) else rows_of(Equations(rule), limit)
+    return rule if isinstance(rule, Refusal) else rows_of(Equations(rule), Terms(most, number, None))
 
 
-def rows(data, limit=DESK):
-    return rows_within(limit, data)
+def rows(data, terms=DESK):
+    return rows_within(terms.most, terms.number, data)
+
+
+def is_accepted(data, terms=DESK):
+    return not isinstance(rows(data, terms), Refusal)
 
 
 def can_drop(table):
     """Whether a code is dropped somewhere in the rows."""
-    return any(DROPPED_ENTRY in entries for entries in table)
+    return any(DROPPED in answers for answers in table)
 
 
-def is_dropping(data):
+def is_dropping(data, terms=PROGRAMS):
     """Whether the rule of a file is accepted and can drop a scan."""
-    table = rows(data)
-    return not isinstance(table, Refusal) and can_drop(table)
+    return is_accepted(data, terms) and can_drop(rows(data, terms))
 
 
-def fill_with(counted, table):
+def entries_of(counted, mark=DESK.mark):
+    """The rows one after the other, as a table has them."""
+    return array("H", [mark if answer is DROPPED else answer for answer in chain(*counted)])
+
+
+def fill_with(counted, table, mark=DESK.mark):
     """The rows that were counted, or the refusal of filling. The lent table gets them in place."""
     if isinstance(counted, Refusal):
         return counted
     if len(table) < CODES * len(counted):
         return Refusal(10, 0)
-    for number, entries in enumerate(counted):
-        table[CODES * number : CODES * number + CODES] = entries
+    table[: CODES * len(counted)] = entries_of(counted, mark)
     return counted
 
 
-def fill(data, table, limit=DESK):
-    return fill_with(rows(data, limit), table)
+def fill(data, table, terms=DESK):
+    return fill_with(rows(data, terms), table, terms.mark)
 
 
 def said(counted):
@@ -155,15 +170,15 @@ def said(counted):
 def row(table, number):
     """The row of the equation of that number in a table, empty where it isn't wholly inside."""
     part = table[CODES * number : CODES * number + CODES]
-    return part if len(part) == CODES else b""
+    return part if len(part) == CODES else part[:0]
 
 
-def row_lines(number, entries):
-    """A line for each longest run of codes with one entry."""
+def row_lines(number, answers):
+    """A line for each longest run of codes with one answer."""
     first = 0
-    for entry, run in groupby(entries):
+    for answer, run in groupby(answers):
         last = first + len(list(run)) - 1
-        yield f"{number} {first} {last} " + ("drop" if entry == DROPPED_ENTRY else str(entry))
+        yield f"{number} {first} {last} " + ("drop" if answer is DROPPED else str(answer))
         first = last + 1
 
 
@@ -175,11 +190,11 @@ def text_of(data, counted):
     lines = [f"patterns {len(patterns)}"]
     lines += [f"p {number} {pattern.extent()}" for number, pattern in enumerate(patterns)]
     lines.append(said(counted))
-    for number, entries in enumerate(counted):
-        lines += row_lines(number, entries)
+    for number, answers in enumerate(counted):
+        lines += row_lines(number, answers)
     return "".join(line + "\n" for line in lines)
 
 
-def listing(data):
-    """What the program `equations` prints of a rule file."""
-    return text_of(data, rows(data))
+def listing(data, terms=DESK):
+    """The listing of a rule file. The program `equations` prints it on its own terms."""
+    return text_of(data, rows(data, terms))

@@ -1,10 +1,18 @@
 """The input of a test program and its answer: written to its crate or, with --check, compared with what is there."""
 import sys
+from array import array
 from argparse import ArgumentParser
 from pathlib import Path
 
 CRATES = Path(__file__).resolve().parent.parent / "crates"
 PRIME = 1000000007
+
+# The space for a table that the test programs have, in entries.
+MOST_ENTRIES = 262144
+
+# The entries of a fresh table are under a prime, and so none of them is the mark.
+FRESH, STEP = 65521, 263
+CYCLE = array("H", [STEP * i % FRESH for i in range(FRESH)]) * (MOST_ENTRIES // FRESH + 2)
 
 # The folders of a crate that no script writes.
 SOURCES = {"src", "specs", "proofs", "must-fail"}
@@ -15,15 +23,33 @@ def three_bytes(number):
     return number.to_bytes(3, "big")
 
 
+def eight_bytes(number):
+    return number.to_bytes(8, "big")
+
+
+def bytes_of_entries(entries):
+    """Entries of a table as the test programs read them: two bytes each, highest first."""
+    content = array("H", entries)
+    if sys.byteorder == "little":
+        content.byteswap()
+    return content.tobytes()
+
+
 def digest(content):
     """The bytes as one number in base 256, highest first, modulo a prime."""
     return int.from_bytes(content, "big") % PRIME
 
 
+def table_digest(entries):
+    """The entries as one number in base 65,536, highest first, modulo the prime. Their bytes make the same in base 256."""
+    return digest(bytes_of_entries(entries))
+
+
 def fresh_table(size, case):
-    """The table that is lent in a case, counted from 0: byte i is case + 7 × i, modulo 251."""
-    cycle = bytes((case + 7 * i) % 251 for i in range(251))
-    return bytearray((cycle * (size // 251 + 1))[:size])
+    """The table that is lent in a case, counted from 0: entry i is case + 263 × i, modulo 65,521. It begins somewhere in
+    the table of case 0."""
+    start = case * pow(STEP, -1, FRESH) % FRESH
+    return CYCLE[start : start + size]
 
 
 def told(tally):

@@ -1,6 +1,8 @@
 """Listings of rules, answers of filling, verdicts and violating lists, typed from the paper and its change requests, by hand."""
 import known_empty
+import known_wide
 from known import ANY, FULL, ONE, POOL, SIX, bytes_of, counted
+from known_wide import counted_lines
 
 SEVEN = "1 1 7 7 "
 OVERLAPPING = "1 3 0 9 1 6 5 31 "
@@ -20,20 +22,10 @@ PLACES = ONE + SIX + "4 5 0 5 1 3 5 1 5 1 3"
 REQUESTS = ONE + "1 8 5 5 6 4 5 0 5 1 7 0 5 0 5 0 3"
 
 
-def counted_lines(m):
-    """The listing of counted(m), m over 0. Bit i of an equation's number says whether the code i before the last was 5:
-    so code 5 leads from equation k to 2 × k + 1 and any other to 2 × k, modulo 2^m."""
-    lines = ["patterns 2", "p 0 0 256", "p 1 5 1", f"equations {2**m}"]
-    for k in range(2**m):
-        other, five = 2 * k % 2**m, (2 * k + 1) % 2**m
-        lines += [f"{k} 0 4 {other}", f"{k} 5 5 {five}", f"{k} 6 255 {other}"]
-    return lines
-
-
 # A file that its 257th byte settles, longer than the 4,096 bytes that the program `equations` reads.
 LONG = FULL + "5 31 " * 64 + "255 " + "0 " * 5000
 
-# What the program `equations` prints, line by line.
+# The listings, line by line. The program `equations` prints those of up to 128 equations.
 LISTINGS = [(counted(m), counted_lines(m)) for m in (1, 2, 7)]
 LISTINGS += [
     (
@@ -148,9 +140,9 @@ LISTINGS += [
     (ONE + "6 4 5 0 7 0 6 3", ["refused 8 at 0"]),
     ("3 3", ["refused 3 at 1"]),
     ("4 3 7 0", ["refused 6 at 2"]),
-    (counted(8), ["refused 9 at 0"]),
-    # both 8 and 9 apply: 8 comes first
+    # both 8 and 9 apply, in the programs and at the desk: 8 comes first
     (ANY + ONE + "4 3 6 4 5 0 7 0 5 1 " + "5 0 " * 8 + "2", ["refused 8 at 0"]),
+    (ANY + ONE + "4 3 6 4 5 0 7 0 5 1 " + "5 0 " * 10 + "2", ["refused 8 at 0"]),
 ]
 
 
@@ -169,7 +161,7 @@ def late(n, firsts=(1, 2, 3), seconds=(1, 2)):
     return ANY + "1 15 0 31 1 51 0 31 1 85 0 31 " + boths + by_first + by_second + "5 0 " * n + "2"
 
 
-# What filling answers with a table of so many bytes: each equation takes 256.
+# What filling answers with a table of so many entries: each equation takes 256.
 FILLINGS = [(ANY + "5 0 " * n + "2", 256 * (n + 1), f"equations {n + 1}") for n in (1, 2, 63)]
 FILLINGS += [(counted(m), 256 * 2**m, f"equations {2**m}") for m in range(8)]
 FILLINGS += [(counted(m), 256 * 2**m - 1, "refused 10 at 0") for m in range(8)]
@@ -178,6 +170,8 @@ FILLINGS += [
     (late(26), 32511, "refused 10 at 0"),
     (late(27), 32768, "equations 128"),
     (late(27), 32767, "refused 10 at 0"),
+    (late(28), 33024, "equations 129"),
+    (late(28), 33023, "refused 10 at 0"),
     (POOL, 768, "equations 3"),
     (POOL, 769, "equations 3"),
     (POOL, 32767, "equations 3"),
@@ -202,12 +196,6 @@ FILLINGS += [
     ("5 0 2", 0, "refused 6 at 0"),
     ("6 7 0", 0, "refused 7 at 1"),
     ("3", 0, "refused 8 at 0"),
-    (late(28), 0, "refused 9 at 0"),
-    (late(28), 32767, "refused 9 at 0"),
-    (counted(8), 256, "refused 9 at 0"),
-    # over 128 equations for which there would be room
-    (late(28), 33024, "refused 9 at 0"),
-    (counted(8), 65536, "refused 9 at 0"),
 ]
 
 # A rule, scans, and the verdict on each: 0 kept, 1 dropped.
@@ -244,7 +232,8 @@ VIOLATIONS = [
 
 def listings():
     """Each file with the whole text of its listing."""
-    return [(bytes_of(text), "".join(line + "\n" for line in lines)) for text, lines in LISTINGS + known_empty.LISTINGS]
+    typed = LISTINGS + known_empty.LISTINGS + known_wide.LISTINGS
+    return [(bytes_of(text), "".join(line + "\n" for line in lines)) for text, lines in typed]
 
 
 def sets():
@@ -254,7 +243,7 @@ def sets():
 
 def fillings():
     """Each file with the size of a table and the answer."""
-    return [(bytes_of(text), size, answer) for text, size, answer in FILLINGS + known_empty.FILLINGS]
+    return [(bytes_of(text), size, answer) for text, size, answer in FILLINGS + known_empty.FILLINGS + known_wide.FILLINGS]
 
 
 def violations():

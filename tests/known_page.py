@@ -1,10 +1,12 @@
 """What the rule page counts, fills and lists, typed by hand: it shows up to 32 equations, and 18 refuses a rule of more."""
 import known_equations
+import known_wide
 from known import ANY, ONE, POOL, bytes_of, counted
 from known_empty import NEVER_MET, counted_beside
-from known_equations import PLACES, counted_lines
+from known_equations import PLACES
+from known_wide import counted_lines
 
-# The bytes of 32 rows, and of 33.
+# The entries of 32 rows, and of 33.
 FULL_PAGE = 8192
 TOO_MANY = 8448
 
@@ -33,7 +35,7 @@ WIDE = "1 15 0 31 1 51 0 31 1 85 0 31 1 255 0 15 1 255 8 23 1 255 16 31 " + "4 "
 UNSATISFIABLE = ANY + ONE + "4 3 6 4 5 0 7 0 5 1 " + "5 0 " * 6 + "2"
 
 # Rules with a listing in known_equations.py that the page doesn't show. All others there it lists alike.
-BEYOND = [counted(7), ANY + "5 0 " * 63 + "3", counted(8), counted_beside(7)]
+BEYOND = [counted(7), ANY + "5 0 " * 63 + "3"] + [rule for rule, _ in known_wide.LISTINGS]
 
 # More of what the page lists.
 LISTINGS = [
@@ -53,7 +55,7 @@ LISTINGS = [
     (counted(6) + " 2", ["refused 3 at 29"]),
 ]
 
-# What filling on the page answers with a table of so many bytes.
+# What filling on the page answers with a table of so many entries.
 FILLINGS = [(chain(n), 256 * (n + 1), f"equations {n + 1}") for n in (0, 1, 30, 31)]
 FILLINGS += [(chain(n), 256 * (n + 1) - 1, "refused 10 at 0") for n in (0, 1, 30, 31)]
 FILLINGS += [(chain(n), 0, "refused 10 at 0") for n in (0, 1, 30, 31)]
@@ -66,6 +68,7 @@ FILLINGS += [
     for rule in (chain(32), late(8), WIDE, counted(6), counted(7), counted(8), counted(20), counted_beside(5))
     for size in (0, 255, FULL_PAGE - 1, FULL_PAGE, TOO_MANY - 1, TOO_MANY, 40000)
 ]
+FILLINGS += [(rule, 256000, "refused 18 at 0") for rule in (known_wide.WIDEST, known_wide.TOO_WIDE)]
 FILLINGS += [
     (chain(31), 40000, "equations 32"),
     (POOL, 768, "equations 3"),

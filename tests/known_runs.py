@@ -1,6 +1,8 @@
 """Verdicts of sifting, and runs with all that they return and write, typed by hand from the paper. Only the table of
 the number-pool rule is computed, by the Python equations."""
-from equations import rows
+from array import array
+
+from equations import entries_of, rows
 from known import ANY, ONE, POOL, SIX, bytes_of
 from known_empty import NEVER_LATER, ROUND_AGAIN
 from known_equations import SEVEN
@@ -37,18 +39,25 @@ SIFTED = [
 
 
 def runs_of(text):
-    """Bytes that are typed as runs of one value, "256x1 1x9" being 256 times 1 and then 9."""
+    """Entries that are typed as runs of one value, "256x1 1x9" being 256 times 1 and then 9."""
     pairs = [[int(number) for number in word.split("x")] for word in text.split()]
-    return b"".join(bytes([value]) * times for times, value in pairs)
+    return array("H", [value for times, value in pairs for _ in range(times)])
 
 
-POOL_TABLE = b"".join(rows(bytes_of(POOL)))
+POOL_TABLE = entries_of(rows(bytes_of(POOL)))
+NO_TABLE = runs_of("")
 KEEPER = runs_of("256x0")
-DROPPER = runs_of("256x255")
+DROPPER = runs_of("256x65535")
 # Equation 0 drops the codes from 6 up and goes to 1 under the others; 1 goes back.
-SWITCH = runs_of("6x1 250x255 256x0")
+SWITCH = runs_of("6x1 250x65535 256x0")
 # The last of 128 goes to itself and drops 255.
-LAST = runs_of("32767x127 1x255")
+LAST = runs_of("32767x127 1x65535")
+# The same of 256, which is equation 255, of 257 and of 1,000.
+LAST_OF_256 = runs_of("65535x255 1x65535")
+LAST_OF_257 = runs_of("65791x256 1x65535")
+LAST_OF_1000 = runs_of("255999x999 1x65535")
+# Equation 0 goes to 255 by code 0 and stays else; 255 drops code 0 and goes to 256 by the others; 256 goes to 255.
+THROUGH_255 = runs_of("1x255 255x0 65024x0 1x65535 255x256 256x255")
 
 # A table, the count, the state, scans, both buffers; then the state that is returned with the two counts, and what
 # the buffers have.
@@ -61,8 +70,8 @@ FIT = [
     # no scans: nothing is written
     (POOL_TABLE, 3, 2, "", "", "", "2 0 0", "", ""),
     (POOL_TABLE, 3, 1, "", "9", "8 8", "1 0 0", "9", "8 8"),
-    # bytes behind the rows, whatever they are
-    (POOL_TABLE + b"\xfe", 3, 2, "5", "9", "8", "2 0 1", "9", "1"),
+    # entries behind the rows, whatever they are
+    (POOL_TABLE + runs_of("1x65534"), 3, 2, "5", "9", "8", "2 0 1", "9", "1"),
     (KEEPER + DROPPER, 1, 0, "1 255", "9 9", "8 8", "0 2 0", "1 255", "0 0"),
     # tables that no rule has
     (KEEPER, 1, 0, "0 255 0", "9 9 9", "8 8 8", "0 3 0", "0 255 0", "0 0 0"),
@@ -71,6 +80,15 @@ FIT = [
     (SWITCH, 2, 1, "255 255 5", "9 9 9", "8 8 8", "1 2 1", "255 5 9", "0 1 0"),
     (SWITCH + KEEPER, 3, 2, "7 7", "9 9", "8 8", "0 1 1", "7 9", "0 1"),
     (LAST, 128, 0, "255 255 254", "9 9 9", "8 8 8", "127 2 1", "255 254 9", "0 1 0"),
+    # over 128 equations: 255 is an equation as others are
+    (runs_of("65536x0"), 129, 0, "5 255", "9 9", "8 8", "0 2 0", "5 255", "0 0"),
+    (runs_of("65536x0"), 256, 255, "5 255", "9 9", "8 8", "0 2 0", "5 255", "0 0"),
+    (LAST_OF_256, 256, 0, "255 255 254", "9 9 9", "8 8 8", "255 2 1", "255 254 9", "0 1 0"),
+    (LAST_OF_256, 256, 255, "255 0", "9 9", "8 8", "255 1 1", "0 9", "1 0"),
+    (LAST_OF_257, 257, 255, "255 255 7", "9 9 9", "8 8 8", "256 2 1", "255 7 9", "0 1 0"),
+    (THROUGH_255, 257, 0, "7 0 0 5 0 0 0", "9 9 9 9 9 9 9", "8 8 8 8 8 8 8", "255 4 3", "7 0 5 0 9 9 9", "0 0 1 0 0 1 1"),
+    (LAST_OF_1000, 1000, 0, "255 255 254", "9 9 9", "8 8 8", "999 2 1", "255 254 9", "0 1 0"),
+    (LAST_OF_1000, 1000, 255, "255 255", "9 9", "8 8", "999 1 1", "255 9", "0 1"),
 ]
 
 # A table, the count, the state, scans, the sizes of both buffers, and the number of the refusal.
@@ -84,14 +102,17 @@ REFUSED = [
     # 15 before 16
     (POOL_TABLE, 0, 0, "5", 0, 1, 15),
     (POOL_TABLE, 3, 3, "5 5", 2, 1, 15),
-    (b"", 3, 0, "5", 1, 0, 15),
+    (NO_TABLE, 3, 0, "5", 1, 0, 15),
     # 16: the count
     (POOL_TABLE, 0, 0, "5", 1, 1, 16),
-    (b"", 0, 0, "", 0, 0, 16),
+    (NO_TABLE, 0, 0, "", 0, 0, 16),
     (POOL_TABLE, 2, 0, "5", 1, 1, 16),
     (POOL_TABLE, 4, 0, "5", 1, 1, 16),
-    (runs_of("65536x0"), 129, 0, "5", 1, 1, 16),
-    (runs_of("65536x0"), 256, 0, "5", 1, 1, 16),
+    (runs_of("65536x0"), 257, 0, "5", 1, 1, 16),
+    (runs_of("262144x0"), 1001, 0, "5", 1, 1, 16),
+    (runs_of("262144x0"), 1024, 0, "5", 1, 1, 16),
+    (KEEPER, 2**55, 0, "5", 1, 1, 16),
+    (KEEPER, 2**55 + 1, 0, "5", 1, 1, 16),
     (KEEPER, 2**56, 0, "5", 1, 1, 16),
     (KEEPER, 2**56 + 1, 0, "5", 1, 1, 16),
     (KEEPER, 2**63, 0, "5", 1, 1, 16),
@@ -100,17 +121,30 @@ REFUSED = [
     (KEEPER, 1, 1, "5", 1, 1, 16),
     (KEEPER + KEEPER, 1, 1, "5", 1, 1, 16),
     (LAST, 128, 128, "5", 1, 1, 16),
+    (LAST_OF_256, 256, 256, "5", 1, 1, 16),
+    (LAST_OF_1000, 1000, 1000, "5", 1, 1, 16),
+    (LAST_OF_1000, 1000, 65535, "5", 1, 1, 16),
     (POOL_TABLE, 3, 2**56, "5", 1, 1, 16),
     # the table's length
-    (b"", 1, 0, "5", 1, 1, 16),
+    (NO_TABLE, 1, 0, "5", 1, 1, 16),
     (runs_of("255x0"), 1, 0, "5", 1, 1, 16),
     (runs_of("32767x127"), 128, 0, "5", 1, 1, 16),
+    (runs_of("65535x255"), 256, 0, "5", 1, 1, 16),
+    (runs_of("255999x999"), 1000, 0, "5", 1, 1, 16),
     # an entry: the first, the last, of a row that isn't reached, also with no scans
     (runs_of("1x1 255x0"), 1, 0, "5", 1, 1, 16),
     (runs_of("255x0 1x1"), 1, 0, "5", 1, 1, 16),
     (runs_of("255x0 1x254"), 1, 0, "5", 1, 1, 16),
+    (runs_of("255x0 1x255"), 1, 0, "5", 1, 1, 16),
+    (runs_of("255x0 1x256"), 1, 0, "5", 1, 1, 16),
+    (runs_of("255x0 1x65534"), 1, 0, "5", 1, 1, 16),
     (runs_of("256x0 255x0 1x2"), 2, 0, "5", 1, 1, 16),
+    (runs_of("256x0 255x0 1x512"), 2, 0, "5", 1, 1, 16),
     (runs_of("32767x127 1x128"), 128, 0, "5", 1, 1, 16),
+    (runs_of("65279x254 1x255"), 255, 0, "5", 1, 1, 16),
+    (runs_of("1x256 65535x255"), 256, 0, "5", 1, 1, 16),
+    (runs_of("255999x999 1x1000"), 1000, 0, "5", 1, 1, 16),
+    (runs_of("1x65534 255999x999"), 1000, 0, "5", 1, 1, 16),
     (runs_of("255x0 1x254"), 1, 0, "", 0, 0, 16),
     (POOL_TABLE, 3, 3, "", 0, 0, 16),
 ]

@@ -1,8 +1,10 @@
 """Short tables, typed by hand: rules with the count of their equations before merging and the listing after it, and what short filling answers."""
 import known_equations
+import known_wide
 from known import ANY, ONE, POOL, SIX, bytes_of, counted
 from known_empty import BESIDE, NEVER_IN_ONE, NEVER_LATER, NEVER_MET, ROUND_AGAIN, counted_beside
 from known_equations import BRANCHES, OVERLAPPING, PLACES, REQUESTS, ROUND, ROUND_TWICE, SEVEN, late
+from known_wide import later
 
 # "After any code" 63 times, and tt or ff.
 CHAIN = ANY + "5 0 " * 63
@@ -10,20 +12,6 @@ CHAIN = ANY + "5 0 " * 63
 # The hardest rule known, as bench/rules.h has it: a max of parts, most of them necessities of any code and an end.
 HARD_PARTS = "4 " + "5 0 " * 8 + "2 4 " + "5 0 " * 3 + "7 0 4 " + "5 0 " * 7 + "2 " + ("4 " + "5 0 " * 6 + "7 0 ") * 2 + "4 " + "5 0 " * 5 + "2 "
 HARD = ANY + "1 174 16 12 6 4 5 0 7 0 4 5 1 " + "5 0 " * 5 + "2 " + HARD_PARTS + "5 0 " * 4 + "2"
-
-# Max of both "after any code, the variable" and "after 5, six times after any code, after 6, ff".
-LATER = ANY + ONE + SIX + "6 4 5 0 7 0 5 1 " + "5 0 " * 6 + "5 2 3"
-
-
-def later_lines():
-    """As the paper's second family with m = 7; and equations from 64 on, in which a 5 came seven codes ago, drop code 6."""
-    lines = ["patterns 3", "p 0 0 256", "p 1 5 1", "p 2 6 1", "equations 128"]
-    for k in range(128):
-        other, five = 2 * k % 128, (2 * k + 1) % 128
-        lines += [f"{k} 0 4 {other}", f"{k} 5 5 {five}"]
-        lines += [f"{k} 6 255 {other}"] if k < 64 else [f"{k} 6 6 drop", f"{k} 7 255 {other}"]
-    return lines
-
 
 def wheel(length):
     """A wheel of so many places that each code turns by one. At all places but the first, code 5 is dropped."""
@@ -92,14 +80,6 @@ LISTINGS = [
     (TWENTY, 22, TWENTY_PATTERNS + branch_lines(20)),
     (CHAIN + "2", 64, ["patterns 1", "p 0 0 256", "equations 1", "0 0 255 0"]),
     (counted(7), 128, ["patterns 2", "p 0 0 256", "p 1 5 1", "equations 1", "0 0 255 0"]),
-    # the first 5 is what counts: seven codes later everything is dropped
-    (
-        counted(7, "3"),
-        128,
-        ["patterns 2", "p 0 0 256", "p 1 5 1", "equations 8", "0 0 4 0", "0 5 5 1", "0 6 255 0"]
-        + [f"{k} 0 255 {k + 1}" for k in range(1, 7)]
-        + ["7 0 255 drop"],
-    ),
     (HARD, 127, ["patterns 2", "p 0 0 256", "p 1 32 145", "equations 1", "0 0 255 0"]),
     # necessities of an empty pattern: where only these tell two equations apart, both drop alike
     (NEVER_MET, 2, ["patterns 1", "p 0 none 0", "equations 1", "0 0 255 0"]),
@@ -112,19 +92,20 @@ LISTINGS = [
         + ["1 0 255 1"]
         + ["2 0 5 1", "2 6 6 drop", "2 7 255 1"],
     ),
-    (LATER, 128, later_lines()),
     (WHEELS, 120, wheel_lines()),
 ]
+LISTINGS += known_wide.SHORT_LISTINGS
 
 # Rules of which no two equations drop alike: the listing is the one that known_equations.py has.
 STAYING = [POOL, "2", ONE + "5 0 3", ROUND, ROUND_TWICE, BRANCHES, REQUESTS, OVERLAPPING + "4 5 0 5 1 3 5 1 3", CHAIN + "3"]
 STAYING += [BESIDE, ROUND_AGAIN]
 
-# What short filling answers with a table of so many bytes: each equation that is left takes 256.
-FILLINGS = [(counted(m), 256, "equations 1") for m in range(8)]
-FILLINGS += [(counted(m), 255, "refused 10 at 0") for m in range(8)]
-FILLINGS += [(counted(m, "3"), 256 * (m + 1), f"equations {m + 1}") for m in range(1, 8)]
-FILLINGS += [(counted(m, "3"), 256 * (m + 1) - 1, "refused 10 at 0") for m in range(1, 8)]
+# What short filling answers with a table of so many entries: each equation that is left takes 256.
+FILLINGS = [(counted(m), 256, "equations 1") for m in range(7)]
+FILLINGS += [(counted(m), 255, "refused 10 at 0") for m in range(7)]
+FILLINGS += [(counted(m, "3"), 256 * (m + 1), f"equations {m + 1}") for m in range(1, 7)]
+FILLINGS += [(counted(m, "3"), 256 * (m + 1) - 1, "refused 10 at 0") for m in range(1, 7)]
+FILLINGS += known_wide.SHORT_FILLINGS
 FILLINGS += [
     (POOL, 768, "equations 3"),
     (POOL, 40000, "equations 3"),
@@ -143,20 +124,11 @@ FILLINGS += [
     (NEVER_MET, 256, "equations 1"),
     (NEVER_MET, 255, "refused 10 at 0"),
     (counted_beside(6), 256, "equations 1"),
-    (LATER, 32768, "equations 128"),
-    (LATER, 32767, "refused 10 at 0"),
-    # 9 counts before merging, and comes before the table
-    (late(28), 32768, "refused 9 at 0"),
-    (late(28), 255, "refused 9 at 0"),
-    (counted(8), 256, "refused 9 at 0"),
-    (counted(8), 0, "refused 9 at 0"),
-    (counted(8, "3"), 40000, "refused 9 at 0"),
-    (counted(8, "3"), 2303, "refused 9 at 0"),
-    (counted_beside(7), 256, "refused 9 at 0"),
-    # over 128 for which there would be room
-    (late(28), 33024, "refused 9 at 0"),
-    (counted(8), 65536, "refused 9 at 0"),
-    # so does each other refusal of the file
+    (later(7), 32768, "equations 128"),
+    (later(7), 32767, "refused 10 at 0"),
+    (late(28), 256, "equations 1"),
+    (late(28), 255, "refused 10 at 0"),
+    # each refusal of the file comes before the table
     ("", 0, "refused 1 at 0"),
     ("0", 1, "refused 2 at 0"),
     ("2 2", 0, "refused 3 at 1"),

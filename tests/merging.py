@@ -1,25 +1,49 @@
 """The shortest table of a rule: rows that no list of codes tells apart are merged. Those that one tells apart are marked, pair by pair."""
 from collections import defaultdict
-from functools import cache
-from itertools import combinations
+from functools import cache, reduce
+from operator import or_
 
-from equations import DROPPED_ENTRY, fill_with, rows
+from equations import DROPPED, fill_with, rows
 from rules import Refusal
 
 
+def bits(number):
+    """The places of the ones of a number."""
+    while number:
+        lowest = number & -number
+        yield lowest.bit_length() - 1
+        number -= lowest
+
+
+def rows_before(column):
+    """The rows that a code leads to each answer, as the ones of a number."""
+    before = defaultdict(int)
+    for k, answer in enumerate(column):
+        before[answer] |= 1 << k
+    return before
+
+
 def told_apart(table):
-    """The pairs of rows that some list of codes tells apart. Dropped counts as a row that is told apart from every other:
-    so first come the pairs of which only one row drops some code, and then those that a code leads to a pair which is
-    told apart, until none is new."""
-    before = defaultdict(set)
-    for column in set(zip(*table)):
-        for k, l in combinations(range(len(table)), 2):
-            before[frozenset((column[k], column[l]))].add(frozenset((k, l)))
-    apart = set()
-    new = {frozenset((k, DROPPED_ENTRY)) for k in range(len(table))}
-    while new:
-        apart |= new
-        new = set().union(*[before[pair] for pair in new]) - apart
+    """For each row the rows that some list of codes tells apart from it, as the ones of a number. First come those of which only
+    one drops some code, and then those that a code leads to rows which are told apart, until none is new."""
+    columns = [rows_before(column) for column in set(zip(*table))]
+    apart, new = [0] * len(table), [0] * len(table)
+
+    def note(some, others):
+        for k in bits(some):
+            new[k] |= others & ~apart[k]
+            apart[k] |= others
+
+    for before in columns:
+        kept = sum(rows for answer, rows in before.items() if answer is not DROPPED)
+        note(before[DROPPED], kept)
+        note(kept, before[DROPPED])
+    while any(new):
+        for k in range(len(table)):
+            others, new[k] = list(bits(new[k])), 0
+            for before in columns:
+                if before[k]:
+                    note(before[k], reduce(or_, [before[l] for l in others], 0))
     return apart
 
 
@@ -28,20 +52,20 @@ def numbers_from(table, firsts):
     numbers = {0: 0}
     found = [0]
     for k in found:
-        for entry in table[k]:
-            if entry != DROPPED_ENTRY and firsts[entry] not in numbers:
-                numbers[firsts[entry]] = len(found)
-                found.append(firsts[entry])
+        for answer in table[k]:
+            if answer is not DROPPED and firsts[answer] not in numbers:
+                numbers[firsts[answer]] = len(found)
+                found.append(firsts[answer])
     return numbers
 
 
 def merged(table):
     """The rows with one for each class."""
     apart = told_apart(table)
-    firsts = [next(l for l in range(k + 1) if frozenset((k, l)) not in apart) for k in range(len(table))]
+    firsts = [next(l for l in range(k + 1) if not apart[k] >> l & 1) for k in range(len(table))]
     numbers = numbers_from(table, firsts)
-    entries = {entry: numbers[first] for entry, first in enumerate(firsts)} | {DROPPED_ENTRY: DROPPED_ENTRY}
-    return [bytes(entries[entry] for entry in table[first]) for first in numbers]
+    answers = {k: numbers[first] for k, first in enumerate(firsts)} | {DROPPED: DROPPED}
+    return [tuple(answers[answer] for answer in table[first]) for first in numbers]
 
 
 @cache

@@ -1,6 +1,6 @@
 """Phone models for a rule, as a number of states and a list of steps: at random, as chains of scans, and changed."""
 from enforcing import met_steps
-from equations import DROPPED_ENTRY
+from equations import DROPPED
 from models import MOST_STATES, MOST_STEPS, SILENT, Model, Step, file_of
 from sifting import Sifting
 from stream_scans import candidates, steered
@@ -9,7 +9,7 @@ from stream_scans import candidates, steered
 def some_labels(random, rule, table):
     """A few labels: codes at the edges of the rule's patterns, some of which its table can drop, and silence."""
     codes = candidates(random, rule)
-    dropped = [code for code in codes if any(entries[code] == DROPPED_ENTRY for entries in table)]
+    dropped = [code for code in codes if any(answers[code] is DROPPED for answers in table)]
     some = random.sample(codes, random.randrange(1, min(len(codes), 5) + 1))
     some += random.sample(dropped, min(len(dropped), random.randrange(1, 3)))
     return some + [SILENT] * random.randrange(1 + len(some))
@@ -29,7 +29,7 @@ def random_steps(random, labels, states, count):
 def dropped_steps(states, steps, table):
     """The steps that the monitor drops first on some walk."""
     met = met_steps(Model(states, [Step(*step) for step in steps]), table)
-    return {(state, label, target) for state, _, label, target, entry in met if entry == DROPPED_ENTRY}
+    return {(state, label, target) for state, _, label, target, answer in met if answer is DROPPED}
 
 
 def mended(states, steps, table):

@@ -1,7 +1,7 @@
 """A run over any table, by the paper's "Running": its refusals, what it returns, and what it writes."""
 from dataclasses import dataclass
 
-from equations import CODES, DROPPED_ENTRY, MOST_EQUATIONS
+from equations import CODES, DESK
 from rules import Refusal
 
 
@@ -24,25 +24,25 @@ def is_short(scans, output, verdicts):
     return len(output) < len(scans) or len(verdicts) < len(scans)
 
 
-def is_unfit(table, count, state):
+def is_unfit(table, count, state, terms=DESK):
     """The condition of 16."""
     rows = CODES * count
-    if not 1 <= count <= MOST_EQUATIONS or state >= count or len(table) < rows:
+    if not 1 <= count <= terms.most or state >= count or len(table) < rows:
         return True
-    return any(entry >= count and entry != DROPPED_ENTRY for entry in set(table[:rows]))
+    return any(entry >= count and entry != terms.mark for entry in set(table[:rows]))
 
 
-def run(table, count, state, scans, output, verdicts):
+def run(table, count, state, scans, output, verdicts, terms=DESK):
     """The two buffers are changed in place."""
     if is_short(scans, output, verdicts):
         return Ran(Refusal(15, 0), state, 0, 0)
-    if is_unfit(table, count, state):
+    if is_unfit(table, count, state, terms):
         return Ran(Refusal(16, 0), state, 0, 0)
     kept = 0
     for place, scan in enumerate(scans):
         entry = table[CODES * state + scan]
-        verdicts[place] = entry == DROPPED_ENTRY
-        if entry != DROPPED_ENTRY:
+        verdicts[place] = entry == terms.mark
+        if entry != terms.mark:
             output[kept] = scan
             kept += 1
             state = entry

@@ -3,17 +3,19 @@ from random import Random
 
 import empty_pairs
 import known_runs
+import stream_wide
 import table_cases
 from compare import Disagreement, expect
-from equations import can_drop, rows
+from equations import PROGRAMS, can_drop, rows
 from known import ANY, ONE, POOL, bytes_of, counted
 from known_equations import BRANCHES
 from rules import Refusal
 from stream_plays import RATES, play_every_way, play_foreign, play_long, play_next_row, play_pair, play_refused_rule, play_rule
 from stream_script import Script
+from stream_sorts import lacking
 
 # One file for each refusal of a rule, but for the one that is about the table.
-REFUSED = ["", "0", "2 2", ANY + "5 0 " * 64 + "2", "1 1 32 5 2", "7 0", "6 7 0", "3", counted(8)]
+REFUSED = ["", "0", "2 2", ANY + "5 0 " * 64 + "2", "1 1 32 5 2", "7 0", "6 7 0", "3", counted(10)]
 
 # Counts of the tables of no rule.
 COUNTS = [1] * 8 + [2] * 8 + [3, 4, 5, 7, 8, 16, 31, 64, 127, 128, 128]
@@ -23,8 +25,8 @@ LONG = [(POOL, 3000), (known_runs.SECOND, 65536), (ANY + ONE + "6 4 5 0 7 0 5 1 
 
 
 def rule_files():
-    """The rules that are accepted: those that can drop a scan, some that can't, and some with necessities of empty patterns."""
-    every = [(data, rows(data)) for data in table_cases.files()]
+    """Rules of up to 128 equations: those that can drop a scan, some that can't, and some with necessities of empty patterns."""
+    every = [(data, rows(data, PROGRAMS)) for data in table_cases.files()]
     accepted = [(data, table) for data, table in every if not isinstance(table, Refusal)]
     dropping = [data for data, table in accepted if can_drop(table)]
     others = [data for data, table in accepted if not can_drop(table)]
@@ -34,7 +36,7 @@ def rule_files():
 def play_typed(script):
     """The runs that were typed, in the buffers of the program."""
     for (table, count, state, scans, output, verdicts), line, *_ in known_runs.runs():
-        script.write(0, table)
+        script.write_runs(0, table)
         script.set_count(count)
         script.set_state(state)
         ran, _, _ = script.call(scans, len(table), len(output), len(verdicts))
@@ -60,4 +62,6 @@ def whole_script():
         play_long(random, script, bytes_of(text), length)
     for count in COUNTS:
         play_foreign(random, script, count, random.choice(RATES))
+    stream_wide.play(Random("wide streams"), script)
+    expect(lacking(script.tally) == [], "too few", lacking(script.tally))
     return script

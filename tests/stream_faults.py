@@ -4,13 +4,18 @@ Each fault is given its number by hand, from the paper's table of refusals."""
 from contextlib import contextmanager, nullcontext
 
 from compare import expect
+from equations import DESK, LARGEST_TABLE, PROGRAM_TABLE
+from expected import MOST_ENTRIES
 from stream_script import MOST_BYTES
 
-# Counts that are too high, with some whose rows would take a multiple of 2^64 bytes, or one row more.
-COUNTS = [129, 130, 255, 256, 2**56, 2**56 + 1, 2**63, 2**64 - 1]
+# Counts that are too high, with some whose rows would take a multiple of 2^64 entries or bytes, or one row more.
+COUNTS = [1001, 1002, 65535, 65536, 2**55, 2**55 + 1, 2**56, 2**56 + 1, 2**63, 2**64 - 1]
 
 # States that are too high under any count, with some whose rows would begin at a multiple of 2^64, or one row after.
-STATES = [128, 129, 255, 256, 2**56, 2**56 + 1, 2**63, 2**64 - 1]
+STATES = [1000, 1001, 65535, 65536, 2**55, 2**55 + 1, 2**56, 2**56 + 1, 2**63, 2**64 - 1]
+
+# Entries at the edges of what one byte and two can hold, and of what a table may have.
+ENTRIES = [254, 255, 256, 257, 511, 999, 1000, 1001, 65280, 65534]
 
 
 @contextmanager
@@ -22,8 +27,12 @@ def changed(change, to, back):
 
 
 def other_entry(script, place, entry):
-    before = bytes(script.table[place : place + 1])
-    return changed(lambda entries: script.write(place, entries), bytes([entry]), before)
+    return changed(lambda some: script.write(place, [some]), entry, script.table[place])
+
+
+def too_high(random, count):
+    """An entry that is too high under a count."""
+    return random.choice([count, random.randrange(count, DESK.mark)] + [entry for entry in ENTRIES if entry >= count])
 
 
 def wrong_count(random, script):
@@ -41,7 +50,7 @@ def wrong_entry(random, script):
     """An entry that is too high: the first, the last or another."""
     last = script.rows() - 1
     place = random.choice([0, last, last, random.randrange(last)])
-    return other_entry(script, place, random.choice([script.count, 254, 128, random.randrange(script.count, 255)]))
+    return other_entry(script, place, too_high(random, script.count))
 
 
 def enough(random, size):
@@ -51,7 +60,8 @@ def enough(random, size):
 
 def lengths(random, script):
     """How much of the table is lent: the rows alone, a little more, or much more."""
-    return random.choice([script.rows(), script.rows(), script.rows() + 1, 32768, 40000, MOST_BYTES])
+    more = [size for size in (PROGRAM_TABLE, 40000, LARGEST_TABLE, MOST_ENTRIES) if size >= script.rows()]
+    return random.choice([script.rows(), script.rows(), script.rows() + 1] + more)
 
 
 def short_lengths(random, script):
@@ -85,8 +95,6 @@ def refused_call(random, script, scans):
 
 
 def harmless_change(random, script):
-    """A byte just behind the rows, or further, where there is one."""
-    if script.rows() == MOST_BYTES:
-        return nullcontext()
-    place = random.choice([script.rows(), script.rows(), random.randrange(script.rows(), MOST_BYTES)])
-    return other_entry(script, place, random.choice([script.count, 254, 128, 255, 0]))
+    """An entry just behind the rows, or further."""
+    place = random.choice([script.rows(), script.rows(), random.randrange(script.rows(), MOST_ENTRIES)])
+    return other_entry(script, place, random.choice([too_high(random, script.count), DESK.mark, 0]))

@@ -2,18 +2,19 @@
 import violation
 from compare import expect
 from compare_runs import check_conserved
-from equations import CODES, DROPPED_ENTRY
+from equations import CODES, DESK
+from expected import MOST_ENTRIES
 from rules import read_rule
 from sifting import Sifting
-from stream_faults import changed, enough, harmless_change, lengths, refused_call
+from stream_faults import ENTRIES, changed, enough, harmless_change, lengths, refused_call
 from stream_scans import halves, pieces, singles, steered
 from stream_script import MOST_BYTES
 
 # The share of scans that are dropped, where some can be.
 RATES = [0, 0.4, 0.7, 0.9, 1]
 
-# What the table has behind the rows: the first byte, and the step from each byte to the next.
-BEHIND = [(0, 0), (255, 0), (254, 0), (3, 7)]
+# What the table has behind the rows: the first entry, and the step from each entry to the next.
+BEHIND = [(0, 0), (DESK.mark, 0), (DESK.mark - 1, 0), (3, 263), (255, 0)]
 
 
 def fit_call(random, script, scans):
@@ -28,8 +29,8 @@ def fit_call(random, script, scans):
 
 
 def play(random, script, rule, split):
-    """A stream from its start, split into calls. Between them stand some that are refused, and some bytes behind the
-    rows are changed. Gives the verdicts."""
+    """A stream from its start, split into calls. Between them stand some that are refused, and some entries behind
+    the rows are changed. Gives the verdicts."""
     script.begin()
     sifting = Sifting(rule)
     given = b""
@@ -90,7 +91,7 @@ def play_every_way(random, script, data):
 
 
 def play_refused_rule(random, script, data, refused):
-    """A refused file changes no byte of the table: the stream goes on over it, once count and state are set again."""
+    """A refused file changes no entry of the table: the stream goes on over it, once count and state are set again."""
     rule = read_rule(data)
     script.fill(data)
     count, sifting = script.count, Sifting(rule)
@@ -98,7 +99,7 @@ def play_refused_rule(random, script, data, refused):
     expect(fit_call(random, script, scans[:10]) == sifting.sift(scans[:10]), "before", list(refused))
     state = script.state
     script.fill(refused)
-    ran, _, _ = script.call(scans[10:], MOST_BYTES, 10, 10)
+    ran, _, _ = script.call(scans[10:], MOST_ENTRIES, 10, 10)
     expect(str(ran) == "refused 16 at 0 0 0 0", "count 0", str(ran))
     script.set_count(count)
     script.set_state(state)
@@ -113,8 +114,9 @@ def play_next_row(random, script, data):
     script.fill(data)
     count, behind = script.count, script.rows() + CODES
     with changed(script.set_count, count + 1, script.count):
-        for entry, number in ((count + 1, 16), (254, 16), (DROPPED_ENTRY, None), (count, None), (0, None)):
-            script.write(behind - 1, bytes([entry]))
+        wrong = [(entry, 16) for entry in (count + 1, *ENTRIES) if entry > count]
+        for entry, number in wrong + [(DESK.mark, None), (count, None), (0, None)]:
+            script.write(behind - 1, [entry])
             script.begin()
             scans = steered(random, rule, 9, 0.5)
             ran, _, verdicts = script.call(scans, behind, 9, 9)
@@ -134,12 +136,8 @@ def play_long(random, script, data, length):
     play(random, script, rule, [scans[: length // 3]])
 
 
-def play_foreign(random, script, count, rate):
-    """A table of no rule, with entries at random. The runs begin at any equation."""
-    drops = [random.random() < rate for _ in range(CODES * count)]
-    script.prepare(*random.choice(BEHIND))
-    script.write(0, bytes(DROPPED_ENTRY if is_drop else random.randrange(count) for is_drop in drops))
-    script.set_count(count)
+def run_foreign(random, script, count):
+    """Runs over a table of no rule. They begin at any equation."""
     script.tally["foreign tables"] += 1
     for most in (1, 5, 40):
         script.set_state(random.choice([0, count - 1, random.randrange(count)]))
@@ -147,3 +145,12 @@ def play_foreign(random, script, count, rate):
             if random.randrange(4) == 0:
                 refused_call(random, script, scans)
             fit_call(random, script, scans)
+
+
+def play_foreign(random, script, count, rate):
+    """A table of no rule, with entries at random."""
+    drops = [random.random() < rate for _ in range(CODES * count)]
+    script.prepare(*random.choice(BEHIND))
+    script.write(0, [DESK.mark if is_drop else random.randrange(count) for is_drop in drops])
+    script.set_count(count)
+    run_foreign(random, script, count)

@@ -1,18 +1,20 @@
 """The input of the test program `streams`, record by record, and the lines that it must print."""
+from array import array
 from collections import Counter
 from functools import cache
+from itertools import chain, groupby
 
-from equations import CODES, fill, said
-from expected import digest, three_bytes
+import stream_sorts
+from equations import CODES, DESK, fill, said
+from expected import MOST_ENTRIES, bytes_of_entries, digest, eight_bytes, three_bytes
 from rules import Refusal
 from running import run
 
-# The program's space for the table, for scans and for each buffer.
+# The program's space for scans and for each buffer.
 MOST_BYTES = 65536
 
-
-def eight_bytes(number):
-    return number.to_bytes(8, "big")
+# Runs of at least so many equal entries are written as one record.
+LEAST_EQUAL = 8
 
 
 @cache
@@ -25,27 +27,44 @@ def prepared(size, first, step):
     return bytearray((cycle(first, step) * (size // 256 + 1))[:size])
 
 
+def two_bytes(number):
+    return number.to_bytes(2, "big")
+
+
 class Records:
-    """Records of bytes for a table, which the script holds as the program does. The tally has how often each answer came."""
+    """Records for a table, which the script holds as the program does. The tally has how often each answer came."""
 
     def __init__(self):
         self.stdin = bytearray()
         self.lines = []
         self.tally = Counter()
         self.turn = 0
-        self.table = bytearray(MOST_BYTES)
+        self.table = array("H", bytes(2 * MOST_ENTRIES))
 
     def record(self, kind, *body):
         self.stdin += kind + b"".join(body)
         self.turn += 1
 
-    def prepare(self, first, step):
-        self.table[:] = prepared(MOST_BYTES, first, step)
-        self.record(b"f", bytes([first, step]))
+    def prepare(self, first, step, top=DESK.mark, place=0, length=MOST_ENTRIES):
+        """So many entries from a place on become first + step × i, modulo top + 1."""
+        period = 1 if step == 0 else min(length, top + 1)
+        entries = array("H", [(first + step * i) % (top + 1) for i in range(period)])
+        self.table[place : place + length] = (entries * (length // period + 1))[:length]
+        self.record(b"f", three_bytes(place), three_bytes(length), *map(two_bytes, (first, step, top)))
 
-    def write(self, place, content):
-        self.table[place : place + len(content)] = content
-        self.record(b"w", three_bytes(place), three_bytes(len(content)), content)
+    def write(self, place, entries):
+        self.table[place : place + len(entries)] = array("H", entries)
+        self.record(b"w", three_bytes(place), three_bytes(len(entries)), bytes_of_entries(entries))
+
+    def write_runs(self, place, entries):
+        """Writes the entries by runs of equal ones, of which the short ones are written together."""
+        for is_long, runs in groupby([list(run) for _, run in groupby(entries)], lambda run: len(run) >= LEAST_EQUAL):
+            for part in runs if is_long else [list(chain(*runs))]:
+                if is_long:
+                    self.prepare(part[0], 0, DESK.mark, place, len(part))
+                else:
+                    self.write(place, part)
+                place += len(part)
 
     def buffers(self, *sizes):
         """The output and the verdicts, of these sizes, as the program prepares them for the next record."""
@@ -80,13 +99,15 @@ class Script(Records):
         self.record(b"b")
 
     def rows(self):
-        """How many bytes the rows take."""
+        """How many entries the rows take."""
         return CODES * self.count
 
     def call(self, scans, lent, output_size, verdicts_size):
-        """A call with so many bytes of the table and of each buffer. Gives what it returns, and the buffers then."""
+        """A call with so many entries of the table and bytes of each buffer. Gives what it returns, and the buffers then."""
         output, verdicts = self.buffers(output_size, verdicts_size)
-        ran = run(self.table[:lent], self.count, self.state, scans, output, verdicts)
+        table = self.table[:lent]
+        ran = run(table, self.count, self.state, scans, output, verdicts)
+        self.tally.update(stream_sorts.of_call(table, self.count, self.state, scans, ran))
         self.state = ran.state
         self.lines.append(f"{ran} {digest(output)} {digest(verdicts)}")
         sizes = [three_bytes(size) for size in (lent, output_size, verdicts_size, len(scans))]

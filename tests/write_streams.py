@@ -9,6 +9,7 @@ import compare_runs
 import stream_cases
 from compare import check_patterns
 from expected import is_check, settle
+from stream_sorts import told_of
 
 
 def main():
@@ -17,7 +18,7 @@ def main():
     check_patterns(stream_cases.rule_files())
     script = stream_cases.whole_script()
     settle("streams", bytes(script.stdin), script.lines, checks)
-    print(", ".join(f"{number} {what}" for what, number in sorted(script.tally.items())))
+    print(told_of(script.tally))
 
 
 if __name__ == "__main__":
