@@ -5,7 +5,7 @@ from random import Random
 
 import known_equations
 import violation
-from equations import CODES, DESK, DROPPED, Equations, fill, listing, rows_of, said
+from equations import CODES, DESK, DROPPED, Equations, fill, listing, rows, said
 from expected import fresh_table
 from merging import short_rows
 from rules import After, Refusal, numbered, read_rule
@@ -77,12 +77,11 @@ def check_rows(table):
     expect(list(dict.fromkeys([0] + answers)) == list(range(len(table))), "order")
 
 
-def check_rule(random, rule, short):
+def check_rule(random, rule, long, short):
     """A list violates a rule exactly when running its equations drops a scan of it, by the sets, by their table or by the
     short one; and a scan is dropped exactly when the kept ones and then the scan violate the rule. Says how many lists
     were tried."""
     equations = Equations(rule)
-    long = rows_of(equations)
     tables = [] if isinstance(long, Refusal) else [long, short]
     for table in tables:
         check_rows(table)
@@ -136,7 +135,7 @@ def check(files):
         if isinstance(rule, Refusal):
             continue
         try:
-            lists += check_rule(random, rule, short_rows(data))
+            lists += check_rule(random, rule, rows(data), short_rows(data))
         except Disagreement as disagreement:
             raise Disagreement(list(data)) from disagreement
         rules += 1

@@ -17,18 +17,29 @@ def codes_of(table):
     return list({column: code for code, column in enumerate(zip(*table))}.values())
 
 
-def telling_list(table, codes, k, l):
-    """A shortest list of codes on which rows k and l give different verdicts, or None: both are run side by side."""
-    met = {(k, l)}
+def leader(leaders, k):
+    """The row that stands for row k and all that have been put together with it."""
+    while leaders[k] != k:
+        leaders[k] = k = leaders[leaders[k]]
+    return k
+
+
+def telling_list(table, codes, alike, k, l):
+    """A list of codes on which rows k and l give different verdicts, or None: both are run side by side. Rows that were run beside
+    each other are put together, and needn't be run so again. Those that are known to be alike are together before, and where no
+    list is found, all that were put together are known to be."""
+    leaders = list(alike)
     queue = [(k, l, [])]
     for k, l, before in queue:
+        leaders[leader(leaders, k)] = leader(leaders, l)
         for code in codes:
             x, y = table[k][code], table[l][code]
             if (x is DROPPED) != (y is DROPPED):
                 return before + [code]
-            if x != y and (x, y) not in met:
-                met.add((x, y))
+            if x is not DROPPED and leader(leaders, x) != leader(leaders, y):
+                leaders[leader(leaders, x)] = leader(leaders, y)
                 queue.append((x, y, before + [code]))
+    alike[:] = leaders
     return None
 
 
@@ -40,17 +51,17 @@ class Sieve:
         self.telling = None
         self.parts = {}
 
-    def add(self, table, codes, k):
+    def add(self, table, codes, alike, k):
         """Gives the first row of the class of row k, which is k itself in a new class. It is run beside the first row of a class
         only where no list so far tells the two apart."""
         if self.telling is None:
-            telling = telling_list(table, codes, self.first, k)
+            telling = telling_list(table, codes, alike, self.first, k)
             if telling is None:
                 return self.first
             self.telling = telling
             self.parts = {answer_to(table, telling, row): Sieve(row) for row in (self.first, k)}
             expect(len(self.parts) == 2, "telling", self.first, k, telling)
-        return self.parts.setdefault(answer_to(table, self.telling, k), Sieve(k)).add(table, codes, k)
+        return self.parts.setdefault(answer_to(table, self.telling, k), Sieve(k)).add(table, codes, alike, k)
 
 
 def answer_to(table, telling, k):
@@ -60,8 +71,8 @@ def answer_to(table, telling, k):
 def merged_by_firsts(table):
     """The short table by another way: each row is held against the first rows of classes so far, and the classes are
     numbered in the order of these."""
-    codes, sieve = codes_of(table), Sieve(0)
-    firsts = [sieve.add(table, codes, k) for k in range(len(table))]
+    codes, sieve, alike = codes_of(table), Sieve(0), list(range(len(table)))
+    firsts = [sieve.add(table, codes, alike, k) for k in range(len(table))]
     numbers = {first: number for number, first in enumerate(dict.fromkeys(firsts))}
     answers = {k: numbers[first] for k, first in enumerate(firsts)} | {DROPPED: DROPPED}
     return [tuple(answers[answer] for answer in table[first]) for first in numbers]

@@ -94,8 +94,8 @@ class Equations:
         return numbers
 
     def row(self, equation, numbers):
-        """The numbers of an equation's answers, by the numbers of all, and where it drops a code, that it does."""
-        return tuple(DROPPED if answer is DROPPED else numbers[answer] for answer in self.answers(equation))
+        """The numbers of an equation's answers, by the numbers of all. What is dropped has none."""
+        return tuple(map(numbers.get, self.answers(equation)))
 
     def verdicts(self, scans):
         """Of each scan, whether it is dropped, from the first equation on."""
@@ -108,25 +108,26 @@ class Equations:
         return dropped
 
 
-def rows_of(equations, terms=DESK):
-    """The rows of a rule's equations in order, or the refusal of the rule."""
+@cache
+def searched(most, data):
+    """The rows of the equations, in order, of the rule that a file holds; None where there are over the most; or the refusal of
+    the file."""
+    rule = read_rule(data)
+    if isinstance(rule, Refusal):
+        return rule
+    equations = Equations(rule)
     if equations.has_falsity(equations.first):
         return Refusal(8, 0)
-    numbers = equations.numbers(terms.most)
-    if len(numbers) > terms.most:
-        return Refusal(terms.number, 0)
-    return [equations.row(equation, numbers) for equation in numbers]
-
-
-@cache
-def rows_within(most, number, data):
-    """The rows of the equations of the rule that a file holds, or the refusal of the file."""
-    rule = read_rule(data)
-    return rule if isinstance(rule, Refusal) else rows_of(Equations(rule), Terms(most, number, None))
+    numbers = equations.numbers(most)
+    return [equations.row(equation, numbers) for equation in numbers] if len(numbers) <= most else None
 
 
 def rows(data, terms=DESK):
-    return rows_within(terms.most, terms.number, data)
+    """The rows of a rule on these terms, or the refusal of its file. Each file is searched once for all terms."""
+    found = searched(max(terms.most, DESK.most + 1), data)
+    if isinstance(found, Refusal):
+        return found
+    return Refusal(terms.number, 0) if found is None or len(found) > terms.most else found
 
 
 def is_accepted(data, terms=DESK):

@@ -90,7 +90,7 @@ SHORT_FILLINGS += [(rule, size, "refused 9 at 0") for rule in (TOO_WIDE, registe
 # Limits, and what counting within them answers on a rule of so many equations: 9 where there are more.
 LIMITS = [0, 1, 32, 127, 128, 129, 255, 256, 999, 1000, 1001, 2**63, 2**64 - 1]
 WITHIN = [("2", 1), (counted(5), 32), (counted(7), 128), (counted_beside(7), 129), (counted(8), 256), (registers(28), 1000), (WIDEST, 1000)]
-WITHIN += [(registers(29), 1001), (TOO_WIDE, 1001), (counted(10), 1024)]
+WITHIN += [(registers(29), 1001), (TOO_WIDE, 1001), (counted(10), 1024), (later(10), 1024), (counted(11), 2048)]
 
 
 def answer_within(limit, count):

@@ -41,8 +41,8 @@ SORTS += ["within: as many as there are", "within: one less", "within: one more"
 # The program takes no longer file.
 MOST_BYTES = 1024
 
-# Every so many-th file comes with tables of many sizes, and every so many-th of those that are listed with sizes at which rows end.
-MANY, ROWS_OF = 120, 9
+# Every so many-th of those that are listed, and of all, comes with tables of many sizes; and so few of the listed ones with sizes at which rows end.
+LISTED, MANY, ROWS_OF = 3, 120, 9
 
 
 def typed_files():
@@ -111,7 +111,7 @@ def sized_files(every):
     sized += [(size, file) for file, size, answer in known_equations.fillings() + known_short.fillings() + known_page.fillings()]
     listings = known_equations.listings() + known_short.listings()
     listed = [file for file, *answer in listings if len(file) <= MOST_BYTES]
-    sized += [(size, file) for file in listed + every[::MANY] for size in all_sizes(file)]
+    sized += [(size, file) for file in listed[::LISTED] + every[::MANY] for size in all_sizes(file)]
     at_limit = [file for file in every if count_of(file) in PAGE_EDGES]
     sized += [(size, file) for file in at_limit[::4] for size in page_sizes(file)]
     return list(dict.fromkeys(sized + [(size, file) for file in listed[::ROWS_OF] for size in ROW_SIZES]))
@@ -158,14 +158,13 @@ def page_sorts_of(size, file):
 
 
 def within_sorts_of(size, limit, file):
-    """The same of a limit, for the rules that are refused for no other reason."""
-    count = count_of(file)
-    if count > 0:
-        counted = rows(file, within(limit))
-        is_counted = not isinstance(counted, Refusal)
+    """The same of a limit, for the rules that aren't refused for another reason."""
+    count, counted = count_of(file), rows(file, within(limit))
+    is_counted = not isinstance(counted, Refusal)
+    if is_counted or counted.number == DESK.number:
         yield from [f"within {limit}: " + ("counted" if is_counted else "9")] * (limit in known_wide.LIMITS)
         own = {count: "as many as there are", count - 1: "one less", count + 1: "one more"}
-        yield from [f"within: {own[limit]}"] * (limit in own)
+        yield from [f"within: {what}" for number, what in own.items() if number == limit]
         yield from ["within: " + ("10" if is_counted else "9 before 10")] * (size < CODES * count)
 
 

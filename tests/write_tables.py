@@ -13,7 +13,7 @@ import empty_pairs
 import known_programs
 import table_cases
 from compare import check, expect
-from equations import CODES, PAGE, PROGRAMS, fill, listing, row, rows, said, text_of, within
+from equations import CODES, PAGE, PROGRAMS, fill, listing, row, rows, text_of, within
 from expected import digest, eight_bytes, fresh_table, is_check, settle, table_digest, three_bytes, told
 from merging import fill_short, short_rows
 from rules import Refusal
@@ -22,16 +22,20 @@ from rules import Refusal
 ROWS = [127, 128, 155, 156, 999, 1000, 1023, 2**55, 2**56, 2**64 - 1]
 
 
-def text_words(data, filled):
-    """The length of what is listed, without which zeros before the others wouldn't be seen, and its digest."""
+def answer_word(counted):
+    """What counting or filling answers: a number, or a refusal."""
+    return str(counted) if isinstance(counted, Refusal) else str(len(counted))
+
+
+def table_words(counted, filled, table):
+    """What counting answers, and what filling answers and leaves in the table."""
+    return [answer_word(counted), answer_word(filled), str(table_digest(table))]
+
+
+def answer_words(data, counted, filled, table):
+    """The same, and what is listed of it: its length, without which zeros before the others wouldn't be seen, and its digest."""
     content = text_of(data, filled).encode()
-    return [f"{len(content)} {digest(content)}"]
-
-
-def answer_words(counted, filled, table):
-    """What counting answers, and what filling answers, as a number or a refusal, and leaves in the table."""
-    answer = said(filled) if isinstance(filled, Refusal) else str(len(filled))
-    return [said(counted), answer, str(table_digest(table))]
+    return [*table_words(counted, filled, table), str(len(content)), str(digest(content))]
 
 
 def row_words(table, filled):
@@ -46,10 +50,11 @@ def row_words(table, filled):
 def line_of(case, size, limit, data):
     long, page, short, some = (fresh_table(size, case) for _ in range(4))
     filled, filled_page, filled_short = fill(data, long), fill(data, page, PAGE), fill_short(data, short)
-    words = answer_words(rows(data), filled, long) + text_words(data, filled) + row_words(long, filled)
-    words += ["page", *answer_words(rows(data, PAGE), filled_page, page), *text_words(data, filled_page)]
-    words += ["short", *answer_words(short_rows(data), filled_short, short), *text_words(data, filled_short)]
-    return " ".join(words + ["within", *answer_words(rows(data, within(limit)), fill(data, some, within(limit)), some)])
+    words = answer_words(data, rows(data), filled, long) + row_words(long, filled)
+    words += ["page", *answer_words(data, rows(data, PAGE), filled_page, page)]
+    words += ["short", *answer_words(data, short_rows(data), filled_short, short)]
+    terms = within(limit)
+    return " ".join(words + ["within", *table_words(rows(data, terms), fill(data, some, terms), some)])
 
 
 def main():
