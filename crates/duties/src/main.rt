@@ -1,19 +1,22 @@
 // Reads records from standard input, and prints a line for each filling, for each rule that comes on or goes off duty, and for each run.
 // A record is one byte of kind and a body:
-//   f FIRST STEP          byte i of the tables is FIRST + STEP × i, modulo 256
-//   w PLACE LENGTH bytes  the tables' bytes from the place on are these
+//   f PLACE LENGTH FIRST STEP TOP
+//                         so many entries of the tables from the place on: entry i of these is FIRST + STEP × i, modulo TOP + 1
+//   w PLACE LENGTH entries
+//                         the tables' entries from the place on are these
 //   r PLACE LENGTH bytes  the tables are filled from this rule file, from the place on
 //   m PLACE LENGTH bytes  the same with the short table
 //   n                     nobody is on duty
 //   s COUNT, and four times NUMBER BASE COUNT EQUATION
 //                         the state of the rules on duty, whatever it is
 //   a NUMBER TABLES BASE COUNT
-//                         a rule comes on, with so many bytes of the tables lent
+//                         a rule comes on, with so many entries of the tables lent
 //   l NUMBER              a rule goes off
 //   c TABLES OUTPUT VERDICTS LENGTH scans
-//                         a run, with so many bytes of the tables and of each buffer
-// Each of the last three leaves the state that it hands back. BASE, COUNT and EQUATION are eight bytes, NUMBER, FIRST and STEP one, the other
-// numbers three, highest first. A number of one or eight bytes that isn't whole at the end counts as 0. The input ends after the last record.
+//                         a run, with so many entries of the tables and bytes of each buffer
+// Each of the last three leaves the state that it hands back. BASE, COUNT and EQUATION are eight bytes, an entry, FIRST, STEP and TOP
+// two, NUMBER one, the other numbers three, highest first. One of one, two or eight bytes that isn't whole at the end counts as 0. The input ends after the last
+// record.
 mod printing;
 
 use printing::print_ahead;
@@ -38,18 +41,18 @@ struct Step {
     more: bool,
 }
 
-fn take_bytes(duty: Duty, tables: &mut [u8]) -> Step {
-    read_prepared(tables);
-    Step { duty, more: true }
+fn take_prepared(duty: Duty, tables: &mut [u16]) -> Step {
+    let more = read_prepared(tables);
+    Step { duty, more }
 }
 
-fn take_part(duty: Duty, tables: &mut [u8]) -> Step {
+fn take_part(duty: Duty, tables: &mut [u16]) -> Step {
     let more = read_part(tables);
     Step { duty, more }
 }
 
 // Fills a part of the tables, all rows or the short ones.
-fn fill(rule: &[u8], part: &mut [u8], is_short: bool) {
+fn fill(rule: &[u8], part: &mut [u16], is_short: bool) {
     if is_short {
         print_filled(synthesis::fill_short(rule, part));
         return;
@@ -58,7 +61,7 @@ fn fill(rule: &[u8], part: &mut [u8], is_short: bool) {
 }
 
 // Fills the space with a rule file, and a part of the tables from it.
-fn read_rule(space: &mut [u8], part: &mut [u8], is_short: bool) -> bool {
+fn read_rule(space: &mut [u8], part: &mut [u16], is_short: bool) -> bool {
     if !read_whole(space) {
         return false;
     }
@@ -66,7 +69,7 @@ fn read_rule(space: &mut [u8], part: &mut [u8], is_short: bool) -> bool {
     true
 }
 
-fn read_filling(space: &mut [u8], tables: &mut [u8], is_short: bool) -> bool {
+fn read_filling(space: &mut [u8], tables: &mut [u16], is_short: bool) -> bool {
     let Head::Number(at) = read_size(tables.len()) else {
         return false;
     };
@@ -76,7 +79,7 @@ fn read_filling(space: &mut [u8], tables: &mut [u8], is_short: bool) -> bool {
     read_rule(&mut space[..n], &mut tables[at..], is_short)
 }
 
-fn take_rule(duty: Duty, space: &mut [u8], tables: &mut [u8], is_short: bool) -> Step {
+fn take_rule(duty: Duty, space: &mut [u8], tables: &mut [u16], is_short: bool) -> Step {
     let more = read_filling(space, tables, is_short);
     Step { duty, more }
 }
@@ -123,7 +126,7 @@ fn begin() -> Step {
 }
 
 // A rule comes on.
-fn come(duty: Duty, number: u8, tables: &[u8]) -> Step {
+fn come(duty: Duty, number: u8, tables: &[u16]) -> Step {
     let base = read_number();
     let count = read_number();
     let changed = running::come_on(duty, number, tables, base, count);
@@ -132,7 +135,7 @@ fn come(duty: Duty, number: u8, tables: &[u8]) -> Step {
     Step { duty, more: true }
 }
 
-fn take_coming(duty: Duty, tables: &[u8]) -> Step {
+fn take_coming(duty: Duty, tables: &[u16]) -> Step {
     let number = read_byte();
     let Head::Number(lent) = read_size(tables.len()) else {
         return Step { duty, more: false };
@@ -149,7 +152,7 @@ fn take_going(duty: Duty) -> Step {
 }
 
 // Runs, and prints what the run returns and leaves in the buffers. Hands back who is on duty then.
-fn run(duty: Duty, tables: &[u8], scans: &[u8], output: &mut [u8], verdicts: &mut [u8]) -> Duty {
+fn run(duty: Duty, tables: &[u16], scans: &[u8], output: &mut [u8], verdicts: &mut [u8]) -> Duty {
     let ahead = running::check_on_duty(tables, duty, scans, output.len(), verdicts.len());
     print_ahead(ahead);
     let ran = running::run_on_duty(tables, duty, scans, output, verdicts);
@@ -161,7 +164,7 @@ fn run(duty: Duty, tables: &[u8], scans: &[u8], output: &mut [u8], verdicts: &mu
 // Fills the space with the scans, and runs.
 fn call(
     duty: Duty,
-    tables: &[u8],
+    tables: &[u16],
     scans: &mut [u8],
     output: &mut [u8],
     verdicts: &mut [u8],
@@ -178,7 +181,7 @@ fn call(
 
 fn take_call(
     duty: Duty,
-    tables: &[u8],
+    tables: &[u16],
     scans: &mut [u8],
     output: &mut [u8],
     verdicts: &mut [u8],
@@ -209,14 +212,14 @@ fn take_call(
 // Takes the next record.
 fn take_record(
     duty: Duty,
-    tables: &mut [u8],
+    tables: &mut [u16],
     scans: &mut [u8],
     output: &mut [u8],
     verdicts: &mut [u8],
     turn: u64,
 ) -> Step {
     match read_byte() {
-        b'f' => take_bytes(duty, tables),
+        b'f' => take_prepared(duty, tables),
         b'w' => take_part(duty, tables),
         b'r' => take_rule(duty, scans, tables, false),
         b'm' => take_rule(duty, scans, tables, true),
@@ -230,7 +233,7 @@ fn take_record(
 }
 
 // A proved loop has to end, and nothing says that the input does: so it has as many turns as 64 bits can count.
-fn take_records(tables: &mut [u8], scans: &mut [u8], output: &mut [u8], verdicts: &mut [u8]) {
+fn take_records(tables: &mut [u16], scans: &mut [u8], output: &mut [u8], verdicts: &mut [u8]) {
     let mut duty = running::nobody();
     let mut turn = 0;
     while turn < u64::MAX {
@@ -245,7 +248,7 @@ fn take_records(tables: &mut [u8], scans: &mut [u8], output: &mut [u8], verdicts
 }
 
 fn main() {
-    let mut tables = [0u8; 65536];
+    let mut tables = [0u16; 262144];
     let mut scans = [0u8; 65536];
     let mut output = [0u8; 65536];
     let mut verdicts = [0u8; 65536];

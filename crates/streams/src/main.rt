@@ -1,14 +1,16 @@
 // Reads records from standard input, and prints a line for each filling and for each call of a run.
 // A record is one byte of kind and a body. The records before a call set its table, its count and its state:
-//   f FIRST STEP          byte i of the table is FIRST + STEP × i, modulo 256
-//   w PLACE LENGTH bytes  the table's bytes from the place on are these
+//   f PLACE LENGTH FIRST STEP TOP
+//                         so many entries of the table from the place on: entry i of these is FIRST + STEP × i, modulo TOP + 1
+//   w PLACE LENGTH entries
+//                         the table's entries from the place on are these
 //   r LENGTH bytes        the table is filled from this rule file, the count is what filling answers, 0 where it refuses, the state is the start
 //   n COUNT               the count
 //   b                     the state is the start
 //   s EQUATION            the state
 //   c TABLE OUTPUT VERDICTS LENGTH scans
-//                         a call, with so many bytes of the table and of each buffer. The state is then what it returns
-// COUNT and EQUATION are eight bytes, FIRST and STEP one, the other numbers three, highest first. The input ends after the last record.
+//                         a call, with so many entries of the table and bytes of each buffer. The state is then what it returns
+// COUNT and EQUATION are eight bytes, an entry, FIRST, STEP and TOP two, the other numbers three, highest first. The input ends after the last record.
 mod printing;
 
 use printing::print_ran;
@@ -37,12 +39,14 @@ enum Step {
     Ended,
 }
 
-fn take_bytes(held: Held, table: &mut [u8]) -> Step {
-    read_prepared(table);
+fn take_prepared(held: Held, table: &mut [u16]) -> Step {
+    if !read_prepared(table) {
+        return Step::Ended;
+    }
     Step::Next(held)
 }
 
-fn take_part(held: Held, table: &mut [u8]) -> Step {
+fn take_part(held: Held, table: &mut [u16]) -> Step {
     if !read_part(table) {
         return Step::Ended;
     }
@@ -50,7 +54,7 @@ fn take_part(held: Held, table: &mut [u8]) -> Step {
 }
 
 // Fills the space with a rule file, and the table from it.
-fn read_rule(space: &mut [u8], table: &mut [u8]) -> Step {
+fn read_rule(space: &mut [u8], table: &mut [u16]) -> Step {
     if !read_whole(space) {
         return Step::Ended;
     }
@@ -62,7 +66,7 @@ fn read_rule(space: &mut [u8], table: &mut [u8]) -> Step {
     })
 }
 
-fn take_rule(space: &mut [u8], table: &mut [u8]) -> Step {
+fn take_rule(space: &mut [u8], table: &mut [u16]) -> Step {
     let Head::Number(n) = read_size(space.len()) else {
         return Step::Ended;
     };
@@ -97,7 +101,7 @@ fn begin(held: Held) -> Step {
 // Fills the space with the scans, runs, and prints what the run returns and leaves in the buffers.
 fn call(
     held: Held,
-    table: &[u8],
+    table: &[u16],
     scans: &mut [u8],
     output: &mut [u8],
     verdicts: &mut [u8],
@@ -120,7 +124,7 @@ fn call(
 
 fn take_call(
     held: Held,
-    table: &[u8],
+    table: &[u16],
     scans: &mut [u8],
     output: &mut [u8],
     verdicts: &mut [u8],
@@ -151,14 +155,14 @@ fn take_call(
 // Takes the next record.
 fn take_record(
     held: Held,
-    table: &mut [u8],
+    table: &mut [u16],
     scans: &mut [u8],
     output: &mut [u8],
     verdicts: &mut [u8],
     turn: u64,
 ) -> Step {
     match read_byte() {
-        b'f' => take_bytes(held, table),
+        b'f' => take_prepared(held, table),
         b'w' => take_part(held, table),
         b'r' => take_rule(scans, table),
         b'n' => take_count(held),
@@ -170,7 +174,7 @@ fn take_record(
 }
 
 // A proved loop has to end, and nothing says that the input does: so it has as many turns as 64 bits can count.
-fn take_records(table: &mut [u8], scans: &mut [u8], output: &mut [u8], verdicts: &mut [u8]) {
+fn take_records(table: &mut [u16], scans: &mut [u8], output: &mut [u8], verdicts: &mut [u8]) {
     let mut held = Held {
         count: 0,
         state: running::start(),
@@ -186,7 +190,7 @@ fn take_records(table: &mut [u8], scans: &mut [u8], output: &mut [u8], verdicts:
 }
 
 fn main() {
-    let mut table = [0u8; 65536];
+    let mut table = [0u16; 262144];
     let mut scans = [0u8; 65536];
     let mut output = [0u8; 65536];
     let mut verdicts = [0u8; 65536];

@@ -6,11 +6,13 @@ mod printing;
 mod records;
 
 pub use digests::digest;
+pub use digests::digest_entries;
 pub use numbers::Head;
 pub use numbers::read_byte;
 pub use numbers::read_long;
 pub use numbers::read_size;
 pub use preparing::prepare;
+pub use preparing::prepare_entries;
 pub use printing::filled_count;
 pub use printing::print_counted;
 pub use printing::print_digests;

@@ -18,9 +18,24 @@ pub(crate) fn wide(x: u8) -> u64
     x as u64
 }
 
+pub(crate) fn wide_entry(x: u16) -> u64
+    ensures { λ r. ⌜ r ≡ x ⌝ }
+    ensures { λ r. ⌜ r < 65536 ⌝ }
+{
+    x as u64
+}
+
+// The number that two bytes make.
+fn two(a: u8, b: u8) -> u64
+    ensures { λ r. ⌜ r ≡ numberOf 256 0 (a ∷ b ∷ []) ⌝ }
+    ensures { λ r. ⌜ r < 65536 ⌝ }
+{
+    wide(a) * 256 + wide(b)
+}
+
 // The number that three bytes make.
 fn three(a: u8, b: u8, c: u8) -> u64
-    ensures { λ r. ⌜ r ≡ numberOf 0 (a ∷ b ∷ c ∷ []) ⌝ }
+    ensures { λ r. ⌜ r ≡ numberOf 256 0 (a ∷ b ∷ c ∷ []) ⌝ }
     ensures { λ r. ⌜ r < 16777216 ⌝ }
 {
     wide(a) * 65536 + wide(b) * 256 + wide(c)
@@ -28,7 +43,7 @@ fn three(a: u8, b: u8, c: u8) -> u64
 
 // The number that four bytes make.
 fn four(a: u8, b: u8, c: u8, d: u8) -> u64
-    ensures { λ r. ⌜ r ≡ numberOf 0 (a ∷ b ∷ c ∷ d ∷ []) ⌝ }
+    ensures { λ r. ⌜ r ≡ numberOf 256 0 (a ∷ b ∷ c ∷ d ∷ []) ⌝ }
     ensures { λ r. ⌜ r < 4294967296 ⌝ }
 {
     wide(a) * 16777216 + three(b, c, d)
@@ -58,6 +73,13 @@ pub fn read_long() -> Head {
     let high = four(head[0], head[1], head[2], head[3]);
     let low = four(head[4], head[5], head[6], head[7]);
     Head::Number((high * 4294967296 + low) as usize)
+}
+
+// An entry, two bytes, 0 at the end of the input.
+pub fn read_entry() -> u16 {
+    let mut head = [0u8; 2];
+    io::read_full(STDIN_FILENO, &mut head);
+    two(head[0], head[1]) as u16
 }
 
 // One byte, 0 at the end of the input.

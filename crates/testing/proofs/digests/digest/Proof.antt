@@ -12,7 +12,7 @@ use Rattle.testing.proofs.digests.digest.Statement.{statement}
 use Rattle.testing.proofs.digests.digest.Tie as tie
 
 abbrev Inv-loop : tie.InvT-loop
-Inv-loop high bytes sum₀ i₀ sum i = (i ≤ length bytes) × (sum ≡ digestOf high (take i bytes))
+Inv-loop high bytes sum₀ i₀ sum i = (i ≤ length bytes) × (sum ≡ digestOf 256 high (take i bytes))
 
 abbrev μ-loop : tie.MeasureT-loop
 μ-loop high bytes sum₀ i₀ sum i = length bytes - i
