@@ -40,6 +40,11 @@ sub-read-rule c =
     let s = c .before .before .before .before .before .before in
     rw (s .at .given .1) at (s .before .before .read-size .ensures)
 
+mul-read-rule : tie.Need-mul-read-rule
+mul-read-rule c =
+    let first = sub-read-rule c in
+    search needs
+
 part-read-rule-start : tie.Need-part-read-rule-start
 part-read-rule-start c = sub-read-rule c
 
@@ -72,6 +77,7 @@ read-filling-spec =
     returns-2
     slice-relend-prefix-read-rule
     slice-aggregate-read-rule
+    mul-read-rule
     sub-read-rule
     part-read-rule-start
     part-read-rule-end
