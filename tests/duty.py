@@ -2,7 +2,7 @@
 from dataclasses import dataclass, replace
 
 from compare import expect
-from equations import CODES, DROPPED_ENTRY, rows
+from equations import CODES, DESK, DROPPED, entries_of, rows
 from merging import short_rows
 from rules import Refusal, read_rule
 from running import is_short, is_unfit
@@ -23,7 +23,7 @@ class Spell:
 
     def lend(self, table):
         """The table that a run lends has to be the rule's own."""
-        own = b"".join(self.rows)
+        own = entries_of(self.rows)
         expect(table[: len(own)] == own, "the rule's own table")
 
     def drops(self, scan):
@@ -41,7 +41,7 @@ class Spell:
         return equation
 
     def would_move(self, scan):
-        return self.rows[self.equation()][scan] not in (self.equation(), DROPPED_ENTRY)
+        return self.rows[self.equation()][scan] not in (self.equation(), DROPPED)
 
 
 class Entries:
@@ -57,7 +57,7 @@ class Entries:
         return self.table[CODES * self.at + scan]
 
     def drops(self, scan):
-        return self.entry(scan) == DROPPED_ENTRY
+        return self.entry(scan) == DESK.mark
 
     def keep(self, scan):
         self.at = self.entry(scan)
@@ -66,7 +66,7 @@ class Entries:
         return self.at
 
     def would_move(self, scan):
-        return self.entry(scan) not in (self.at, DROPPED_ENTRY)
+        return self.entry(scan) not in (self.at, DESK.mark)
 
 
 @dataclass(frozen=True)

@@ -6,6 +6,7 @@ import duty_grids
 import duty_plays
 import duty_rules
 import duty_typed
+import duty_wide
 from compare import Disagreement, expect
 from duty_script import DutyScript
 from duty_sorts import lacking
@@ -27,7 +28,7 @@ def random_days(random):
 
 
 def play_large(random, script, number, files):
-    """Two tables, each of up to 128 rows: they take up to all of the space."""
+    """Two tables, each of up to 128 rows."""
     duty_plays.play_day(random, script, number, files)
     script.tally["days of large tables"] += 1
 
@@ -37,8 +38,10 @@ def joined_days(random):
     for size in (2, 3, 4):
         groups += duty_rules.accepted_groups(random, size, 40)
         groups += duty_rules.refused_groups(random, 4, duty_rules.wide(), size, 10)
-    groups += duty_rules.refused_groups(random, 9, duty_rules.pool(), 2, 12)
-    groups += duty_rules.refused_groups(random, 9, duty_rules.small(), 3, 12)
+    for files, size in ((duty_rules.pool(), 2), (duty_rules.small(), 3)):
+        groups += duty_rules.wide_groups(random, files, size, 12)
+    for size in (2, 3):
+        groups += duty_rules.refused_groups(random, 9, duty_rules.large(), size, 12)
     for number, group in enumerate(groups):
         yield duty_plays.play_join, number, group
 
@@ -74,7 +77,7 @@ def entry_days(random):
 def whole_script():
     random, script = Random("duty"), DutyScript()
     duty_typed.play(script)
-    for days in (random_days, joined_days, fault_days, other_days, entry_days):
+    for days in (random_days, joined_days, fault_days, other_days, entry_days, duty_wide.days):
         for play, number, given in days(random):
             try:
                 play(random, script, number, given)

@@ -4,7 +4,7 @@ from compare import expect
 from compare_runs import check_conserved
 from duty import MOST_ON_DUTY, Entries, OnDuty
 from duty_plays import set_up_anew
-from equations import CODES, DROPPED_ENTRY, rows
+from equations import CODES, DESK, rows
 from stream_faults import enough, other_entry
 from stream_plays import BEHIND
 from expected import MOST_ENTRIES
@@ -28,9 +28,9 @@ def play_foreign(random, script, number, rate):
     """Tables at random that may lie one over the other. The rules are handed in in any equations, or come on."""
     counts = [random.choice(COUNTS) for _ in range(random.randrange(1, MOST_ON_DUTY + 1))]
     size = CODES * max(counts) + random.randrange(2000)
-    entries = [DROPPED_ENTRY if random.random() < rate else random.randrange(min(counts)) for _ in range(size)]
+    entries = [DESK.mark if random.random() < rate else random.randrange(min(counts)) for _ in range(size)]
     script.prepare(*BEHIND[number % len(BEHIND)])
-    script.write(0, bytes(entries))
+    script.write(0, entries)
     script.new_day()
     numbers = random.sample(range(256), len(counts))
     bases = [random.randrange(size - CODES * count + 1) for count in counts]
@@ -67,6 +67,6 @@ def play_changed(random, script, number, data, others):
     scans = scans_for(random)
     equation = script.desk.places[0].equation
     for scan in scans[:2]:
-        with other_entry(script, table.base + CODES * equation + scan, random.choice([DROPPED_ENTRY, table.count - 1])):
+        with other_entry(script, table.base + CODES * equation + scan, random.choice([DESK.mark, table.count - 1])):
             fit_run(random, script, MOST_ENTRIES, scans)
     script.tally["days by entries: rows that change"] += 1

@@ -6,8 +6,8 @@ from dataclasses import replace
 
 from compare import expect
 from duty import MOST_ON_DUTY, OnDuty
-from equations import CODES
-from stream_faults import COUNTS, STATES, enough, other_entry, short_sizes
+from equations import CODES, DESK
+from stream_faults import COUNTS, STATES, enough, other_entry, short_sizes, too_high
 from expected import MOST_ENTRIES
 
 # Bases near 2^64: with some of them the rows of a rule would end where the lent tables begin, or in them.
@@ -27,7 +27,7 @@ def free_number(random, desk):
 def unfit_tables(random, table):
     """Ways to lend a table that is fit, so that it is unfit: how much is lent, the base and the count."""
     lent = random.choice([table.end, table.end, MOST_ENTRIES, random.randrange(table.end, MOST_ENTRIES + 1)])
-    low = min(table.base, MOST_ENTRIES - CODES * 129)
+    low = min(table.base, MOST_ENTRIES - CODES * (DESK.most + 1))
     return [
         (table.end - 1, table.base, table.count),
         (random.randrange(table.base, table.end), table.base, table.count),
@@ -35,7 +35,7 @@ def unfit_tables(random, table):
         (lent, lent + random.choice([1, 1, 255, 256, 65536]), table.count),
         (lent, random.choice(BASES + [2**64 - CODES * table.count, 2**64 - table.base - 1]), table.count),
         (lent, table.base, 0),
-        (MOST_ENTRIES, low, 129),
+        (MOST_ENTRIES, low, DESK.most + 1),
         (lent, table.base, random.choice(COUNTS)),
     ]
 
@@ -43,7 +43,7 @@ def unfit_tables(random, table):
 def wrong_entry(random, script, table):
     """Changes an entry of a table to one that is too high: the first, the last or another."""
     place = random.choice([table.base, table.end - 1, random.randrange(table.base, table.end)])
-    return other_entry(script, place, random.choice([table.count, 254, 128, random.randrange(table.count, 255)]))
+    return other_entry(script, place, too_high(random, table.count))
 
 
 def refused_coming(random, script, table):
@@ -84,7 +84,7 @@ def handed_in(script, count, places):
 
 def unfit_rules(random, rule):
     """The rule with another equation, another count or another base, each of which makes it unfit."""
-    counts, bases = [0, 129, random.choice(COUNTS)], [MOST_ENTRIES, MOST_ENTRIES + random.choice([1, 256]), random.choice(BASES)]
+    counts, bases = [0, DESK.most + 1, random.choice(COUNTS)], [MOST_ENTRIES, MOST_ENTRIES + random.choice([1, 256]), random.choice(BASES)]
     others = [replace(rule, count=count) for count in counts] + [replace(rule, base=base) for base in bases]
     return others + [replace(rule, equation=equation) for equation in (rule.count, random.choice(STATES))]
 

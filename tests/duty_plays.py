@@ -7,7 +7,7 @@ from compare import expect
 from compare_runs import check_conserved
 from duty import MOST_ON_DUTY, Spell
 from duty_scans import Team
-from equations import CODES, rows
+from equations import CODES, PROGRAMS, rows
 from joining import joined
 from merging import short_rows
 from rules import Refusal, read_rule
@@ -136,7 +136,7 @@ class Day:
 
 
 def set_up_anew(random, script, number, files):
-    """The tables are prepared anew now and then; else bytes of earlier days stand between and behind them."""
+    """The tables are prepared anew now and then; else entries of earlier days stand between and behind them."""
     if number % 8 == 0:
         script.prepare(*BEHIND[number // 8 % len(BEHIND)])
     return set_up(random, script, files)
@@ -239,3 +239,4 @@ def play_join(random, script, number, files):
         play_alone(random, script, tables[-1], split, told)
         script.tally["joins: each of several rules alone drops a scan"] += len(alone) > 1
     script.tally[f"joins: {len(files)} rules " + ("accepted" if is_accepted else f"refused {answer.number}")] += 1
+    script.tally[f"joins: {len(files)} rules with over 128 equations"] += is_accepted and len(answer) > PROGRAMS.most

@@ -7,7 +7,7 @@ import known_equations
 import known_runs
 from compare import expect
 from equation_shapes import counters, drawn, tangled
-from equations import is_dropping, rows
+from equations import PROGRAMS, is_dropping, rows
 from joining import joined
 from known import ANY, ONE, POOL, SIX, bytes_of, counted
 from merging_shapes import dropping, equal_parts, late_drops, near_parts
@@ -25,6 +25,9 @@ OF_A_KIND = 24
 
 # Rules with at most so many equations are small: the tables of many fit side by side.
 SMALL = 24
+
+# A joined rule of so many equations has room beside the rules that it joins.
+MOST_JOINED = 700
 
 # So many draws are enough for a group.
 DRAWS = 20000
@@ -45,7 +48,7 @@ def small():
 
 
 def large():
-    """Rules with more equations, up to the most that there may be."""
+    """Rules with more equations, up to 128."""
     return [data for data in pool() if len(rows(data)) > SMALL] + [bytes_of(counted(m, "3")) for m in (5, 6, 7)]
 
 
@@ -67,7 +70,19 @@ def drawn_group(random, files, size, is_wanted):
 
 
 def accepted_groups(random, size, count):
-    return [drawn_group(random, small(), size, lambda table: not isinstance(table, Refusal)) for _ in range(count)]
+    """Groups whose joined rule has up to 128 equations."""
+    def is_wanted(table):
+        return not isinstance(table, Refusal) and len(table) <= PROGRAMS.most
+
+    return [drawn_group(random, small(), size, is_wanted) for _ in range(count)]
+
+
+def wide_groups(random, files, size, count):
+    """Groups whose joined rule has more, and leaves room for their own tables."""
+    def is_wanted(table):
+        return not isinstance(table, Refusal) and PROGRAMS.most < len(table) <= MOST_JOINED
+
+    return [drawn_group(random, files, size, is_wanted) for _ in range(count)]
 
 
 def refused_groups(random, number, files, size, count):

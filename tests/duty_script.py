@@ -2,9 +2,9 @@
 import duty_sorts
 from duty import MOST_ON_DUTY, Desk, OnDuty
 from equations import fill, said
-from expected import digest, three_bytes
+from expected import digest, eight_bytes, three_bytes
 from merging import fill_short
-from stream_script import Records, eight_bytes
+from stream_script import Records
 
 
 def answer_of(refusal):
@@ -88,7 +88,7 @@ class DutyScript(Records):
         return refusal
 
     def run(self, scans, lent, output_size, verdicts_size):
-        """A run with so many bytes of the tables and of each buffer. Gives what it returns, and the buffers then."""
+        """A run with so many entries of the tables and bytes of each buffer. Gives what it returns, and the buffers then."""
         output, verdicts = self.buffers(output_size, verdicts_size)
         tables, had_remains = self.table[:lent], duty_sorts.has_remains(self.desk)
         sorts = list(duty_sorts.of_run(self.desk, tables, scans, output, verdicts))

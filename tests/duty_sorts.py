@@ -1,6 +1,6 @@
 """Sorts of calls on duty, by what is handed in, and how many of each sort there have to be."""
 from duty import MOST_ON_DUTY, VACANT, Spell
-from equations import CODES, MOST_EQUATIONS
+from equations import CODES, DESK
 from expected import told
 from running import is_short
 
@@ -8,8 +8,13 @@ from running import is_short
 LEAST = 10
 
 UNSOUND = ["over four rules", "2^64 - 1 rules", "a number twice"]
-UNFIT = ["base at the end", "base behind the end", "base near 2^64", "count 0", "count 129", "a huge count"]
-UNFIT += ["a byte too short", "an entry out of range"]
+UNFIT = ["base at the end", "base behind the end", "base near 2^64", "count 0", "count 1001", "a huge count"]
+UNFIT += ["an entry too short", "an entry out of range"]
+
+# Entries that are out of range, where one byte and two end and at the limit; and counts about which 255 is a number as others are, and the most.
+ENTRIES = [255, 1000, 65534]
+OUT_OF_RANGE = [f"entry {entry} out of range" for entry in ENTRIES]
+WIDE = [255, 256, 257, 1000]
 
 SORTS = [f"{call}: {sort}" for call in ("coming", "going", "run") for sort in UNSOUND]
 SORTS += [f"{call}: {sort}" for call in ("coming", "run") for sort in UNFIT]
@@ -32,7 +37,11 @@ SORTS += [f"going: refused {number} with a state that was handed in" for number 
 SORTS += [f"run: refused {number} with a state that was handed in" for number in (15, 16)]
 SORTS += [f"joins: {size} rules {answer}" for size in (2, 3, 4) for answer in ("accepted", "refused 4")]
 SORTS += [f"joins: {size} rules refused 9" for size in (2, 3)]
+SORTS += [f"joins: {size} rules with over 128 equations" for size in (2, 3)]
 SORTS += ["joins: scans dropped between comings", "joins: each of several rules alone drops a scan"]
+SORTS += [f"{call}: {sort}" for call in ("coming", "run") for sort in OUT_OF_RANGE]
+SORTS += [f"run: a rule of {count} equations" for count in WIDE] + ["run: a rule in equation 255"]
+SORTS += ["days by entries: tables of many equations"]
 SORTS += ["days by entries: tables of no rule", "days by entries: rows that change", "days of large tables"]
 
 
@@ -63,14 +72,16 @@ def of_unfit(rule, tables):
     yield from ["base near 2^64"] * (rule.base >= 2**64 - 2**17)
     if rule.count == 0:
         yield "count 0"
-    elif rule.count > MOST_EQUATIONS:
-        yield "count 129" if rule.count == MOST_EQUATIONS + 1 else "a huge count"
+    elif rule.count > DESK.most:
+        yield "count 1001" if rule.count == DESK.most + 1 else "a huge count"
     elif rule.equation >= rule.count:
         yield "an equation not under its count"
     elif end > len(tables):
-        yield from ["a byte too short"] * (end == len(tables) + 1)
+        yield from ["an entry too short"] * (end == len(tables) + 1)
     else:
         yield "an entry out of range"
+        own = tables[rule.base : end]
+        yield from [sort for entry, sort in zip(ENTRIES, OUT_OF_RANGE) if entry >= rule.count and entry in own]
 
 
 def of_others(desk):
@@ -113,6 +124,8 @@ def of_fit_run(desk, scans):
     rules = desk.rules()
     yield f"{desk.count} on duty"
     yield from ["no scans"] * (not scans)
+    yield from [f"a rule of {rule.count} equations" for rule in rules if rule.count in WIDE]
+    yield from ["a rule in equation 255"] * any(rule.equation == 255 for rule in rules)
     yield from ["four rules with one table"] * (desk.count == MOST_ON_DUTY and len({(r.base, r.count) for r in rules}) == 1)
     shortened = {rule.spell.is_short_table for rule in rules if isinstance(rule.spell, Spell)}
     yield from ["long and short tables"] * (len(shortened) == 2)

@@ -19,7 +19,7 @@ def spell_at(base, count, kept_scans=b""):
 
 
 def come_on(script, number, *where):
-    """A rule comes on whose table has a name, or a base and a count, with so many bytes lent."""
+    """A rule comes on whose table has a name, or a base and a count, with so many entries lent."""
     base, count, lent = (*TABLES[where[0]][1:], END) if where[0] in TABLES else map(int, where)
     return script.come_on(int(number), lent, base, count, spell_at(base, count))
 

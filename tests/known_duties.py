@@ -22,15 +22,23 @@ TABLES = {
 END = 3328
 
 FIVES = counted(5)
-SIXES = ANY + SIX + "6 4 5 0 7 0 5 1 5 0 5 0 5 0 5 0 5 0 2"
+
+
+def sixes(m):
+    """The paper's second family with code 6 in place of 5."""
+    return counted(m).replace(ONE, SIX)
+
+
+SIXES = sixes(5)
 
 # Rules, the rule that joins them, and how filling answers it. Each alone is accepted.
 JOINED = [
     ([POOL, ONE + "5 0 3"], POOL_AND_FIVE, "equations 4"),
     (["2", "2"], "4 2 2", "equations 1"),
     (["2", ONE + "5 0 3", SIX + "5 0 3"], ONE + SIX + "4 4 2 5 0 3 5 1 3", "equations 2"),
-    # five scans, of which each is 5, is 6, or is neither: 243 equations
-    ([FIVES, SIXES], ANY + ONE + ANY + SIX + "4 6 4 5 0 7 0 5 1 5 0 5 0 5 0 5 0 5 0 2 6 4 5 2 7 0 5 3 5 2 5 2 5 2 5 2 5 2 2", "refused 9 at 0"),
+    # five scans, of which each is 5, is 6, or is neither: 243 equations. Of seven there are 2,187
+    ([FIVES, SIXES], ANY + ONE + ANY + SIX + "4 6 4 5 0 7 0 5 1 5 0 5 0 5 0 5 0 5 0 2 6 4 5 2 7 0 5 3 5 2 5 2 5 2 5 2 5 2 2", "equations 243"),
+    ([counted(7), sixes(7)], ANY + ONE + ANY + SIX + "4 6 4 5 0 7 0 5 1 " + "5 0 " * 7 + "2 6 4 5 2 7 0 5 3 " + "5 2 " * 7 + "2", "refused 9 at 0"),
     # 33 patterns, and 65 nodes
     ([ONE * 17 + "2", SIX * 16 + "2"], ONE * 17 + SIX * 16 + "4 2 2", "refused 4 at 128"),
     ([ANY + "5 0 " * 31 + "2"] * 2, ANY * 2 + "4 " + "5 0 " * 31 + "2 " + "5 1 " * 31 + "2", "refused 4 at 134"),
@@ -106,7 +114,7 @@ DAYS = [
         ("off 2", "fit", "1 0 3 2, 3 1280 1 0"),
         ("run 128 37 5 6", "0 0 1 1", "1 0 3 2, 3 1280 1 0"),
     ],
-    # 16 for a table: a byte too few, a base at the end, behind it and far behind, counts, and an entry
+    # 16 for a table: an entry too few, a base at the end, behind it and far behind, counts, and an entry
     [
         ("on 7 0 3 767", "refused 16", ""),
         ("on 7 3328 1 3328", "refused 16", ""),
@@ -114,7 +122,8 @@ DAYS = [
         ("on 7 18446744073709551615 1 3328", "refused 16", ""),
         ("on 7 18446744073709551360 1 3328", "refused 16", ""),
         ("on 7 0 0 3328", "refused 16", ""),
-        ("on 7 0 129 65536", "refused 16", ""),
+        ("on 7 0 1001 262144", "refused 16", ""),
+        ("on 7 0 36028797018963968 3328", "refused 16", ""),
         ("on 7 0 72057594037927936 3328", "refused 16", ""),
         ("on 7 0 2 3328", "refused 16", ""),
         ("on 7 0 3 768", "fit", "7 0 3 0"),

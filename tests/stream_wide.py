@@ -16,12 +16,12 @@ REFUSED = [registers(29), TOO_WIDE, counted(10)]
 COUNTS = [3, 255, 256, 257, 999, 1000]
 
 
-def dropping_parts(random, script, count):
-    """Some parts of the rows drop."""
+def dropping_parts_of(random, script, start, size):
+    """Of so many entries from a place on, some parts drop."""
     for _ in range(random.choice([4, 40])):
-        place = random.randrange(CODES * count)
-        length = min(random.choice([1, 2, 60, 256]), CODES * count - place)
-        script.prepare(DESK.mark, 0, DESK.mark, place, length)
+        place = random.randrange(size)
+        length = min(random.choice([1, 2, 60, 256]), size - place)
+        script.prepare(DESK.mark, 0, DESK.mark, start + place, length)
 
 
 def play_damaged(random, script):
@@ -55,7 +55,7 @@ def play_tables(random, script, number, count):
     script.prepare(random.randrange(65536), 263)
     script.prepare(random.randrange(count), step, count - 1, 0, CODES * count)
     if number % 3 > 0:
-        dropping_parts(random, script, count)
+        dropping_parts_of(random, script, 0, CODES * count)
     script.set_count(count)
     play_damaged(random, script)
     play_counts(random, script)
