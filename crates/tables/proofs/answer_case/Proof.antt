@@ -17,17 +17,29 @@ enum-told c = search needs
 returns : tie.Need-returns
 returns c = search needs
 
-read-size-requires-2 : tie.Need-read-size-requires-2
-read-size-requires-2 c κs = search needs
+read-long-requires : tie.Need-read-long-requires
+read-long-requires c κs = search needs
 
-enum-known-n : tie.Need-enum-known-n
-enum-known-n c = search needs
+enum-known-limit : tie.Need-enum-known-limit
+enum-known-limit c = search needs
 
 enum-told-2 : tie.Need-enum-told-2
 enum-told-2 c = search needs
 
 returns-2 : tie.Need-returns-2
 returns-2 c = search needs
+
+read-size-requires-2 : tie.Need-read-size-requires-2
+read-size-requires-2 c κs = search needs
+
+enum-known-n : tie.Need-enum-known-n
+enum-known-n c = search needs
+
+enum-told-3 : tie.Need-enum-told-3
+enum-told-3 c = search needs
+
+returns-3 : tie.Need-returns-3
+returns-3 c = search needs
 
 slice-relend-prefix-answer-file : tie.Need-slice-relend-prefix-answer-file
 slice-relend-prefix-answer-file c = let s = c .before in rw (s .n .given .1) at (s .before .before .read-size2 .ensures)
@@ -37,7 +49,7 @@ slice-aggregate-answer-file c = sym (length-take-le _ _ (slice-relend-prefix-ans
 
 slice-relend-prefix-answer-file-2 : tie.Need-slice-relend-prefix-answer-file-2
 slice-relend-prefix-answer-file-2 c =
-    let s = c .before .before .before .before .before .before in
+    let s = c .before .before .before .before .before .before .before .before .before in
     rw (s .size .given .1) at (s .before .before .read-size .ensures)
 
 slice-aggregate-answer-file-2 : tie.Need-slice-aggregate-answer-file-2
@@ -52,8 +64,8 @@ same-length c = search needs
 same-length-2 : tie.Need-same-length-2
 same-length-2 c = search needs
 
-returns-3 : tie.Need-returns-3
-returns-3 c = search needs
+returns-4 : tie.Need-returns-4
+returns-4 c = search needs
 
 pub answer-case-spec : {M : Type 1} → statement M
 answer-case-spec =
@@ -63,10 +75,14 @@ answer-case-spec =
     enum-known-size
     enum-told
     returns
-    read-size-requires-2
-    enum-known-n
+    read-long-requires
+    enum-known-limit
     enum-told-2
     returns-2
+    read-size-requires-2
+    enum-known-n
+    enum-told-3
+    returns-3
     slice-relend-prefix-answer-file
     slice-aggregate-answer-file
     slice-relend-prefix-answer-file-2
@@ -74,4 +90,4 @@ answer-case-spec =
     answer-file-requires
     same-length
     same-length-2
-    returns-3)
+    returns-4)

@@ -5,7 +5,7 @@ use Rattle.tables.proofs.listing_summary.Statement.{statement}
 use Rattle.tables.proofs.listing_summary.Tie as tie
 
 abbrev Inv-loop : tie.InvT-loop
-Inv-loop rule table count len₀ sum₀ at₀ left₀ len sum at left = len + 64 * left ≤ 2099328
+Inv-loop rule table count len₀ sum₀ at₀ left₀ len sum at left = len + 64 * left ≤ 16386176
 
 abbrev μ-loop : tie.MeasureT-loop
 μ-loop rule table count len₀ sum₀ at₀ left₀ len sum at left = left
