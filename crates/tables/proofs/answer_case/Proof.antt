@@ -49,7 +49,7 @@ slice-aggregate-answer-file c = sym (length-take-le _ _ (slice-relend-prefix-ans
 
 slice-relend-prefix-answer-file-2 : tie.Need-slice-relend-prefix-answer-file-2
 slice-relend-prefix-answer-file-2 c =
-    let s = c .before .before .before .before .before .before .before .before .before in
+    let s = c .before .before .before .before .before .before .before .before .before .before in
     rw (s .size .given .1) at (s .before .before .read-size .ensures)
 
 slice-aggregate-answer-file-2 : tie.Need-slice-aggregate-answer-file-2

@@ -42,8 +42,8 @@ add-len c =
     let fits : length table < 18446744073709551616 = search needs in
     omega (arith, more, ap length (c .row .ensures))
 
-digest-requires : tie.Need-digest-requires Inv-loop μ-loop
-digest-requires c κs = tt
+digest-entries-requires : tie.Need-digest-entries-requires Inv-loop μ-loop
+digest-entries-requires c κs = tt
 
 add-k : tie.Need-add-k Inv-loop μ-loop
 add-k c = search needs
@@ -71,7 +71,7 @@ rows-summary-spec =
     loop-holds
     row-requires
     add-len
-    digest-requires
+    digest-entries-requires
     add-k
     loop-less
     loop-again
