@@ -6,7 +6,7 @@ from random import Random
 import known_models
 from compare import Disagreement, expect
 from enforcing import first_drop, is_bisimilar, monitored, walk_ends
-from equations import LARGEST_TABLE, can_drop, rows
+from equations import LARGEST_TABLE, can_drop, entries_of, rows
 from expected import fresh_table
 from judging import judge
 from models import read_model
@@ -27,20 +27,20 @@ BY_SILENCE = "breaks by silent steps alone"
 
 def check_typed():
     """What was typed is what judging and reading say. Judging leaves a table that just fits with the rows alone, and each
-    byte where it refuses."""
+    entry where it refuses."""
     for rule, model, answer in known_models.judged():
-        expect(judge(rule, model, bytearray(LARGEST_TABLE)) == answer, "typed judgment", list(rule), list(model), answer)
+        expect(judge(rule, model, fresh_table(LARGEST_TABLE, 0)) == answer, "typed judgment", list(rule), list(model), answer)
         check_pair(rule, model)
     for rule, model, size, answer in known_models.fitting():
         table = fresh_table(size, 0)
         expect(judge(rule, model, table) == answer, "just fit", list(rule), list(model), answer)
-        expect(table == b"".join(rows(rule)), "the rows alone", list(rule))
+        expect(table == entries_of(rows(rule)), "the rows alone", list(rule))
     for model, line in known_models.refused():
         expect(str(read_model(model)) == line, "typed refusal", list(model), line)
     for rule, model, size, line in known_models.ordered():
         table = fresh_table(size, 0)
         expect(judge(rule, model, table) == line, "typed order", list(rule), list(model), line)
-        expect(table == fresh_table(size, 0), "bytes of a refused judgment", list(rule), list(model))
+        expect(table == fresh_table(size, 0), "entries of a refused judgment", list(rule), list(model))
 
 
 def check_verdict(rule, model, drop):

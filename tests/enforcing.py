@@ -67,12 +67,13 @@ def met_steps(model, table):
 
 @dataclass(frozen=True)
 class Drop:
-    """A shortest walk whose last step the monitor drops: its trace, and how many steps it has. The place is that of the
+    """A shortest walk whose last step the monitor drops: its trace, how many steps it has, and the equation before the last. The place is that of the
     pair of state and equation before the last step, among all pairs in the order in which they are found, from 1.
     Nearer says how many pairs are fewer steps away: in any order of the steps they are found before it."""
 
     trace: tuple
     length: int
+    equation: int
     place: int
     nearer: int
 
@@ -95,7 +96,7 @@ def first_drop(model, table):
             labels = labels_to(pair, before) + [label]
             trace = tuple(label for label in labels if label != SILENT)
             nearer = sum(length < lengths[pair] for length in lengths.values())
-            return Drop(trace, len(labels), list(lengths).index(pair) + 1, nearer)
+            return Drop(trace, len(labels), equation, list(lengths).index(pair) + 1, nearer)
         if then not in lengths:
             lengths[then], before[then] = lengths[pair] + 1, (pair, label)
     return None

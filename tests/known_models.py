@@ -3,6 +3,7 @@ from known import ANY, ONE, POOL, SIX, bytes_of, counted
 from known_empty import BESIDE, NEVER_LATER, NEVER_MET, ROUND_AGAIN
 from known_equations import BRANCHES, PLACES, REQUESTS, ROUND, ROUND_TWICE, late
 from known_runs import SECOND
+from known_wide import TOO_WIDE, WIDEST
 
 # The paper's model, which breaks the number-pool rule, and one that meets it.
 PAPER = "16 3 17 0 37 1 18 1 2 17 2 5 0"
@@ -146,6 +147,8 @@ FITTING = [
     (PLACES, "16 1 17 0 5 0", 1024, "meets"),
     (NEVER_MET, PAPER, 512, "meets"),
     (counted(7), PAPER, 32768, "meets"),
+    (counted(8), PAPER, 65536, "meets"),
+    (WIDEST, PAPER, 256000, "meets"),
 ]
 
 # A rule, a model, the table's size, and the number and place of the refusal: of the rule, then 10, then of the model.
@@ -182,10 +185,14 @@ ORDER = [
     ("2 2", "16 0", 32768, 3, 1),
     ("3", "16 1", 255, 8, 0),
     ("3", "16 1 19", 32768, 8, 0),
-    (counted(8), "16 1", 32767, 9, 0),
-    (counted(8), "", 0, 9, 0),
-    (counted(8), "", 65536, 9, 0),
-    (late(28), PAPER, 33024, 9, 0),
+    (counted(8), "16 1", 65535, 10, 0),
+    (late(28), PAPER, 33023, 10, 0),
+    (counted(10), "16 1", 32767, 9, 0),
+    (counted(10), "", 0, 9, 0),
+    (counted(10), "", 65536, 9, 0),
+    (TOO_WIDE, PAPER, 262144, 9, 0),
+    (WIDEST, "", 255999, 10, 0),
+    (WIDEST, "", 256000, 11, 0),
 ]
 
 

@@ -2,28 +2,35 @@
 from random import Random
 
 import known_models
+import known_wide
 import model_faults
 import model_limits
 import model_silence
+import model_wide
 import stream_cases
-from equations import CODES, LARGEST_TABLE, can_drop, rows
+from equations import CODES, PROGRAM_TABLE, PROGRAMS, can_drop, is_accepted, rows
 from judging import refusal_of
 from known import POOL, bytes_of
 from models import MOST_STATES, SILENT
 from model_shapes import as_file, chain, drawn_models, mended, put_back, random_steps, renumbered, some_labels
 from model_shapes import up_to_drop, with_unreached
-from rules import read_rule
-
-
-def typed_cases():
-    cases = [(LARGEST_TABLE, rule, model) for rule, model, _ in known_models.judged()]
-    cases += [(LARGEST_TABLE, bytes_of(POOL), model) for model, _ in known_models.refused()]
-    return cases + [(size, rule, model) for rule, model, size, _ in known_models.fitting() + known_models.ordered()]
+from rules import Refusal, read_rule
 
 
 def fitting_size(rule):
     """The size of a table that the rows of a rule just fit."""
     return CODES * len(rows(rule))
+
+
+def usual_size(rule):
+    """Room for 128 rows, or for just as many as there are if they are more."""
+    return fitting_size(rule) if is_accepted(rule) and not is_accepted(rule, PROGRAMS) else PROGRAM_TABLE
+
+
+def typed_cases():
+    cases = [(PROGRAM_TABLE, rule, model) for rule, model, _ in known_models.judged()]
+    cases += [(PROGRAM_TABLE, bytes_of(POOL), model) for model, _ in known_models.refused()]
+    return cases + [(size, rule, model) for rule, model, size, _ in known_models.fitting() + known_models.ordered()]
 
 
 def chain_models(random, rule, table):
@@ -69,7 +76,7 @@ def drawn_cases(random):
     cases = []
     for number, data in enumerate(stream_cases.rule_files()[::2]):
         least = fitting_size(data)
-        sizes = [least] * 10 + [least + 1, least + 255, LARGEST_TABLE, LARGEST_TABLE, 40000, 65536]
+        sizes = [least] * 10 + [least + 1, least + 255, PROGRAM_TABLE, PROGRAM_TABLE, 40000, 65536]
         cases += [(random.choice(sizes), data, model) for model in models_for(random, number, data)]
     return cases
 
@@ -81,13 +88,13 @@ def silent_cases(random):
         if can_drop(rows(data)):
             most = random.choice([3, 6, 40])
             models = model_silence.models_for(random, number, read_rule(data), rows(data), most)
-            cases += [(LARGEST_TABLE, data, model) for model in models]
+            cases += [(PROGRAM_TABLE, data, model) for model in models]
     return cases
 
 
 def spoiled_cases(random, judged):
-    """The models, of which some break their rule, with a fault at their end; and with or without it, a byte too few for the
-    table."""
+    """The models, of which some break their rule, with a fault at their end; and with or without it, an entry too few for
+    the table."""
     cases = []
     for size, rule, model in judged:
         faulty = model_faults.spoiled(random, model)
@@ -100,8 +107,16 @@ def cases():
     random = Random("models")
     pool = bytes_of(POOL)
     every = typed_cases() + model_faults.grid()
-    every += [(LARGEST_TABLE, pool, model) for model in model_faults.files(random)]
-    some = drawn_cases(random) + [(LARGEST_TABLE, rule, model) for rule, model in model_limits.pairs(random)]
+    every += [(PROGRAM_TABLE, pool, model) for model in model_faults.files(random)]
+    some = drawn_cases(random) + [(usual_size(rule), rule, model) for rule, model in model_limits.pairs(random)]
     some += silent_cases(random)
     every += some + spoiled_cases(random, [case for case in some[::25] if refusal_of(*case) is None])
-    return list(dict.fromkeys(every))
+    every += [(usual_size(rule), rule, model) for rule, model in model_wide.pairs(Random("wide models"))]
+    return list(dict.fromkeys(every + model_wide.refused_cases()))
+
+
+def limit_for(number, rule):
+    """A limit to judge within: by turns one of those that were typed, the count of the equations, and one less."""
+    limits, counted = known_wide.LIMITS, rows(rule)
+    own = 0 if isinstance(counted, Refusal) else len(counted)
+    return limits[number // 3 % len(limits)] if number % 3 == 0 else max(own - number % 3 + 1, 0)

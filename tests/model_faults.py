@@ -18,7 +18,7 @@ CODE_STEPS = [(0, 38, 1), (1, 128, 0)] * 256
 BOTH_STEPS = [(0, 38, 1), (1, SILENT, 0)] * 256
 
 # The files of the refused rules, by number; 4 stands for a 65th node. None is about the table.
-REFUSED_RULES = ["", "0", "2 2", ANY + "5 0 " * 64 + "2", "1 1 6 32 2", "7 0", "6 7 0", "3", counted(8)]
+REFUSED_RULES = ["", "0", "2 2", ANY + "5 0 " * 64 + "2", "1 1 6 32 2", "7 0", "6 7 0", "3", counted(10)]
 
 
 def head_files():
@@ -90,12 +90,13 @@ def files(random):
 
 def grid():
     """Table sizes, rules and models of which none, one, two or all three are refused. Of the rules that aren't, the rows just
-    fit 256 bytes, 768, 1,024 and 32,768; the short rows of the last two, 768 and 256."""
+    fit 256 entries, 768, 1,024 and 32,768; the short rows of the last two, 768 and 256."""
     sized = list(product((0, 255, 256, 767, 768, 769, 1023, 1024, 32767, 32768, 40000), ["2", POOL, PLACES, counted(7)]))
-    sized += product((0, 255, 767, 32767, 32768, 40000), REFUSED_RULES)
+    refused = product((0, 255, 767, 32767, 32768, 40000), REFUSED_RULES)
     models = [bytes_of(text) for text in (MEETING, PAPER, "", "16", "19", "16 65", "16 1 19", "16 1 17 0 9 1")]
-    models += [file_of(2, CODE_STEPS + CODE_STEPS[:1]), file_of(2, CODE_STEPS)[:-1]]
-    return [(size, bytes_of(rule), model) for (size, rule), model in product(sized, models)]
+    long = [file_of(2, CODE_STEPS + CODE_STEPS[:1]), file_of(2, CODE_STEPS)[:-1]]
+    pairs = [*product(sized, models + long), *product(refused, models)]
+    return [(size, bytes_of(rule), model) for (size, rule), model in pairs]
 
 
 def spoiled(random, model):

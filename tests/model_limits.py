@@ -3,7 +3,7 @@ of about 128 equations."""
 from compare import expect
 from enforcing import first_drop
 from equation_shapes import counters, drawn, limit_rules
-from equations import MOST_EQUATIONS, rows
+from equations import rows
 from known import ANY, ONE, SIX, bytes_of, counted
 from known_equations import late
 from known_models import NEVER, PAPER
@@ -50,38 +50,38 @@ def ladder_pairs():
     return found
 
 
-# The last seven codes tell apart 128 equations, by which of them were 5. Only after seven of 5 is a 6 dropped, in
-# equation 127.
-REGISTER = bytes_of(ANY + ONE + SIX + "6 4 5 0 7 0 4 5 1 " + "5 0 " * 7 + "2 " + "5 1 " * 7 + "5 2 3")
+def register(m):
+    """The last m codes tell apart 2^m equations, by which of them were 5. Only after m of 5 is a 6 dropped, in the last."""
+    return ANY + ONE + SIX + "6 4 5 0 7 0 4 5 1 " + "5 0 " * m + "2 " + "5 1 " * m + "5 2 3"
 
 
-def register_models(random):
+def register_models(random, m, times):
     """A cycle of 64 states, from each of which a 9 and a 5 lead on: every pair of a state and an equation of the rule
-    above is reached. Under equation 127 state 6 is among the last, and so its 6 breaks the rule late. Where every
-    seventh state has no 5, no 6 breaks it."""
+    above is reached. Under the last equation state m - 1 is among the last, and so its 6 breaks the rule late. Where every
+    m-th state has no 5, no 6 breaks it."""
     several = []
     for codes in ((9, 5), (5, 9)):
         cycle = [(state, code, (state + 1) % MOST_STATES) for state in range(MOST_STATES) for code in codes]
-        sparse = [step for step in cycle if step[0] % 7 > 0 or step[1] == 9]
+        sparse = [step for step in cycle if step[0] % m > 0 or step[1] == 9]
         many = [(state, 6, 0) for state in range(MOST_STATES)]
         several += [cycle, sparse, sparse + many, cycle + many]
-        several += [cycle + [(at, 6, 0)] for at in (0, 5, 6, 7, 63)]
-    return files_of(random, several, 2)
+        several += [cycle + [(at, 6, 0)] for at in (0, m - 2, m - 1, m, 63)]
+    return files_of(random, several, times)
 
 
-def stair_models(random):
+def stair_models(random, m, times):
     """64 states in a row, from each of which a 9 leads to the next and a 5 back to itself. Again every pair is reached.
-    The last state with equation 127 is further away than any other pair, and only there a 6 is dropped: whatever order
+    The last state with the last equation is further away than any other pair, and only there a 6 is dropped: whatever order
     the steps are taken in, the last pair of all is the first that shows the break."""
     last = MOST_STATES - 1
     stairs = [(0, 9, 0)] + [(state, 5, state) for state in range(MOST_STATES)]
     stairs += [(state, 9, state + 1) for state in range(last)]
     both = stairs + [(state, SILENT, state + 1) for state in range(last)]
     breaking = [steps + [(last, 6, last)] for steps in (stairs, both, stairs[::-1], both[::-1])]
-    files = files_of(random, breaking, 3)
+    files = files_of(random, breaking, times)
     for file in files:
-        drop = first_drop(read_model(file), rows(REGISTER))
-        expect(drop.nearer + 1 == drop.place == MOST_STATES * MOST_EQUATIONS, "the last pair", drop)
+        drop = first_drop(read_model(file), rows(bytes_of(register(m))))
+        expect(drop.nearer + 1 == drop.place == MOST_STATES * 2**m and drop.equation == 2**m - 1, "the last pair", drop)
     return files + files_of(random, [stairs, both], 0)
 
 
@@ -138,5 +138,5 @@ def large_pairs(random):
 def pairs(random):
     """Each rule file with a model file."""
     found = cycle_pairs() + ladder_pairs()
-    found += [(REGISTER, model) for model in register_models(random) + stair_models(random)]
+    found += [(bytes_of(register(7)), model) for model in register_models(random, 7, 2) + stair_models(random, 7, 3)]
     return found + last_step_pairs() + code_pairs() + large_pairs(random)

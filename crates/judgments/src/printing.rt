@@ -6,6 +6,7 @@ use models::PhoneModel;
 use models::Step;
 use reading::FileRead;
 use testing::digest;
+use testing::digest_entries;
 use testing::print_field;
 use testing::print_refusal;
 
@@ -63,7 +64,6 @@ pub fn print_judged(judged: Judged) {
     }
 }
 
-pub fn print_table(table: &[u8]) {
-    print_field(digest(0, table));
-    io::write_all(STDOUT_FILENO, b"\n");
+pub fn print_table(table: &[u16]) {
+    print_field(digest_entries(0, table));
 }

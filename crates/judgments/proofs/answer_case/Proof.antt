@@ -17,11 +17,11 @@ enum-told c = search needs
 returns : tie.Need-returns
 returns c = search needs
 
-read-size-requires-2 : tie.Need-read-size-requires-2
-read-size-requires-2 c κs = search needs
+read-long-requires : tie.Need-read-long-requires
+read-long-requires c κs = search needs
 
-enum-known-n : tie.Need-enum-known-n
-enum-known-n c = search needs
+enum-known-limit : tie.Need-enum-known-limit
+enum-known-limit c = search needs
 
 enum-told-2 : tie.Need-enum-told-2
 enum-told-2 c = search needs
@@ -29,17 +29,29 @@ enum-told-2 c = search needs
 returns-2 : tie.Need-returns-2
 returns-2 c = search needs
 
-read-size-requires-3 : tie.Need-read-size-requires-3
-read-size-requires-3 c κs = search needs
+read-size-requires-2 : tie.Need-read-size-requires-2
+read-size-requires-2 c κs = search needs
 
-enum-known-m : tie.Need-enum-known-m
-enum-known-m c = search needs
+enum-known-n : tie.Need-enum-known-n
+enum-known-n c = search needs
 
 enum-told-3 : tie.Need-enum-told-3
 enum-told-3 c = search needs
 
 returns-3 : tie.Need-returns-3
 returns-3 c = search needs
+
+read-size-requires-3 : tie.Need-read-size-requires-3
+read-size-requires-3 c κs = search needs
+
+enum-known-m : tie.Need-enum-known-m
+enum-known-m c = search needs
+
+enum-told-4 : tie.Need-enum-told-4
+enum-told-4 c = search needs
+
+returns-4 : tie.Need-returns-4
+returns-4 c = search needs
 
 slice-relend-prefix-answer-files : tie.Need-slice-relend-prefix-answer-files
 slice-relend-prefix-answer-files c =
@@ -57,7 +69,7 @@ slice-aggregate-answer-files-2 c = sym (length-take-le _ _ (slice-relend-prefix-
 
 slice-relend-prefix-answer-files-3 : tie.Need-slice-relend-prefix-answer-files-3
 slice-relend-prefix-answer-files-3 c =
-    let s = c .before .before .before .before .before .before .before .before .before .before .before in
+    let s = c .before .before .before .before .before .before .before .before .before .before .before .before .before .before .before in
     rw (s .size .given .1) at (s .before .before .read-size .ensures)
 
 slice-aggregate-answer-files-3 : tie.Need-slice-aggregate-answer-files-3
@@ -75,8 +87,8 @@ same-length-2 c = search needs
 same-length-3 : tie.Need-same-length-3
 same-length-3 c = search needs
 
-returns-4 : tie.Need-returns-4
-returns-4 c = search needs
+returns-5 : tie.Need-returns-5
+returns-5 c = search needs
 
 pub answer-case-spec : {M : Type 1} → statement M
 answer-case-spec =
@@ -86,14 +98,18 @@ answer-case-spec =
     enum-known-size
     enum-told
     returns
-    read-size-requires-2
-    enum-known-n
+    read-long-requires
+    enum-known-limit
     enum-told-2
     returns-2
-    read-size-requires-3
-    enum-known-m
+    read-size-requires-2
+    enum-known-n
     enum-told-3
     returns-3
+    read-size-requires-3
+    enum-known-m
+    enum-told-4
+    returns-4
     slice-relend-prefix-answer-files
     slice-aggregate-answer-files
     slice-relend-prefix-answer-files-2
@@ -104,4 +120,4 @@ answer-case-spec =
     same-length
     same-length-2
     same-length-3
-    returns-4)
+    returns-5)
