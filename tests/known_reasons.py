@@ -4,6 +4,7 @@ from known import ANY, ONE, POOL, SIX, bytes_of, counted
 from known_empty import BESIDE, BESIDE_LONGER, NEVER_IN_ONE, NEVER_MET, ROUND_AGAIN, counted_beside
 from known_equations import BRANCHES, OVERLAPPING, REQUESTS, ROUND, ROUND_TWICE
 from known_runs import SECOND
+from known_wide import TOO_WIDE, later, registers
 
 CANCEL = "1 2 5 5 "
 
@@ -24,13 +25,14 @@ ONCE = (
 )
 
 
-def recalling(m):
-    """A rule of 2^m equations, m over 0: 6 is never the m-th code after 5. Its ff is node m + 5."""
-    return ANY + ONE + SIX + "6 4 5 0 7 0 5 1 " + "5 0 " * (m - 1) + "5 2 3"
-
-
-# One equation more than there may be: the rule of 128 after a first code.
+# As many equations as the programs take, and one more: a rule of 128, whose ff is node 12, and that rule after a first code.
+LATER = later(7)
 OVER = ANY + ONE + SIX + "5 0 6 4 5 0 7 0 5 1 " + "5 0 " * 6 + "5 2 3"
+
+# As many as there may be: 28 codes, and then 6 is never the fifth code after one of kinds 0 and 1. That ff is node 48, and node 41 is one for code 5.
+# With one code more before it there is one equation too many.
+AT_LIMIT = registers(28)
+OVER_LIMIT = registers(29)
 
 CHAIN = ANY + "5 0 " * 63 + "3"
 
@@ -92,11 +94,24 @@ REASONS = [
     (ONE + "6 " * 62 + "5 0 3", "", {5: 63, 6: KEPT}),
     (ONE + "6 " * 62 + "5 0 3", "6", {5: KEPT}),
     (OVERLAPPING + "6 " * 59 + "4 5 1 3 5 0 3", "", {0: 63, 37: 61, 41: 61, 42: 61}),
-    # as many equations as there may be
-    (recalling(7), "5" + " 0" * 6, {6: 12, 5: KEPT, 7: KEPT}),
-    (recalling(7), "5" + " 0" * 5, {6: KEPT}),
-    (recalling(7), "5 6 5 6 5 6 5", {6: 12}),
-    (recalling(7), "0 5 6 5 6 5 6", {6: KEPT}),
+    # as many equations as the programs take, and more
+    (LATER, "5" + " 0" * 6, {6: 12, 5: KEPT, 7: KEPT}),
+    (LATER, "5" + " 0" * 5, {6: KEPT}),
+    (LATER, "5 6 5 6 5 6 5", {6: 12}),
+    (LATER, "0 5 6 5 6 5 6", {6: KEPT}),
+    (OVER, "0 5" + " 0" * 6, {6: 13, 5: KEPT}),
+    (OVER, "5" + " 0" * 6, {6: KEPT}),
+    (later(8), "5 5 5 5 5 5 5 5", {6: 13, 5: KEPT}),
+    (later(8), "5 5 5 5 5 5 5 5 9", {6: 13, 7: KEPT}),
+    (later(8), "9 5 5 5 5 5 5 5", {6: KEPT}),
+    (counted(8), "5 5 5 5 5 5 5 5", {5: KEPT}),
+    (counted_beside(7), "5", {5: KEPT}),
+    # as many as there may be
+    (AT_LIMIT, "128 " * 28 + "7 128 128 128 128", {6: 48, 5: KEPT, 7: KEPT}),
+    (AT_LIMIT, "128 " * 28 + "7 128 128 128", {6: KEPT, 5: KEPT}),
+    (AT_LIMIT, "128 " * 27 + "7 128 128 128 128", {6: KEPT}),
+    (AT_LIMIT, "128 " * 28 + "64 128 128 128 128 128 128", {5: 41, 6: KEPT}),
+    (AT_LIMIT, "128 " * 28 + "7 128 7 128 128 128 128", {5: 41, 6: 48}),
     # rules without ff
     ("2", "0 5 255", {0: KEPT, 255: KEPT}),
     (counted(7), "5 5 5", {5: KEPT}),
@@ -119,7 +134,9 @@ UNFIT = [
     (ONCE, "7 103 199 103 7", 3),
     (CHAIN, "0 " * 63, 62),
     (CHAIN, "0 " * 64, 62),
-    (recalling(7), "5 0 0 0 0 0 0 6", 7),
+    (LATER, "5 0 0 0 0 0 0 6", 7),
+    (later(8), "5 0 0 0 0 0 0 0 6", 8),
+    (AT_LIMIT, "128 " * 28 + "7 128 128 128 128 6 5", 33),
 ]
 
 # A refused rule, kept scans, and the answer whatever the scan is.
@@ -135,11 +152,11 @@ REFUSED = [
     ("3", "5", "refused 8 at 0"),
     (ONE + "4 5 0 3 3", "", "refused 8 at 0"),
     (ONE + "4 5 0 3 3", "5", "refused 8 at 0"),
-    (counted(8), "5", "refused 9 at 0"),
-    (recalling(8), "5 0 0 0 0 0 0 0 6", "refused 9 at 0"),
-    (OVER, "0 5 0 0 0 0 0 0 6", "refused 9 at 0"),
-    (OVER, "", "refused 9 at 0"),
-    (counted_beside(7), "5", "refused 9 at 0"),
+    (counted(10), "5", "refused 9 at 0"),
+    (later(10), "5 0 0 0 0 0 0 0 0 0 6", "refused 9 at 0"),
+    (OVER_LIMIT, "128 " * 29 + "7 128 128 128 128 6 5", "refused 9 at 0"),
+    (OVER_LIMIT, "", "refused 9 at 0"),
+    (TOO_WIDE, "5", "refused 9 at 0"),
 ]
 
 

@@ -5,9 +5,10 @@ import empty_pairs
 import known_reasons
 import stream_cases
 from compare import expect
-from equation_shapes import counters, drawn, limit_rules, tangled
+from equation_shapes import counters, drawn, limit_rules, tangled, wide_rules
 from equations import CODES, is_dropping, rows
 from known import POOL, bytes_of
+from known_wide import later, registers
 from reason_shapes import branches, filled_up, node_count, returning, with_faults
 from reasons import KEPT, by_violation, places_of
 from rules import read_rule
@@ -23,7 +24,7 @@ LONG = [250, 400, 600, 900]
 
 # Rules of which kept lists can be long while scans are still dropped.
 LASTING = [POOL, known_reasons.RETURNING, known_reasons.OUTER, known_reasons.ONCE, known_reasons.SECOND]
-LASTING += [known_reasons.recalling(m) for m in (3, 7)]
+LASTING += [later(m) for m in (3, 7, 9)] + [registers(28)]
 
 
 def is_node(answer):
@@ -108,7 +109,7 @@ def unfit_cases(random, dropped):
 def refused_cases(random, dropped):
     """Rules with a fault, for each of the refusals, and kept scans that violate the rule without it. A rule that
     drops nearly everything has few equations whatever stands beside it, and so not the last of the faults."""
-    small = [case for case in dropped if len(read_rule(case[0]).patterns) <= 30 and node_count(case[0]) <= 50]
+    small = [case for case in dropped if len(read_rule(case[0]).patterns) <= 30 and node_count(case[0]) <= 47]
     cases = []
     for case in random.sample(small, 60):
         whole = unfit(random, case, random.choice([0, 0, 3]))
@@ -121,9 +122,9 @@ def refused_cases(random, dropped):
 
 
 def limit_cases(random):
-    """Rules with about as many equations as there may be. Those with too many get lists that violate them too."""
+    """Rules with about as many equations as the programs take, and as there may be. Those with too many get lists that violate them too."""
     cases = []
-    for data in limit_rules(random):
+    for data in limit_rules(random) + wide_rules(random)[::4]:
         scans = steered(random, read_rule(data), random.randrange(4, 24), 0.7)
         cases += points(random, data, len(scans), 0.5) + [(data, scans, scans[0])]
     return cases

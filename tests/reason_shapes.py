@@ -54,13 +54,13 @@ def filled_up(rule):
 
 
 def counting(number):
-    """The formula of the paper's second family with m = 8, over the patterns from that number on: 256 equations."""
-    return MAX + all_hold([after(number) + variable(0), after(number + 1) + after(number) * 8 + TRUTH])
+    """The formula of the paper's second family with m = 10, over the patterns from that number on: 1,024 equations."""
+    return MAX + all_hold([after(number) + variable(0), after(number + 1) + after(number) * 10 + TRUTH])
 
 
 def with_faults(rule):
     """By the number of a refusal, the rule with that fault. The formula is still there, but for its last byte in the
-    first. It has at most 50 nodes, and at most 30 patterns."""
+    first. It has at most 47 nodes, and at most 30 patterns."""
     patterns, formula = parted(rule)
     count = len(read_rule(rule).patterns)
     beside = patterns + BOTH + formula
