@@ -1,6 +1,7 @@
 """What brings the programs to their limits, and what they print of it: typed by hand from the paper."""
 import known_equations
 from known import ANY, EMPTY, POOL, bytes_of
+from known_empty import counted_beside
 
 # As many patterns and nodes as there may be, in as many bytes: pattern n covers code n alone, and necessity n waits for
 # code n, or n - 32. After the last of the 63 comes ff.
@@ -78,10 +79,17 @@ meets: rule.bin: No such file or directory
 meets: model.bin: No such file or directory
 """
 
+# A rule of 129 equations: what each of the three programs prints.
+REFUSED = "refused 9 at 0\n"
+
 # 64 states and 512 steps, each with a code: a chain of the codes that the longest rule waits for, whose last step comes
 # last. Without that step the chain stops short of ff. All other steps have code 255, which leads to the empty set.
 CHAIN = [(state, code, state + 1) for state, code in enumerate(WAITS)]
 STEPS = CHAIN[:62] + [(n % 64, 255, n % 63) for n in range(449)] + CHAIN[62:]
+
+
+def over():
+    return bytes_of(counted_beside(7))
 
 
 def programs():

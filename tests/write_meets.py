@@ -4,8 +4,8 @@ other files, from what is typed here and held against judging.
 With --check nothing is written, and the files are compared with what would be.
 """
 from compare import expect
-from equations import LARGEST_TABLE
-from expected import is_check, settle_files
+from equations import PROGRAM_TABLE, PROGRAMS
+from expected import fresh_table, is_check, settle_files
 from judging import judge
 from known import POOL, bytes_of
 from known_models import MEETING, PAPER
@@ -31,7 +31,7 @@ def programs():
 def main():
     checks = is_check(__doc__)
     for crate, rule, model, line in programs():
-        answer = judge(rule or b"", model or b"", bytearray(LARGEST_TABLE))
+        answer = judge(rule or b"", model or b"", fresh_table(PROGRAM_TABLE, 0), PROGRAMS)
         expect(answer == line, crate, answer)
         files = {"data/rule.bin": rule, "data/model.bin": model, "stdin": b"", "stdout": f"{line}\n".encode()}
         settle_files(crate, {name: content for name, content in files.items() if content is not None}, checks)

@@ -5,8 +5,8 @@ With --check nothing is written, and the files are compared with what would be.
 """
 import known_programs
 from compare import expect
-from equations import LARGEST_TABLE, listing, rows
-from expected import is_check, settle_files
+from equations import PROGRAM_TABLE, PROGRAMS, entries_of, listing, rows, said
+from expected import fresh_table, is_check, settle_files
 from judging import judge
 from models import file_of
 from running import run
@@ -16,14 +16,14 @@ from write_sift import BLOCK, sifted
 
 def check_rule(rule, text):
     """It has 255 bytes, and its last node decides what is printed."""
-    expect(len(rule) == 255 and listing(rule) == text, "the longest rule", listing(rule))
-    expect(listing(rule[:-1] + TRUTH) != text, "its last node")
+    expect(len(rule) == 255 and listing(rule, PROGRAMS) == text, "the longest rule", listing(rule, PROGRAMS))
+    expect(listing(rule[:-1] + TRUTH, PROGRAMS) != text, "its last node")
 
 
 def end_of(rule, scans):
     """The equation in which a run over the scans ends."""
-    table = b"".join(rows(rule))
-    return run(table, len(rows(rule)), 0, scans, bytearray(len(scans)), bytearray(len(scans))).state
+    table = rows(rule)
+    return run(entries_of(table), len(table), 0, scans, bytearray(len(scans)), bytearray(len(scans))).state
 
 
 def check_scans(rule):
@@ -41,9 +41,17 @@ def check_model(rule):
     shorter = file_of(64, known_programs.STEPS[:-1])
     expect(len(known_programs.STEPS) == 512 and len(model) == 2050, "the largest model")
     cases = [(rule, model), (rule, shorter), (rule[:-1] + TRUTH, model)]
-    answers = [judge(*case, bytearray(LARGEST_TABLE)) for case in cases]
+    answers = [judge(*case, fresh_table(PROGRAM_TABLE, 0), PROGRAMS) for case in cases]
     expect(answers == ["breaks", "meets", "meets"], "judgments", answers)
     return model
+
+
+def check_over(rule):
+    """The rule has one equation more than the programs take, and the library takes it."""
+    expect(said(rows(rule)) == "equations 129", "the rule of too many equations", said(rows(rule)))
+    expect(listing(rule, PROGRAMS) == known_programs.REFUSED, "its listing", listing(rule, PROGRAMS))
+    judged = judge(rule, b"", fresh_table(PROGRAM_TABLE, 0), PROGRAMS)
+    expect(judged + "\n" == known_programs.REFUSED, "its judgment", judged)
 
 
 def main():
@@ -51,10 +59,11 @@ def main():
     rule, text = known_programs.listings()[0]
     check_rule(rule, text)
     check_scans(rule)
-    model = check_model(rule)
+    model, over = check_model(rule), known_programs.over()
+    check_over(over)
     stdout = (known_programs.UNWRITTEN + text).encode() + known_programs.KEPT
-    stdout += ("breaks\n" + known_programs.UNREAD).encode()
-    files = {"data/rule.bin": rule, "data/scans.bin": known_programs.SCANS, "data/model.bin": model, "stdout": stdout}
+    stdout += ("breaks\n" + known_programs.UNREAD + 3 * known_programs.REFUSED).encode()
+    files = {"data/rule.bin": rule, "data/scans.bin": known_programs.SCANS, "data/model.bin": model, "data/over.bin": over, "stdout": stdout}
     settle_files("programs", files, checks)
     print(f"{len(rule)} bytes of a rule, {len(model)} of a model")
 

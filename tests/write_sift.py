@@ -6,7 +6,7 @@ With --check nothing is written, and the files are compared with what would be.
 from random import Random
 
 from compare import expect
-from equations import listing
+from equations import PROGRAMS, listing
 from expected import is_check, settle_files
 from known import POOL, bytes_of
 from known_equations import LONG
@@ -64,7 +64,7 @@ def main():
     settle_files("sift", {"data/rule.bin": paper, "stdin": scans, "stdout": bytes([37, 128, 5, 37, 5])}, checks)
     settle_files("sift_missing", {"stdin": scans, "stdout": b"refused 1 at 0\n"}, checks)
     longer, line = bytes_of(LONG), b"refused 2 at 256\n"
-    expect(listing(longer) == line.decode(), "the long rule")
+    expect(listing(longer, PROGRAMS) == line.decode(), "the long rule")
     settle_files("sift_refused", {"data/rule.bin": longer, "stdin": scans, "stdout": line}, checks)
     rule, scans = pool_rule(), long_stream(Random("sift"))
     written, verdicts = sifted(rule, scans)

@@ -1,6 +1,6 @@
 // Runs over the same scans under up to four rules on duty, lap after lap. bench/run measures it.
 // Standard input has the number of rules, one byte; the number of laps and the length of a rule file, three bytes each, highest first; and the file. All rules
-// on duty are that one, each with a table of its own. An input that is too short, or has over 4 rules or a file over 1,024 bytes, has no answer.
+// on duty are that one, each with a table of its own; over 128 equations it is refused. An input that is too short, or has over 4 rules or a file over 1,024 bytes, has no answer.
 use libc::STDIN_FILENO;
 use libc::STDOUT_FILENO;
 use running::Duty;
@@ -16,7 +16,10 @@ ghost use Prim.Native.Nat.{_≤_, _<_};
 ghost use mathlib.Core.Path.{_≡_};
 ghost use lib.ListN.{length};
 
-// The bytes of a table that has room for every rule.
+// A rule has at most so many equations.
+const LIMIT: usize = 128;
+
+// The entries of a table that has room for them.
 const TABLE: usize = 32768;
 
 // Those of four such tables.
@@ -49,7 +52,7 @@ fn make_scans(scans: &mut [u8]) {
 }
 
 // Fills a table for each of n rules, and lets the rule come on with it. A rule whose filling is refused doesn't come on.
-fn come_all(rule: &[u8], n: usize, tables: &mut [u8]) -> Came
+fn come_all(rule: &[u8], n: usize, tables: &mut [u16]) -> Came
     requires { ⌜ (n ≤ 4) × (length (now tables) ≡ 131072) ⌝ }
 {
     let mut answer = Counted::Equations(0);
@@ -57,7 +60,7 @@ fn come_all(rule: &[u8], n: usize, tables: &mut [u8]) -> Came
     let mut i = 0;
     while i < n {
         let base = TABLE * i;
-        let filled = synthesis::fill(rule, &mut tables[base..]);
+        let filled = synthesis::fill_within(rule, LIMIT, &mut tables[base..]);
         answer = filled;
         let changed = running::come_on(duty, i as u8, tables, base, filled_count(filled));
         let next = changed.duty;
@@ -69,7 +72,7 @@ fn come_all(rule: &[u8], n: usize, tables: &mut [u8]) -> Came
 
 // Runs so many laps. Each begins with the rules as the last one left them.
 fn run_laps(
-    tables: &[u8],
+    tables: &[u16],
     duty: Duty,
     laps: usize,
     scans: &[u8],
@@ -108,7 +111,7 @@ fn print_refused(answer: Counted) {
 // Runs the laps and prints what they come to, or prints the refusal of the filling.
 fn answer_laps(
     came: Came,
-    tables: &[u8],
+    tables: &[u16],
     laps: usize,
     scans: &[u8],
     output: &mut [u8],
@@ -132,7 +135,7 @@ fn read_rule(space: &mut [u8], n: usize, laps: usize)
     if io::read_full(STDIN_FILENO, space) < space.len() {
         return;
     }
-    let mut tables = [0u8; TABLES];
+    let mut tables = [0u16; TABLES];
     let mut scans = [0u8; SCANS];
     let mut output = [0u8; SCANS];
     let mut verdicts = [0u8; SCANS];

@@ -1,5 +1,5 @@
 // A test program: the three programs one after the other, on as long a rule and as large a model as there may be. First where nothing can
-// be written, then where all is, and then where not all can be read.
+// be written, then where all is, then where not all can be read, and at last on a rule of one equation more than they take.
 mod places;
 
 use libc::STDOUT_FILENO;
@@ -85,8 +85,19 @@ fn unread() {
     io::write_all(STDOUT_FILENO, &said[..n]);
 }
 
+// The rule has one equation more than the programs take, though the library takes it.
+fn over() {
+    os::rename(b"over.bin", b"rule.bin");
+    open_input(b"rule.bin");
+    commands::equations();
+    open_input(b"scans.bin");
+    commands::sift();
+    commands::meets();
+}
+
 fn main() {
     unwritten();
     written();
     unread();
+    over();
 }

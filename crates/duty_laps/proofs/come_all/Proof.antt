@@ -22,17 +22,20 @@ loop-holds c = search needs
 mul-base : tie.Need-mul-base Inv-loop μ-loop
 mul-base c = search needs
 
-sub-fill : tie.Need-sub-fill Inv-loop μ-loop
-sub-fill c = search needs
+mul-fill-within : tie.Need-mul-fill-within Inv-loop μ-loop
+mul-fill-within c = search needs
 
-part-fill-start : tie.Need-part-fill-start Inv-loop μ-loop
-part-fill-start c = search needs
+sub-fill-within : tie.Need-sub-fill-within Inv-loop μ-loop
+sub-fill-within c = search needs
 
-part-fill-end : tie.Need-part-fill-end Inv-loop μ-loop
-part-fill-end c = search needs
+part-fill-within-start : tie.Need-part-fill-within-start Inv-loop μ-loop
+part-fill-within-start c = search needs
 
-fill-requires : tie.Need-fill-requires Inv-loop μ-loop
-fill-requires c κs = search needs
+part-fill-within-end : tie.Need-part-fill-within-end Inv-loop μ-loop
+part-fill-within-end c = search needs
+
+fill-within-requires : tie.Need-fill-within-requires Inv-loop μ-loop
+fill-within-requires c κs = search needs
 
 cast-come-on : tie.Need-cast-come-on Inv-loop μ-loop
 cast-come-on c = search needs
@@ -67,10 +70,11 @@ come-all-spec =
     nobody-requires
     loop-holds
     mul-base
-    sub-fill
-    part-fill-start
-    part-fill-end
-    fill-requires
+    mul-fill-within
+    sub-fill-within
+    part-fill-within-start
+    part-fill-within-end
+    fill-within-requires
     cast-come-on
     filled-count-requires
     come-on-requires
