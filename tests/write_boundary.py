@@ -2,6 +2,8 @@
 
 With --check nothing is written, and the files are compared with what would be.
 """
+from array import array
+
 from compare import expect
 from equations import PAGE, fill, rows
 from expected import is_check, settle
@@ -13,27 +15,29 @@ from reasons import KEPT, by_violation
 from rules import Refusal
 from running import run
 
-# A rule with an unguarded variable, one with over 128 equations, one with 32, which are as many as the rule page shows, and one with 33, as its first
+# A rule with an unguarded variable, one with over 1,000 equations, one with 256, one with 32, which are as many as the rule page shows, and one with 33, as its first
 # doesn't come again; one with an ff each for codes 5 and 37, one that after either code drops 37, a model that is cut short inside its first step, and the
 # paper's scans.
 UNGUARDED = "6 7 0"
-MANY = counted(8)
+MANY = counted(10)
+PAST_BYTES = counted(8)
 FULL_PAGE = counted(5)
 OVER_PAGE = FULL_PAGE.replace(ANY + ONE, ANY + ONE + "4 5 0 2 ")
 EITHER = "1 1 5 5 1 2 5 5 4 5 0 3 5 1 3"
 ALIKE = "1 1 5 5 1 2 5 5 4 5 0 5 1 3 5 1 5 1 3"
 CUT = "16 2 17 0"
 SCANS = bytes_of("37 5 128 5 37 5")
+FIVES = bytes_of("5 5 5 5 5 5")
 
 # What the header has for a kept scan in place of a node.
 KEPT_VALUE = 64
 
-# What each byte of a table has before the first call: it is no entry.
-UNTOUCHED = 200
+# What each entry of a table has before the first call: no rule here has so many equations.
+UNTOUCHED = 51400
 
 # After the name of a function come its answer, 0 or the number of a refusal, and the value beside it: the count of equations, 1 for a model that meets
 # its rule and 0 for one that breaks it, the number of an ff node or 64 for a scan that is kept, or the place of the refusal. Where a table is lent, there
-# follows how many of its bytes are still untouched. A run has the equation and the counts of kept and of dropped scans there, and then the 8 bytes of the
+# follows how many of its entries are still untouched. A run has the equation and the counts of kept and of dropped scans there, and then the 8 bytes of the
 # output and all verdicts. The verdicts had 7 before the first run over each table, and the run with 5 of them has its own; the output has 7 before each.
 LINES = [
     # the number-pool rule has 3 equations; the one whose branches drop alike has 4, and 3 when they are merged
@@ -58,7 +62,7 @@ LINES = [
     "fill_preview 18 0 255",
     "fill_short 9 0 255",
     "judge 9 0 255",
-    # 767 bytes: one less than 3 rows take
+    # 767 entries: one less than 3 rows take
     "fill 10 0 767",
     "fill_preview 10 0 767",
     "fill_short 10 0 767",
@@ -82,7 +86,7 @@ LINES = [
     "count_short 0 1",
     "fill_preview 18 0 0",
     "fill_preview 18 0 0",
-    # 32 equations with a byte less than their rows take; then a table with as many bytes as they take, for 33 and for 32
+    # 32 equations with an entry less than their rows take; then a table with as many as they take, for 33 and for 32
     "count 0 32",
     "count_preview 0 32",
     "count_short 0 1",
@@ -110,6 +114,16 @@ LINES = [
     "fill_short 0 3 0",
     "run 0 1 6 0 37 5 128 5 37 5 7 7 0 0 0 0 0 0 7 7",
     "run 0 1 5 1 5 128 5 37 5 7 7 7 1 0 0 0 0 0 7 7",
+    # 256 equations, with an entry too few and with enough. Six times 5 lead from 31 to 63, 127, and 255 for good; from 255 the scans lead to 254, 253, 250, 245,
+    # 234 and 213; and 256 is none of them
+    "count 0 256",
+    "count_preview 18 0",
+    "count_short 0 1",
+    "fill 10 0 65535",
+    "fill 0 256 0",
+    "run 0 255 6 0 5 5 5 5 5 5 7 7 0 0 0 0 0 0 7 7",
+    "run 0 213 6 0 37 5 128 5 37 5 7 7 0 0 0 0 0 0 7 7",
+    "run 16 256 0 0 7 7 7 7 7 7 7 7 0 0 0 0 0 0 7 7",
 ]
 
 
@@ -149,16 +163,16 @@ def explained_line(rule, kept, scan):
     return line_of("explain", 0, KEPT_VALUE if word == KEPT else numbers[0])
 
 
-def ran_line(table, state, verdicts):
-    """The line of a run over the scans with 3 equations."""
+def ran_line(table, state, verdicts, count=3, scans=SCANS):
+    """The line of a run."""
     output = bytearray([7] * 8)
-    answer = run(table, 3, state, SCANS, output, verdicts)
+    answer = run(table, count, state, scans, output, verdicts)
     number = 0 if answer.refusal is None else answer.refusal.number
     return line_of("run", number, answer.state, answer.kept, answer.dropped, *output, *verdicts)
 
 
 def untouched(size):
-    return bytearray([UNTOUCHED] * size)
+    return array("H", [UNTOUCHED] * size)
 
 
 def refused_lines(rule):
@@ -196,13 +210,21 @@ def run_lines():
     return lines + [filled_line(fill_short, ALIKE, table)] + [ran_line(table, state, verdicts) for state in (0, 2)]
 
 
+def past_lines():
+    """Fillings and runs with as many equations as a byte has values."""
+    less, table, verdicts = untouched(65535), untouched(65536), bytearray([7] * 8)
+    lines = counted_lines(PAST_BYTES) + [filled_line(fill, PAST_BYTES, some) for some in (less, table)]
+    runs = ((31, FIVES), (255, SCANS), (256, SCANS))
+    return lines + [ran_line(table, state, verdicts, 256, scans) for state, scans in runs]
+
+
 def all_lines():
     """The lines by the Python."""
     counts = counted_lines(POOL) + counted_lines(ALIKE) + refused_lines(UNGUARDED) + refused_lines(MANY)
     reasons = [explained_line(POOL, "37", 5), explained_line(POOL, "37 128", 5)]
     reasons += [explained_line(POOL, "37 5", 5), explained_line(POOL, "37 5", 128), explained_line(UNGUARDED, "37 5", 5)]
     reasons += [explained_line(EITHER, "", scan) for scan in (5, 37, 6)] + [explained_line(EITHER, "37", 5)]
-    return counts + table_lines() + preview_lines() + reasons + run_lines()
+    return counts + table_lines() + preview_lines() + reasons + run_lines() + past_lines()
 
 
 def main():

@@ -27,8 +27,49 @@ pub const POOL: [u8; 23] = [
 
 pub const UNGUARDED: [u8; 3] = [6, 7, 0];
 
-// The paper's second family with m = 8, which has over 128 equations.
-pub const MANY: [u8; 33] = [
+// The paper's second family with m = 10, which has over 1,000 equations.
+pub const MANY: [u8; 37] = [
+    1,
+    255,
+    0,
+    31,
+    1,
+    1,
+    5,
+    5,
+    6,
+    4,
+    5,
+    0,
+    7,
+    0,
+    5,
+    1,
+    5,
+    0,
+    5,
+    0,
+    5,
+    0,
+    5,
+    0,
+    5,
+    0,
+    5,
+    0,
+    5,
+    0,
+    5,
+    0,
+    5,
+    0,
+    5,
+    0,
+    2,
+];
+
+// The same with m = 8: 256 equations.
+pub const PAST_BYTES: [u8; 33] = [
     1,
     255,
     0,
@@ -137,6 +178,8 @@ pub const MEETS: [u8; 17] = [16, 3, 17, 0, 37, 1, 18, 1, 2, 17, 2, 128, 0, 17, 0
 pub const CUT: [u8; 4] = [16, 2, 17, 0];
 
 pub const SCANS: [u8; 6] = [37, 5, 128, 5, 37, 5];
+
+pub const FIVES: [u8; 6] = [5, 5, 5, 5, 5, 5];
 
 // Both "after code 5, ff", its node 2, and "after code 37, ff", its node 4.
 pub const EITHER: [u8; 15] = [1, 1, 5, 5, 1, 2, 5, 5, 4, 5, 0, 3, 5, 1, 3];

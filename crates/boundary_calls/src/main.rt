@@ -1,80 +1,32 @@
-// A test program: the functions for C, called on the paper's rule, model and scans, and on input that is refused. Each call prints its answer and what it
-// handed back beside it; where a table was lent to be filled, how many bytes of that are untouched; and where it is a run, what both buffers hold.
+// A test program: the functions for C, called on the paper's rule, model and scans, on input that is refused, and on a rule of 256 equations. Each call prints its answer and what it
+// handed back beside it; where a table was lent to be filled, how many entries of that are untouched; and where it is a run, what both buffers hold.
 mod inputs;
+mod printing;
 
 use inputs::ALIKE;
 use inputs::BREAKS;
 use inputs::CANCELLED;
 use inputs::CUT;
 use inputs::EITHER;
+use inputs::FIVES;
 use inputs::FULL_PAGE;
 use inputs::MANY;
 use inputs::MEETS;
 use inputs::NOTHING;
 use inputs::OVER_PAGE;
+use inputs::PAST_BYTES;
 use inputs::POOL;
 use inputs::SCANS;
 use inputs::SYNCED;
 use inputs::UNGUARDED;
 use inputs::VIOLATING;
 use libc::STDOUT_FILENO;
+use printing::UNTOUCHED;
+use printing::print_byte;
+use printing::print_bytes;
+use printing::print_filled;
+use printing::print_result;
 use testing::print_field;
-ghost use Prim.Native.Nat.{_≤_};
-
-// What each byte of a table has before the first call: it is no entry.
-const UNTOUCHED: u8 = 200;
-
-// Prints a space and a byte.
-fn print_byte(byte: u8) {
-    print_field(byte as u64);
-}
-
-// The same for each of some bytes.
-fn print_bytes(bytes: &[u8]) {
-    let mut i = 0;
-    while i < bytes.len() {
-        print_byte(bytes[i]);
-        i += 1;
-    }
-}
-
-// 1 for a byte that no call has changed, else 0.
-fn one_if_untouched(byte: u8) -> usize
-    ensures { λ r. ⌜ r ≤ 1 ⌝ }
-{
-    if byte == UNTOUCHED { 1 } else { 0 }
-}
-
-// How many bytes of a table no call has changed.
-fn untouched(table: &[u8]) -> usize {
-    let mut n = 0;
-    let mut i = 0;
-    while i < table.len() {
-        n += one_if_untouched(table[i]);
-        i += 1;
-    }
-    n
-}
-
-// Prints the answer of a call, and the value beside it.
-fn print_answer(name: &[u8], number: u8, value: usize) {
-    io::write_all(STDOUT_FILENO, name);
-    print_byte(number);
-    print_field(value as u64);
-}
-
-// The line of a call to which no table was lent.
-fn print_result(name: &[u8], number: u8, value: usize) {
-    print_answer(name, number, value);
-    io::write_all(STDOUT_FILENO, b"\n");
-}
-
-// The line of one to which this table was lent.
-fn print_filled(name: &[u8], number: u8, value: usize, table: &[u8]) {
-    print_answer(name, number, value);
-    print_field(untouched(table) as u64);
-    io::write_all(STDOUT_FILENO, b"\n");
-}
 
 fn count(rule: &[u8]) {
     let mut value = 99;
@@ -95,21 +47,21 @@ fn count_short(rule: &[u8]) {
 }
 
 // Fills, and hands back the value.
-fn fill(rule: &[u8], table: &mut [u8]) -> usize {
+fn fill(rule: &[u8], table: &mut [u16]) -> usize {
     let mut value = 99;
     let number = boundary::jarveun_fill(rule, table, &mut value);
     print_filled(b"fill", number, value, table);
     value
 }
 
-fn fill_preview(rule: &[u8], table: &mut [u8]) -> usize {
+fn fill_preview(rule: &[u8], table: &mut [u16]) -> usize {
     let mut value = 99;
     let number = boundary::jarveun_fill_preview(rule, table, &mut value);
     print_filled(b"fill_preview", number, value, table);
     value
 }
 
-fn fill_short(rule: &[u8], table: &mut [u8]) -> usize {
+fn fill_short(rule: &[u8], table: &mut [u16]) -> usize {
     let mut value = 99;
     let number = boundary::jarveun_fill_short(rule, table, &mut value);
     print_filled(b"fill_short", number, value, table);
@@ -122,14 +74,14 @@ fn explain(rule: &[u8], kept: &[u8], scan: u8) {
     print_result(b"explain", number, value);
 }
 
-fn judge(rule: &[u8], model: &[u8], table: &mut [u8]) {
+fn judge(rule: &[u8], model: &[u8], table: &mut [u16]) {
     let mut value = 99;
     let number = boundary::jarveun_judge(rule, model, table, &mut value);
     print_filled(b"judge", number, value, table);
 }
 
-// Runs over the paper's scans. The line has the equation, both counts and both buffers after the answer.
-fn run(table: &[u8], count: usize, from: usize, verdicts: &mut [u8]) {
+// Runs over scans. The line has the equation, both counts and both buffers after the answer.
+fn run(table: &[u16], count: usize, from: usize, scans: &[u8], verdicts: &mut [u8]) {
     let mut equation = from;
     let mut output = [7u8; 8];
     let mut kept = 99;
@@ -138,7 +90,7 @@ fn run(table: &[u8], count: usize, from: usize, verdicts: &mut [u8]) {
         table,
         count,
         &mut equation,
-        &SCANS,
+        scans,
         &mut output,
         verdicts,
         &mut kept,
@@ -170,7 +122,7 @@ fn refuse(rule: &[u8]) {
     judge(rule, &CUT, &mut table);
 }
 
-// A byte less than three rows take.
+// An entry less than three rows take.
 fn fill_less_than_three() {
     let mut table = [UNTOUCHED; 767];
     fill(&POOL, &mut table);
@@ -181,7 +133,7 @@ fn fill_less_than_three() {
     judge(&POOL, &CUT, &mut table);
 }
 
-// A byte more.
+// An entry more.
 fn fill_more_than_three() {
     let mut table = [UNTOUCHED; 769];
     judge(&POOL, &CUT, &mut table);
@@ -190,7 +142,7 @@ fn fill_more_than_three() {
     fill(&POOL, &mut table);
 }
 
-// A byte less than the four long rows take, where the three short ones fit.
+// An entry less than the four long rows take, where the three short ones fit.
 fn fill_less_than_four() {
     let mut table = [UNTOUCHED; 1023];
     fill(&ALIKE, &mut table);
@@ -213,7 +165,7 @@ fn preview_too_many() {
     fill_preview(&MANY, &mut table);
 }
 
-// As many as it shows, with a byte less than their rows take.
+// As many as it shows, with an entry less than their rows take.
 fn preview_less_than_all() {
     count_all(&FULL_PAGE);
     let mut table = [UNTOUCHED; 8191];
@@ -246,10 +198,10 @@ fn run_long() {
     judge(&POOL, &MEETS, &mut table);
     let count = fill(&POOL, &mut table);
     let mut verdicts = [7u8; 8];
-    run(&table, count, 0, &mut verdicts);
-    run(&table, count, 3, &mut verdicts);
+    run(&table, count, 0, &SCANS, &mut verdicts);
+    run(&table, count, 3, &SCANS, &mut verdicts);
     let mut few = [7u8; 5];
-    run(&table, count, 2, &mut few);
+    run(&table, count, 2, &SCANS, &mut few);
 }
 
 // The same with the page's rows.
@@ -257,7 +209,7 @@ fn run_preview() {
     let mut table = [UNTOUCHED; 768];
     let count = fill_preview(&POOL, &mut table);
     let mut verdicts = [7u8; 8];
-    run(&table, count, 0, &mut verdicts);
+    run(&table, count, 0, &SCANS, &mut verdicts);
 }
 
 // The same with short rows.
@@ -265,8 +217,21 @@ fn run_short() {
     let mut table = [UNTOUCHED; 768];
     let count = fill_short(&ALIKE, &mut table);
     let mut verdicts = [7u8; 8];
-    run(&table, count, 0, &mut verdicts);
-    run(&table, count, 2, &mut verdicts);
+    run(&table, count, 0, &SCANS, &mut verdicts);
+    run(&table, count, 2, &SCANS, &mut verdicts);
+}
+
+// 256 equations, with an entry less than their rows take, and with as much. The runs begin in equations 31 and 255, and come to 255 or go on from it.
+fn run_past_bytes() {
+    count_all(&PAST_BYTES);
+    let mut less = [UNTOUCHED; 65535];
+    fill(&PAST_BYTES, &mut less);
+    let mut table = [UNTOUCHED; 65536];
+    let count = fill(&PAST_BYTES, &mut table);
+    let mut verdicts = [7u8; 8];
+    run(&table, count, 31, &FIVES, &mut verdicts);
+    run(&table, count, 255, &SCANS, &mut verdicts);
+    run(&table, count, 256, &SCANS, &mut verdicts);
 }
 
 fn main() {
@@ -285,4 +250,5 @@ fn main() {
     run_long();
     run_preview();
     run_short();
+    run_past_bytes();
 }

@@ -1,9 +1,9 @@
--- `untouched` is safe and ends. The measure is what is left of the table, and no more bytes are counted than were looked at.
+-- `printing::untouched` is safe and ends. The measure is what is left of the table, and no more entries are counted than were looked at.
 use Prim.Native.Nat.{_-_, _≤_}
 use lib.ListN.{length}
 use borrow.Author.Needs.{needs}
-use Rattle.boundary_calls.proofs.untouched.Statement.{statement}
-use Rattle.boundary_calls.proofs.untouched.Tie as tie
+use Rattle.boundary_calls.proofs.printing.untouched.Statement.{statement}
+use Rattle.boundary_calls.proofs.printing.untouched.Tie as tie
 
 abbrev Inv-loop : tie.InvT-loop
 Inv-loop table n₀ i₀ n i = (n ≤ i) × (i ≤ length table)
@@ -13,6 +13,9 @@ abbrev μ-loop : tie.MeasureT-loop
 
 loop-holds : tie.Need-loop-holds Inv-loop μ-loop
 loop-holds c = search needs
+
+mul-one-if-untouched : tie.Need-mul-one-if-untouched Inv-loop μ-loop
+mul-one-if-untouched c = search needs
 
 shared-slice-read-one-if-untouched : tie.Need-shared-slice-read-one-if-untouched Inv-loop μ-loop
 shared-slice-read-one-if-untouched c = search needs
@@ -42,6 +45,7 @@ untouched-spec =
     Inv-loop
     μ-loop
     loop-holds
+    mul-one-if-untouched
     shared-slice-read-one-if-untouched
     one-if-untouched-requires
     add-n

@@ -1,9 +1,9 @@
--- `print_bytes` is safe and ends. The measure is what is left of the bytes.
+-- `printing::print_bytes` is safe and ends. The measure is what is left of the bytes.
 use Prim.Native.Nat.{_-_, _≤_}
 use lib.ListN.{length}
 use borrow.Author.Needs.{needs}
-use Rattle.boundary_calls.proofs.print_bytes.Statement.{statement}
-use Rattle.boundary_calls.proofs.print_bytes.Tie as tie
+use Rattle.boundary_calls.proofs.printing.print_bytes.Statement.{statement}
+use Rattle.boundary_calls.proofs.printing.print_bytes.Tie as tie
 
 abbrev Inv-loop : tie.InvT-loop
 Inv-loop bytes i₀ i = i ≤ length bytes
