@@ -1,9 +1,8 @@
 -- The programs' limit: it is under the library's, so the smaller of the two is itself, and the answers under the two limits are known. Under it a listing has
 -- few lines, since each leads to a later position and none is behind the last.
-use Prim.Native.Nat.{ℕ, _≤_}
+use Prim.Native.Nat.{_≤_}
 use mathlib.Core.Path.{_≡_, refl, sym}
 use mathlib.Core.Bool.{Bool, true, false, cond}
-use mathlib.Core.List.{List}
 use native.Mathlib.Omega.{arith}
 use Rattle.reading.specs.File.{ruleOf}
 use Rattle.reading.specs.Numbered.{readingOf}
@@ -15,7 +14,7 @@ use Rattle.synthesis.proofs.Tables.SynthesisOutcomes.{filling-within}
 use Rattle.synthesis.proofs.Tables.Equations.{answers-count}
 use Rattle.synthesis.proofs.Quotients.TwoLimits.{old-rules-stay}
 use Rattle.commands.specs.Printing.{programLimit, Stops}
-use Rattle.commands.specs.Promises.{ProgramsKeep128, FewLines}
+use Rattle.commands.specs.Promises.{ProgramsKeep128, FewLines, EquationsHandsBack}
 use Rattle.commands.proofs.Leading.{lead-leads}
 
 pub programs-keep-128 : ProgramsKeep128
@@ -27,6 +26,9 @@ programs-keep-128 s = record {
   never-ten = filling-within 128 s;
   answers = old-rules-stay 128 most s (omega arith);
 }
+
+pub equations-hands-back : EquationsHandsBack
+equations-hands-back s table r shows = shows .answer
 
 one-line : (written : Bool) → cond written 1 0 ≤ 32802
 one-line true = omega arith

@@ -31,8 +31,7 @@ use Rattle.commands.specs.Sifting.{UnderRule, Sifts}
 
 -- 1. A program takes rules of at most 128 equations, whatever the library takes. With its limit the outcomes that the contracts of `count_within`, `fill_within`
 -- and `judge_within` name are those under 128. Its table has 256 entries for each of so many, so that 10 never comes: the answer is that of counting. So it counts
--- n exactly where the library does and n is at most 128, and refuses with 9 what the library counts beyond; other refusals are the library's. Its runs are the
--- library's.
+-- n exactly where the library does and n is at most 128, and refuses with 9 what the library counts beyond; other refusals are the library's.
 pub record KeepsLimit (s : List ℕ) : Type 0 where
   pub limit : programLimit ≡ 128
   pub counting : synthesisOf (min programLimit most) s ≡ synthesisOf 128 s
@@ -57,6 +56,10 @@ PrintsAnswer =
 abbrev pub FewLines : Type 0
 FewLines = (s table : List ℕ) (r : EquationsResult) → Shows s table r → r .lines ≤ 32802
 
+-- The answer that it hands back is that of counting under 128, however far printing came.
+abbrev pub EquationsHandsBack : Type 0
+EquationsHandsBack = (s table : List ℕ) (r : EquationsResult) → Shows s table r → r .answer ≡ countedOf (synthesisOf 128 s)
+
 -- 3. The 4,096 bytes that each program reads of a rule file settle the answer to the whole of it.
 abbrev pub SettledByBuffer : Type 0
 SettledByBuffer = (s : List ℕ) → synthesisOf programLimit (take 4096 s) ≡ synthesisOf programLimit s
@@ -67,7 +70,7 @@ JudgmentSettledByBuffer = (s f : List ℕ) → andThen (synthesisOf programLimit
 
 -- ---- what is handed back
 
--- 4. Under an accepted rule, calls as the contract of `sift` has them sift by the rule, however the scans come in blocks.
+-- 4. The runs are the library's. Under an accepted rule, calls as the contract of `sift` has them sift by the rule, however the scans come in blocks.
 abbrev pub SiftsByRule : Type 0
 SiftsByRule =
     (s table : List ℕ) (r : Rule) (n : ℕ) → Bytes s → ruleOf s ≡ accepted r → countedOf (synthesisOf programLimit s) ≡ Equations n
@@ -127,6 +130,7 @@ pub record Promises : Type 1 where
   pub programs-keep-128 : ProgramsKeep128
   pub prints-answer : PrintsAnswer
   pub few-lines : FewLines
+  pub equations-hands-back : EquationsHandsBack
   pub settled-by-buffer : SettledByBuffer
   pub judgment-settled-by-buffer : JudgmentSettledByBuffer
   pub sifts-by-rule : SiftsByRule

@@ -91,22 +91,22 @@ module _ (limit : ℕ) (s table f : List ℕ) (bytes : Bytes s) (bytes′ : Byte
   abbrev judges : Outcome RuleAndModel
   judges = judgingOf limit s (length table) f
 
-  judge-refusal-clause : (number place : ℕ) → JudgedAs (judges) (Judged′.Refused number place)
+  judge-refusal-clause : (number place : ℕ) → JudgedAs judges (Judged′.Refused number place)
       → JudgeRefused (CountRefused limit 9 s) (countedOf counts) (length table) f number place
   unfolding judgingOf
   judge-refusal-clause number place judged =
-      andThen-refused fills _ (judged-refuses (judges) number place judged)
+      andThen-refused fills _ (judged-refuses judges number place judged)
       (λ e. in-filling (fill-refused-within limit s table bytes number place .0 (ap countedOf e)))
       (λ y filled e.
-      let (counts, room) = filling-accepted {counting = counts} (length table) (filling-by-count limit s (length table)) y filled in
+      let (counted, room) = filling-accepted {counting = counts} (length table) (filling-by-count limit s (length table)) y filled in
       andThen-refused (phoneOf f) _ e
       (λ e′.
-      in-model (length (y .equations)) (ap countedOf counts) room
+      in-model (length (y .equations)) (ap countedOf counted) room
       (refuses-at-the-fault f bytes′ number place .0 (model-refused (phoneOf f) number place .0 e′)))
       (λ p read e′. absurd (never-refused e′)))
 
   judge-clause-refuses : {number place : ℕ} → JudgeRefused (CountRefused limit 9 s) (countedOf counts) (length table) f number place
-      → JudgedAs (judges) (Judged′.Refused number place)
+      → JudgedAs judges (Judged′.Refused number place)
   unfolding judgingOf
   judge-clause-refuses {number} {place} (in-filling b) = rw (counted-refuses fills number place (fill-refused-within limit s table bytes number place .1 b))
   judge-clause-refuses {number} {place} (in-model n e room fault) =
@@ -114,9 +114,9 @@ module _ (limit : ℕ) (s table f : List ℕ) (bytes : Bytes s) (bytes′ : Byte
       let read = model-refused (phoneOf f) number place .1 (refuses-at-the-fault f bytes′ number place .1 fault) in
       rw (filled, read)
 
-  pub judge-refused : (answer : Judged) → JudgedAs (judges) answer
+  pub judge-refused : (answer : Judged) → JudgedAs judges answer
       → RefusedIff answer Judged′.Refused (JudgeRefused (CountRefused limit 9 s) (countedOf counts) (length table) f)
   judge-refused answer judged number place = (
     λ e. judge-refusal-clause number place (rw e at judged),
-    λ h. refusal-only-answer (judges) answer number place judged (judge-clause-refuses h),
+    λ h. refusal-only-answer judges answer number place judged (judge-clause-refuses h),
   )

@@ -1,7 +1,7 @@
 -- Each family by the sets that its equations are. Under another limit a file has the answer that follows from the two limits. Every equation but the first is
 -- found from an earlier one, so its number stands in the table: of 256 equations 255 too.
 use Prim.Native.Nat.{ℕ, _*_, _≤_, _<_}
-use mathlib.Core.Path.{_≡_, refl, sym, _∙_, ap}
+use mathlib.Core.Path.{_≡_, _∙_, ap}
 use mathlib.Core.Bool.{Bool, true, false, cond}
 use mathlib.Core.List.{List}
 use native.Mathlib.Omega.{arith}
@@ -12,7 +12,6 @@ use Rattle.reading.specs.Rule.{Rule}
 use Rattle.reading.proofs.Basics.ListLaws.{getD-inside}
 use Rattle.synthesis.specs.Monitor.{mark, most, Answer, dropped, next, cases, rowOf, lookup}
 use Rattle.synthesis.specs.Search.{indexOf}
-use Rattle.synthesis.specs.Answering.{answerOf}
 use Rattle.synthesis.specs.Building.{equationsOf, withEquations, tableLeft, Fills}
 use Rattle.synthesis.proofs.Numberings.FindingOrder.{numbered-as-found}
 use Rattle.synthesis.proofs.Tables.Equations.{equations-distinct}

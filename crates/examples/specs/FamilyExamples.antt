@@ -55,5 +55,5 @@ pub record FamilyExamples : Type 0 where
   -- m = 9 gives 512, m = 10 gives 9
   pub window-9 : ReadAs (windowFile 9) (windowRule 9) (Equations 512)
   pub window-10 : ReadAs (windowFile 10) (windowRule 10) (Refused 9 0)
-  -- under a limit of 0 every rule that isn't refused before is 9
+  -- under a limit of 0 the number-pool rule is 9, as every rule is that isn't refused before
   pub pool-within-0 : countedOf (synthesisOf 0 poolFile) ≡ Refused 9 0

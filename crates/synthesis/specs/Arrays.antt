@@ -122,6 +122,10 @@ answerBy after enabled falsities e c = answerFrom falsities (gathered after (int
 
 -- ---- the search
 
+-- how many hints there are
+abbrev pub hintCount : ℕ
+hintCount = 4096
+
 -- i is a place of e in the list; or the list's length, where e isn't in it
 abbrev pub IsPlaceOf : ℕ → List ℕ → (i : ℕ) → Type 0
 IsPlaceOf e l i = ((i < length l) × (getD l i 0 ≡ e)) ⊎ ((i ≡ length l) × (indexOf e l ≡ i))

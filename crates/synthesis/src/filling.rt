@@ -11,11 +11,11 @@ ghost use lib.ListN.{length, take};
 ghost use Rattle.synthesis.specs.Monitor.{mark, most};
 ghost use Rattle.synthesis.specs.Answering.{answerFrom};
 ghost use Rattle.synthesis.specs.Table.{entryOf, entriesOf, filled};
-ghost use Rattle.synthesis.specs.Arrays.{answerBy, Distinct};
+ghost use Rattle.synthesis.specs.Arrays.{answerBy, hintCount, Distinct};
 
 // The entry for a set of reached nodes: dropped where it has an ff node, else its index among the n equations.
 fn entry(found: &[u64], hints: &mut [u16], n: usize, falsities: u64, reached: u64) -> u16
-    requires { ⌜ (n ≤ most) × (n ≤ length (now found)) × Distinct (take n (now found)) × (length (now hints) ≡ 4096) ⌝ }
+    requires { ⌜ (n ≤ most) × (n ≤ length (now found)) × Distinct (take n (now found)) × (length (now hints) ≡ hintCount) ⌝ }
     ensures { λ r. ⌜ r ≡ entryOf mark (take n (now (found .entry))) (answerFrom falsities reached) ⌝ }
 {
     if reached & falsities != 0 {
@@ -36,7 +36,7 @@ fn fill_row(
     row: &mut [u16],
 )
     requires { ⌜ (length (now after) ≡ 64) × (length (now enabled) ≡ 256) × (n ≤ most) × (n ≤ length (now found))
-        × Distinct (take n (now found)) × (length (now hints) ≡ 4096) × (length (now row) ≡ 256) ⌝ }
+        × Distinct (take n (now found)) × (length (now hints) ≡ hintCount) × (length (now row) ≡ 256) ⌝ }
     ensures { λ _. ⌜ now (row .exit)
         ≡ entriesOf mark (answerBy (now (after .entry)) (now (enabled .entry)) falsities) (take n (now (found .entry))) e 256 ⌝ }
 {
@@ -59,7 +59,7 @@ fn fill_rows(
     table: &mut [u16],
 )
     requires { ⌜ (length (now after) ≡ 64) × (length (now enabled) ≡ 256) × (n ≤ most) × (n ≤ length (now found))
-        × Distinct (take n (now found)) × (length (now hints) ≡ 4096) × (256 * n ≤ length (now table)) ⌝ }
+        × Distinct (take n (now found)) × (length (now hints) ≡ hintCount) × (256 * n ≤ length (now table)) ⌝ }
     ensures { λ _. ⌜ now (table .exit)
         ≡ filled mark (answerBy (now (after .entry)) (now (enabled .entry)) falsities) (take n (now (found .entry))) 256 (now (table .entry)) ⌝ }
 {

@@ -1,14 +1,15 @@
 // The search for the equations of a rule. They are numbered by their indices in an array. Hints say where a set may stand in it.
 ghost use mathlib.Core.Path.{_≡_};
-ghost use mathlib.Core.Bool.{true};
+ghost use mathlib.Core.Bool.{_&&_};
 ghost use Prim.Native.Nat.{ℕ, _≤_, _<_};
 ghost use mathlib.Core.List.{List};
+ghost use lib.Dec.{eqb, ltb};
 ghost use lib.ListN.{length, getD, take};
 ghost use Rattle.synthesis.specs.Monitor.{most, cases};
 ghost use Rattle.synthesis.specs.NodeSet.{intersection};
 ghost use Rattle.synthesis.specs.Answering.{answerFrom};
 ghost use Rattle.synthesis.specs.Search.{indexOf, insert, explored, expanded, found};
-ghost use Rattle.synthesis.specs.Arrays.{gathered, answerBy, IsPlaceOf, Holds};
+ghost use Rattle.synthesis.specs.Arrays.{gathered, answerBy, hintCount, IsPlaceOf, Holds};
 
 // How many hints there are.
 pub(crate) const HINTS: usize = 4096;
@@ -60,7 +61,7 @@ fn find(list: &[u64], n: usize, e: u64) -> usize
 // Whether a set stands at an index among the first n of the list.
 fn stands_at(list: &[u64], n: usize, i: usize, e: u64) -> bool
     requires { ⌜ n ≤ length (now list) ⌝ }
-    ensures { λ r. ⌜ (r ≡ true → (i < n) × (getD (now (list .entry)) i 0 ≡ e)) ⌝ }
+    ensures { λ r. ⌜ r ≡ ltb i n && eqb (getD (now (list .entry)) i 0) e ⌝ }
 {
     if i < n {
         return list[i] == e;
@@ -71,7 +72,7 @@ fn stands_at(list: &[u64], n: usize, i: usize, e: u64) -> bool
 // A place of a set among the first n of the list, or n. Its hints are tried first, and one is believed only where the set stands there. After a search
 // both are what was found; n, where a new set may be put next.
 pub(crate) fn find_by_hint(list: &[u64], hints: &mut [u16], n: usize, e: u64) -> usize
-    requires { ⌜ (n ≤ most) × (n ≤ length (now list)) × (length (now hints) ≡ 4096) ⌝ }
+    requires { ⌜ (n ≤ most) × (n ≤ length (now list)) × (length (now hints) ≡ hintCount) ⌝ }
     ensures { λ r. ⌜ IsPlaceOf e (take n (now (list .entry))) r ⌝ }
 {
     let first = (e % HINT_MODULUS) as usize;
@@ -93,7 +94,7 @@ pub(crate) fn find_by_hint(list: &[u64], hints: &mut [u16], n: usize, e: u64) ->
 
 // Puts a set after the first n of the list if it is new. One more than the limit says that there was no room for it.
 fn insert(list: &mut [u64], hints: &mut [u16], limit: usize, n: usize, e: u64) -> usize
-    requires { ⌜ (limit ≤ most) × (limit ≤ length (now list)) × (length (now hints) ≡ 4096) ⌝ }
+    requires { ⌜ (limit ≤ most) × (limit ≤ length (now list)) × (length (now hints) ≡ hintCount) ⌝ }
     ensures { λ r. ⌜ ((l : List ℕ) → Holds limit (now (list .entry)) n l → Holds limit (now (list .exit)) r (insert l e)) ⌝ }
 {
     if limit < n {
@@ -119,7 +120,7 @@ fn insert_answer(
     falsities: u64,
     reached: u64,
 ) -> usize
-    requires { ⌜ (limit ≤ most) × (limit ≤ length (now list)) × (length (now hints) ≡ 4096) ⌝ }
+    requires { ⌜ (limit ≤ most) × (limit ≤ length (now list)) × (length (now hints) ≡ hintCount) ⌝ }
     ensures { λ r. ⌜ ((l : List ℕ) → Holds limit (now (list .entry)) n l
         → Holds limit (now (list .exit)) r (cases (answerFrom falsities reached) l (insert l))) ⌝ }
 {
@@ -141,7 +142,7 @@ fn explore(
     e: u64,
 ) -> usize
     requires { ⌜ (length (now after) ≡ 64) × (length (now enabled) ≡ 256) × (limit ≤ most) × (limit ≤ length (now list))
-        × (length (now hints) ≡ 4096) ⌝ }
+        × (length (now hints) ≡ hintCount) ⌝ }
     ensures { λ r. ⌜ ((l : List ℕ) → Holds limit (now (list .entry)) n l
         → Holds limit (now (list .exit)) r (explored 256 (answerBy (now (after .entry)) (now (enabled .entry)) falsities) e 256 l)) ⌝ }
 {
@@ -167,7 +168,7 @@ fn expand(
     k: usize,
 ) -> usize
     requires { ⌜ (length (now after) ≡ 64) × (length (now enabled) ≡ 256) × (limit ≤ most) × (limit ≤ length (now list))
-        × (length (now hints) ≡ 4096) ⌝ }
+        × (length (now hints) ≡ hintCount) ⌝ }
     ensures { λ r. ⌜ ((l : List ℕ) → Holds limit (now (list .entry)) n l
         → Holds limit (now (list .exit)) r (expanded 256 (answerBy (now (after .entry)) (now (enabled .entry)) falsities) k l)) ⌝ }
 {

@@ -2,7 +2,7 @@
 use Prim.Native.Nat.{ℕ, zero, suc, _≤_, _<_}
 use mathlib.Core.Path.{_≡_, refl, sym, _∙_, ap}
 use mathlib.Core.Logic.{inl, inr}
-use mathlib.Core.Bool.{Bool, true, false, cond}
+use mathlib.Core.Bool.{Bool, true, false, cond, _&&_, true≢false}
 use mathlib.Core.List.{List, [], _∷_, _++_}
 use native.Mathlib.Decide.{decLt}
 use native.Mathlib.Omega.{arith}
@@ -75,8 +75,16 @@ module _ (e : ℕ) (l : List ℕ) (n : ℕ) (inside : n ≤ length l) where
 
 -- ---- a place of a number
 
-pub take-place : (e : ℕ) (l : List ℕ) (n : ℕ) → n ≤ length l → (i : ℕ) → (i < n) × (getD l i 0 ≡ e) → IsPlaceOf e (take n l) i
-take-place e l n inside i (h, is) = inl (omega (arith, h, length-take-le n l inside), getD-take n l i 0 h ∙ is)
+-- as a test tells it
+pub take-place : (e : ℕ) (l : List ℕ) (n : ℕ) → n ≤ length l → (i : ℕ) → (ltb i n && eqb (getD l i 0) e) ≡ true → IsPlaceOf e (take n l) i
+take-place e l n inside i = on (ltb i n) refl (eqb (getD l i 0) e) refl
+  where
+    on : (b : Bool) → ltb i n ≡ b → (b′ : Bool) → eqb (getD l i 0) e ≡ b′ → (b && b′) ≡ true → IsPlaceOf e (take n l) i
+    on true p true q t =
+        let h = ltb-true i n p in
+        inl (omega (arith, h, length-take-le n l inside), getD-take n l i 0 h ∙ eqb-true (getD l i 0) e q)
+    on true p false q t = absurd (true≢false (sym t))
+    on false p b′ q t = absurd (true≢false (sym t))
 
 pub index-place : (e : ℕ) (l : List ℕ) → IsPlaceOf e l (indexOf e l)
 index-place e l = on (decLt (indexOf e l) (length l))

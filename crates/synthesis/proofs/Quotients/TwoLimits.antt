@@ -9,7 +9,7 @@ use native.Mathlib.Omega.{arith}
 use lib.Dec.{ltb}
 use lib.ListN.{length}
 use borrow.Author.Tests.{lt-ltb, le-ltb, ltb-true}
-use Rattle.reading.specs.File.{Outcome, accepted, refused, andThen}
+use Rattle.reading.specs.File.{Outcome, accepted, andThen}
 use Rattle.reading.proofs.Basics.Outcomes.{accepted-is, refuse-refused, andThen-refused, never-refused}
 use Rattle.synthesis.specs.Monitor.{lookup}
 use Rattle.synthesis.specs.Table.{WellFormedTable}

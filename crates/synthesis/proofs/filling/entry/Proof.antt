@@ -1,5 +1,4 @@
 -- `filling::entry` meets its contract. Among distinct equations a set has one place, its index.
-use mathlib.Core.Path.{_∙_}
 use native.Mathlib.Omega.{arith}
 use lib.ListN.{take}
 use lib.Seq.{length-take-le}

@@ -7,14 +7,14 @@ use lib.ListN.{length, take, drop}
 use borrow.Author.Needs.{needs}
 use Rattle.synthesis.specs.Monitor.{mark}
 use Rattle.synthesis.specs.Table.{entriesOf}
-use Rattle.synthesis.specs.Arrays.{answerBy}
+use Rattle.synthesis.specs.Arrays.{answerBy, hintCount}
 use Rattle.synthesis.proofs.Functions.FillingRows.{entries-next, entries-all}
 use Rattle.synthesis.proofs.filling.fill_row.Statement.{statement}
 use Rattle.synthesis.proofs.filling.fill_row.Tie as tie
 
 abbrev Inv-loop : tie.InvT-loop
 Inv-loop after enabled falsities found hints₀ n e row₀ c₀ hints row c =
-    (c ≤ 256) × (length hints ≡ 4096) × (length row ≡ 256) × (row ≡ entriesOf mark (answerBy after enabled falsities) (take n found) e c ++ drop c row₀)
+    (c ≤ 256) × (length hints ≡ hintCount) × (length row ≡ 256) × (row ≡ entriesOf mark (answerBy after enabled falsities) (take n found) e c ++ drop c row₀)
 
 abbrev μ-loop : tie.MeasureT-loop
 μ-loop after enabled falsities found hints₀ n e row₀ c₀ hints row c = 256 - c

@@ -8,14 +8,14 @@ use lib.Seq.{getD-take, length-take-le}
 use borrow.Author.Needs.{needs}
 use Rattle.synthesis.specs.Monitor.{mark}
 use Rattle.synthesis.specs.Table.{rows}
-use Rattle.synthesis.specs.Arrays.{answerBy}
+use Rattle.synthesis.specs.Arrays.{answerBy, hintCount}
 use Rattle.synthesis.proofs.Functions.FillingRows.{rows-keep-length, rows-next, rows-all}
 use Rattle.synthesis.proofs.filling.fill_rows.Statement.{statement}
 use Rattle.synthesis.proofs.filling.fill_rows.Tie as tie
 
 abbrev Inv-loop : tie.InvT-loop
 Inv-loop after enabled falsities found hints₀ n table₀ k₀ hints table k =
-    (k ≤ n) × (length hints ≡ 4096) × (table ≡ rows mark (answerBy after enabled falsities) (take n found) 256 k ++ drop (256 * k) table₀)
+    (k ≤ n) × (length hints ≡ hintCount) × (table ≡ rows mark (answerBy after enabled falsities) (take n found) 256 k ++ drop (256 * k) table₀)
 
 abbrev μ-loop : tie.MeasureT-loop
 μ-loop after enabled falsities found hints₀ n table₀ k₀ hints table k = n - k

@@ -7,13 +7,13 @@ use native.Mathlib.Omega.{arith}
 use lib.ListN.{length}
 use borrow.Author.Needs.{needs}
 use Rattle.synthesis.specs.Search.{explored}
-use Rattle.synthesis.specs.Arrays.{answerBy, Holds}
+use Rattle.synthesis.specs.Arrays.{answerBy, hintCount, Holds}
 use Rattle.synthesis.proofs.search.explore.Statement.{statement}
 use Rattle.synthesis.proofs.search.explore.Tie as tie
 
 abbrev Inv-loop : tie.InvT-loop
 Inv-loop after enabled falsities list₀ hints₀ limit n e m₀ c₀ list hints m c =
-    (c ≤ 256) × (length list ≡ length list₀) × (length hints ≡ 4096)
+    (c ≤ 256) × (length list ≡ length list₀) × (length hints ≡ hintCount)
     × ((l : List ℕ) → Holds limit list₀ n l → Holds limit list m (explored 256 (answerBy after enabled falsities) e c l))
 
 abbrev μ-loop : tie.MeasureT-loop

@@ -1,5 +1,6 @@
 -- `search::find_by_hint` meets its contract, whatever the hints are: one is believed only where the set stands there.
 use Prim.Native.Nat.{_%_}
+use mathlib.Core.Path.{sym, _∙_}
 use native.Mathlib.Omega.{arith}
 use lib.ListN.{take, length-set}
 use borrow.Author.Needs.{needs}
@@ -20,7 +21,7 @@ stands-at-requires : tie.Need-stands-at-requires
 stands-at-requires c κs = search needs
 
 returns : tie.Need-returns
-returns c = take-place _ _ _ (c .before .before .before .before .before .pre .1) _ (c .before .stands-at .ensures (c .if1 .taken))
+returns c = take-place _ _ _ (c .before .before .before .before .before .pre .1) _ (sym (c .before .stands-at .ensures) ∙ c .if1 .taken)
 
 mul-other : tie.Need-mul-other
 mul-other c = search needs
@@ -35,7 +36,7 @@ stands-at-requires-2 : tie.Need-stands-at-requires-2
 stands-at-requires-2 c κs = search needs
 
 returns-2 : tie.Need-returns-2
-returns-2 c = take-place _ _ _ (c .before .before .before .before .before .before .before .before .pre .1) _ (c .before .stands-at2 .ensures (c .if2 .taken))
+returns-2 c = take-place _ _ _ (c .before .before .before .before .before .before .before .before .pre .1) _ (sym (c .before .stands-at2 .ensures) ∙ c .if2 .taken)
 
 find-requires : tie.Need-find-requires
 find-requires c κs = search needs

@@ -8,13 +8,13 @@ use native.Mathlib.Numerals.{add-one}
 use lib.ListN.{length}
 use borrow.Author.Needs.{needs}
 use Rattle.synthesis.specs.Search.{found}
-use Rattle.synthesis.specs.Arrays.{answerBy, Holds}
+use Rattle.synthesis.specs.Arrays.{answerBy, hintCount, Holds}
 use Rattle.synthesis.proofs.search.search.Statement.{statement}
 use Rattle.synthesis.proofs.search.search.Tie as tie
 
 abbrev Inv-loop : tie.InvT-loop
 Inv-loop after enabled falsities first list₀ limit hints₀ n₀ k₀ list hints n k =
-    (k ≤ limit) × (length list ≡ length list₀) × (length hints ≡ 4096) × Holds limit list n (found 256 (answerBy after enabled falsities) k first)
+    (k ≤ limit) × (length list ≡ length list₀) × (length hints ≡ hintCount) × Holds limit list n (found 256 (answerBy after enabled falsities) k first)
 
 abbrev μ-loop : tie.MeasureT-loop
 μ-loop after enabled falsities first list₀ limit hints₀ n₀ k₀ list hints n k = limit - k
