@@ -6,7 +6,7 @@ from expected import fresh_table
 from known import bytes_of
 from rules import Refusal
 
-# The terms of before C-19: entries of one byte. The mark is an entry too now, and no other entry of up to 128 equations is as high.
+# The terms of before C-19, when an entry was one byte.
 BYTES = Terms(PROGRAMS.most, PROGRAMS.number, 255)
 
 

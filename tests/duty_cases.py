@@ -9,8 +9,9 @@ import duty_typed
 import duty_wide
 from compare import Disagreement, expect
 from duty_script import DutyScript
-from duty_sorts import lacking
+from duty_sorts import LEAST, SORTS
 from equations import rows
+from expected import lacking
 from stream_plays import RATES
 
 # How many rules a day at random has, by turns.
@@ -83,6 +84,7 @@ def whole_script():
                 play(random, script, number, given)
             except Disagreement as disagreement:
                 raise Disagreement(play, number) from disagreement
-    expect(lacking(script.tally) == [], "too few", lacking(script.tally))
+    too_few = lacking(script.tally, SORTS, LEAST)
+    expect(too_few == [], "too few", too_few)
     expect(script.tally["days"] >= LEAST_DAYS, "too few days", script.tally["days"])
     return script

@@ -1,7 +1,6 @@
 """Sorts of calls on duty, by what is handed in, and how many of each sort there have to be."""
 from duty import MOST_ON_DUTY, VACANT, Spell
 from equations import CODES, DESK
-from expected import told
 from running import is_short
 
 # There are at least so many calls or scans of each sort.
@@ -154,15 +153,3 @@ def of_scans(ran):
             yield from ["dropped though another rule would move"] * any(moved)
         elif sum(moved) > 1:
             yield "kept and moves several"
-
-
-def lacking(tally):
-    """The sorts of which there are too few."""
-    return [f"{tally[sort]} of {sort}" for sort in SORTS if tally[sort] < LEAST]
-
-
-def told_of(tally):
-    """What was counted beside the sorts, and which sort is the rarest."""
-    rarest = min(SORTS, key=lambda sort: tally[sort])
-    others = {what: number for what, number in tally.items() if what not in SORTS}
-    return f"{told(others)}; of {len(SORTS)} sorts the rarest is {rarest!r} with {tally[rarest]}"

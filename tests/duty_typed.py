@@ -7,7 +7,6 @@ from equations import rows, said
 from joining import joined
 from known_duties import END
 from rules import Refusal
-from sifting import kept
 from expected import MOST_ENTRIES
 
 TABLES = known_duties.tables()

@@ -57,6 +57,18 @@ def told(tally):
     return ", ".join(f"{number} {what}" for what, number in sorted(tally.items()))
 
 
+def lacking(tally, sorts, least):
+    """The sorts of which there are too few."""
+    return [f"{tally[sort]} of {sort}" for sort in sorts if tally[sort] < least]
+
+
+def told_of(tally, sorts):
+    """What was counted beside the sorts, and which sort is the rarest."""
+    rarest = min(sorts, key=lambda sort: tally[sort])
+    others = {what: number for what, number in tally.items() if what not in sorts}
+    return f"{told(others)}; of {len(sorts)} sorts the rarest is {rarest!r} with {tally[rarest]}"
+
+
 def is_check(description):
     """Whether the script was started with --check."""
     parser = ArgumentParser(description=description, allow_abbrev=False)

@@ -1,11 +1,12 @@
 """Verdicts of sifting, and runs with all that they return and write, typed by hand from the paper. Only the table of
-the number-pool rule is computed, by the Python equations."""
+the number-pool rule and two of 256 equations are computed, by the Python equations."""
 from array import array
 
 from equations import entries_of, rows
-from known import ANY, ONE, POOL, SIX, bytes_of
+from known import ANY, ONE, POOL, SIX, bytes_of, counted
 from known_empty import NEVER_LATER, ROUND_AGAIN
 from known_equations import SEVEN
+from known_wide import later
 
 # Any code, 5, 6: "6 is never the second code after 5"
 SECOND = ANY + ONE + SIX + "6 4 5 0 7 0 5 1 5 0 5 2 3"
@@ -29,6 +30,8 @@ SIFTED = [
     # an empty pattern takes no scan, and the ff after it drops none
     (NEVER_LATER, "5 5 37 5", "0 0 0 0"),
     (ROUND_AGAIN, "6 5 6 6 5 165 6", "1 0 1 1 0 0 0"),
+    # after eight 5 in a row, in equation 255, a 6 is dropped, and after a 9 again
+    (later(8), "5 5 5 5 5 5 5 5 6 9 6 5 6", "0 0 0 0 0 0 0 0 1 0 1 0 1"),
     # the pool rule: a sync of any phone starts it again, and a cancel of another slot ends it
     (POOL, "37 159 37 5 5 128 37 5", "0 0 0 1 1 0 0 1"),
     (POOL, "37 38 37 5", "0 0 0 0"),
@@ -45,6 +48,9 @@ def runs_of(text):
 
 
 POOL_TABLE = entries_of(rows(bytes_of(POOL)))
+# Two rules of 256 equations, in which 5 leads from k to 2 × k + 1 and others to 2 × k, modulo 256. From 128 on the second drops 6.
+COUNTED = entries_of(rows(bytes_of(counted(8))))
+LATER = entries_of(rows(bytes_of(later(8))))
 NO_TABLE = runs_of("")
 KEEPER = runs_of("256x0")
 DROPPER = runs_of("256x65535")
@@ -83,6 +89,10 @@ FIT = [
     # over 128 equations: 255 is an equation as others are
     (runs_of("65536x0"), 129, 0, "5 255", "9 9", "8 8", "0 2 0", "5 255", "0 0"),
     (runs_of("65536x0"), 256, 255, "5 255", "9 9", "8 8", "0 2 0", "5 255", "0 0"),
+    (COUNTED, 256, 0, "5 5 5 5 5 5 5 5", "9 9 9 9 9 9 9 9", "8 8 8 8 8 8 8 8", "255 8 0", "5 5 5 5 5 5 5 5", "0 0 0 0 0 0 0 0"),
+    (COUNTED, 256, 127, "5 5 6 5 6", "9 9 9 9 9", "8 8 8 8 8", "250 5 0", "5 5 6 5 6", "0 0 0 0 0"),
+    (LATER, 256, 127, "5 6 5 6 7 6", "9 9 9 9 9 9", "8 8 8 8 8 8", "254 3 3", "5 5 7 9 9 9", "0 1 0 1 0 1"),
+    (LATER, 256, 255, "6 6", "9 9", "8 8", "255 0 2", "9 9", "1 1"),
     (LAST_OF_256, 256, 0, "255 255 254", "9 9 9", "8 8 8", "255 2 1", "255 254 9", "0 1 0"),
     (LAST_OF_256, 256, 255, "255 0", "9 9", "8 8", "255 1 1", "0 9", "1 0"),
     (LAST_OF_257, 257, 255, "255 255 7", "9 9 9", "8 8 8", "256 2 1", "255 7 9", "0 1 0"),

@@ -7,12 +7,13 @@ import stream_wide
 import table_cases
 from compare import Disagreement, expect
 from equations import PROGRAMS, can_drop, rows
+from expected import lacking
 from known import ANY, ONE, POOL, bytes_of, counted
 from known_equations import BRANCHES
 from rules import Refusal
 from stream_plays import RATES, play_every_way, play_foreign, play_long, play_next_row, play_pair, play_refused_rule, play_rule
 from stream_script import Script
-from stream_sorts import lacking
+from stream_sorts import LEAST, SORTS
 
 # One file for each refusal of a rule, but for the one that is about the table.
 REFUSED = ["", "0", "2 2", ANY + "5 0 " * 64 + "2", "1 1 32 5 2", "7 0", "6 7 0", "3", counted(10)]
@@ -63,5 +64,6 @@ def whole_script():
     for count in COUNTS:
         play_foreign(random, script, count, random.choice(RATES))
     stream_wide.play(Random("wide streams"), script)
-    expect(lacking(script.tally) == [], "too few", lacking(script.tally))
+    too_few = lacking(script.tally, SORTS, LEAST)
+    expect(too_few == [], "too few", too_few)
     return script

@@ -1,6 +1,5 @@
 """Sorts of calls over tables of many equations, and of scans that come to equation 255; and how many of each sort there have to be."""
 from equations import CODES, DESK, LARGEST_TABLE
-from expected import told
 
 # There are at least so many calls or scans of each sort.
 LEAST = 10
@@ -47,15 +46,3 @@ def of_call(table, count, state, scans, ran):
         yield from ["16 for a table of 255999"] * (count == DESK.most and len(table) == LARGEST_TABLE - 1)
         if 0 < count <= DESK.most and state < count and len(table) >= CODES * count:
             yield from of_entries(table, count)
-
-
-def lacking(tally):
-    """The sorts of which there are too few."""
-    return [f"{tally[sort]} of {sort}" for sort in SORTS if tally[sort] < LEAST]
-
-
-def told_of(tally):
-    """What was counted beside the sorts, and which sort is the rarest."""
-    rarest = min(SORTS, key=lambda sort: tally[sort])
-    others = {what: number for what, number in tally.items() if what not in SORTS}
-    return f"{told(others)}; of {len(SORTS)} sorts the rarest is {rarest!r} with {tally[rarest]}"

@@ -7,8 +7,8 @@ run has one line on its standard output. With --check nothing is written, and th
 import duty_cases
 import duty_rules
 from compare import check_patterns
-from duty_sorts import told_of
-from expected import is_check, settle
+from duty_sorts import SORTS
+from expected import is_check, settle, told_of
 
 
 def main():
@@ -16,7 +16,7 @@ def main():
     check_patterns(duty_rules.pool() + duty_rules.wide())
     script = duty_cases.whole_script()
     settle("duties", bytes(script.stdin), script.lines, checks)
-    print(told_of(script.tally))
+    print(told_of(script.tally, SORTS))
 
 
 if __name__ == "__main__":

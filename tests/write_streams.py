@@ -8,8 +8,8 @@ be.
 import compare_runs
 import stream_cases
 from compare import check_patterns
-from expected import is_check, settle
-from stream_sorts import told_of
+from expected import is_check, settle, told_of
+from stream_sorts import SORTS
 
 
 def main():
@@ -18,7 +18,7 @@ def main():
     check_patterns(stream_cases.rule_files())
     script = stream_cases.whole_script()
     settle("streams", bytes(script.stdin), script.lines, checks)
-    print(told_of(script.tally))
+    print(told_of(script.tally, SORTS))
 
 
 if __name__ == "__main__":
