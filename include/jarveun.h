@@ -34,8 +34,8 @@
 
    What a call takes
    - No globals, heap, files or locks: calls share nothing, and may run side by side, any number of them on one table that they only read.
-   - Stack. At most 200 bytes were seen in use by a run, 65,000 by counting and 84,000 by filling, for the page too, 68,000 by explaining, 290,000 by
-     judging, and 610,000 by counting and filling for the short table, all but the first on rules with 64 nodes, each inside the one before;
+   - Stack. At most 200 bytes were seen in use by a run, 65,000 by counting and by filling, for the page too, 68,000 by explaining, 260,000 by
+     judging, and 600,000 by counting and filling for the short table, all but the first on rules with 64 nodes, each inside the one before;
      bench/stack.c measures this.
 
    The refusals. The first to apply is answered. Each function names those that it looks for, in their order; 1 to 7 go by the records of the rule from
