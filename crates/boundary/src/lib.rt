@@ -1,6 +1,8 @@
 // The library for programs in C: counting, filling, explaining, judging, matching and running, under plain names. A slice is a pointer and a length; the
 // contracts suppose that it is good, and apart from what is changed. include/jarveun.h declares the functions, and says what a caller owes. The
 // definitions that the contracts cite stand in specs/ of the layers; Results.antt has the answers as numbers.
+#![tactic(auto)]
+
 ghost use Rattle.std.specs.Prelude.{◌≡◌, length};
 ghost use Rattle.synthesis.specs.Monitor.{mark, most};
 ghost use Rattle.synthesis.specs.Building.{synthesis_of, filling_of, preview_of, preview_filling_of, short_of, short_filling_of, counted_of, table_after};
@@ -147,7 +149,7 @@ pub extern "C" fn jarveun_judge(
 }
 
 // What matching hands back: 0 or the number of a refusal, the value beside it, and which of the three inputs the refusal is about, or 0.
-#[derive(Drop)]
+#[derive(Clone, Copy)]
 struct MatchResult {
     number: u8,
     value: usize,

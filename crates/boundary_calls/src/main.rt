@@ -1,6 +1,8 @@
 // A test program: the functions for C, called on the paper's rule, model and scans, on input that is refused, on a rule of 256 equations, and on two models
 // that match. Each call prints its answer and what it handed back beside it; where a table was lent to be filled, how many entries of that are untouched; and
 // where it is a run, what both buffers hold.
+#![tactic(auto)]
+
 mod inputs;
 mod printing;
 

@@ -1,5 +1,7 @@
 // Prints the card of slot sets, a line each: the words of the widths, and the sets of any first and last slot. Each goes on past the last width, 32, and
 // the last slot, 31, and ends with some far over these.
+#![tactic(auto)]
+
 use libc::STDOUT_FILENO;
 use reading::slots::{slot_set, slots_under};
 use testing::print_field;

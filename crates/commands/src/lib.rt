@@ -1,4 +1,6 @@
 // What the programs do: each reads its input, prints the answer, and hands it back.
+#![tactic(auto)]
+
 mod files;
 mod judging;
 mod sifting;
@@ -27,7 +29,7 @@ const TABLE: usize = 256 * LIMIT;
 
 // What `equations` hands back: what counting answers to the rule file, how many lines were printed, and whether all of them could be
 // written.
-#[derive(Drop)]
+#[derive(Clone, Copy)]
 pub struct EquationsResult {
     pub answer: Counted,
     pub lines: usize,
@@ -35,14 +37,14 @@ pub struct EquationsResult {
 }
 
 // What `sift` hands back: what counting answers to the rule file, and the state in which the scans leave the run.
-#[derive(Drop)]
+#[derive(Clone, Copy)]
 pub struct SiftResult {
     pub answer: Counted,
     pub state: State,
 }
 
 // How many lines of a text were printed, and whether all of them could be written.
-#[derive(Drop)]
+#[derive(Clone, Copy)]
 struct Printed {
     lines: usize,
     written: bool,

@@ -14,7 +14,7 @@ use running::State;
 use synthesis::Counted;
 
 // The state after a block of scans, and whether there may be more.
-#[derive(Drop)]
+#[derive(Clone, Copy)]
 struct BlockResult {
     state: State,
     goes_on: bool,

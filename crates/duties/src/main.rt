@@ -17,6 +17,8 @@
 // Each of the last three leaves the state that it hands back. BASE, COUNT and EQUATION are eight bytes, an entry, FIRST, STEP and TOP
 // two, NUMBER one, the other numbers three, highest first. One of one, two or eight bytes that isn't whole at the end counts as 0. The input ends after the last
 // record.
+#![tactic(auto)]
+
 mod printing;
 
 use printing::{print_ahead, print_changed, print_ran};
@@ -27,7 +29,7 @@ use testing::{
 };
 
 // Who is on duty after a record, and whether there was one.
-#[derive(Drop)]
+#[derive(Clone, Copy)]
 struct Step {
     duty: Duty,
     more: bool,

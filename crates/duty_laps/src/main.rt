@@ -1,6 +1,8 @@
 // Runs over the same scans under up to four rules on duty, lap after lap. bench/run measures it.
 // Standard input has the number of rules, one byte; the number of laps and the length of a rule file, three bytes each, highest first; and the file. All rules
 // on duty are that one, each with a table of its own; over 128 equations it is refused. An input that is too short, or has over 4 rules or a file over 1,024 bytes, has no answer.
+#![tactic(auto)]
+
 ghost use Rattle.std.specs.Prelude.{◌≤◌, ◌<◌, ◌≡◌, length};
 
 use libc::{STDIN_FILENO, STDOUT_FILENO};
@@ -21,14 +23,14 @@ const TABLES: usize = 131072;
 const SCANS: usize = 65536;
 
 // What filling answers, and the rules that came on.
-#[derive(Drop)]
+#[derive(Clone, Copy)]
 struct Came {
     answer: Counted,
     duty: Duty,
 }
 
 // How many scans all laps together kept and dropped.
-#[derive(Drop)]
+#[derive(Clone, Copy)]
 struct Sums {
     kept: u64,
     dropped: u64,

@@ -1,4 +1,6 @@
 // Prints the equations of the rule file on standard input.
+#![tactic(auto)]
+
 fn main() {
     commands::equations();
 }

@@ -2,6 +2,8 @@
 // what is judged, and what the table has then, and the same within a limit.
 // A case is a table's size in entries, three bytes, a limit, eight bytes, a rule's length and a model's length, three bytes each, all highest first, then the rule
 // file and the model file. The input ends after the last.
+#![tactic(auto)]
+
 mod printing;
 
 use libc::{STDIN_FILENO, STDOUT_FILENO};

@@ -1,4 +1,6 @@
 // The text that the programs print, line by line. The definitions that the contracts cite stand in specs/.
+#![tactic(auto)]
+
 mod lines;
 mod text;
 
@@ -18,7 +20,7 @@ pub struct Line {
 }
 
 // A line of a listing, and the position of the next one.
-#[derive(Drop)]
+#[derive(Clone, Copy)]
 pub struct ListingLine {
     pub line: Line,
     pub next: usize,

@@ -2,6 +2,8 @@
 // what is judged of both under each of the rules.
 // A case is the lengths of the first model, of the second and of the list, and the number of rules, then the two model files and the list, and then each rule: its
 // length and its file. All numbers have three bytes, highest first. The input ends after the last case.
+#![tactic(auto)]
+
 mod printing;
 
 use libc::STDOUT_FILENO;

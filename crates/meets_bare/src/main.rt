@@ -1,4 +1,6 @@
 // The program `meets` with neither file.
+#![tactic(auto)]
+
 fn main() {
     commands::meets();
 }

@@ -1,4 +1,6 @@
 // The program `meets` on a model that meets its rule.
+#![tactic(auto)]
+
 fn main() {
     commands::meets();
 }

@@ -1,4 +1,6 @@
 // The program `meets` on a model that is refused.
+#![tactic(auto)]
+
 fn main() {
     commands::meets();
 }

@@ -16,7 +16,7 @@ const PAIRS: usize = 64 * MOST;
 
 // Where the search is. found: how many pairs have been seen. index, pair: the index in the worklist, and the pair, that is being expanded. step:
 // one more than the number of the step that comes next; 0 at the end. dropped: whether a step was dropped.
-#[derive(Drop)]
+#[derive(Clone, Copy)]
 pub(crate) struct Cursor {
     found: usize,
     index: usize,

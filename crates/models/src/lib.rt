@@ -1,4 +1,6 @@
 // Reads phone models, and judges whether they satisfy a rule. The definitions that the contracts cite stand in specs/.
+#![tactic(auto)]
+
 mod exploring;
 mod links;
 mod loading;
@@ -24,7 +26,7 @@ use synthesis::{Counted, MOST};
 pub const SILENT: u16 = 256;
 
 // A step of a phone model.
-#[derive(Drop)]
+#[derive(Clone, Copy)]
 pub struct Step {
     pub from: u8,
     pub label: u16,
@@ -40,14 +42,14 @@ pub struct PhoneModel {
 }
 
 // What reading a model file gives. The model of a refused file is blank.
-#[derive(Drop)]
+#[derive(Clone, Copy)]
 pub struct ModelReading {
     pub answer: FileRead,
     pub model: PhoneModel,
 }
 
 // What is said of a model under a rule: it meets the rule or breaks it, or a refusal with a number and a place.
-#[derive(Drop)]
+#[derive(Clone, Copy)]
 pub enum Judged {
     Meets,
     Breaks,
@@ -168,7 +170,7 @@ pub fn judge(rule: &[u8], model: &[u8], table: &mut [u16]) -> Judged
 }
 
 // What is said of two models and a list of pairs of their states: the list matches them or doesn't, or a refusal of one of the three, with a number and a place.
-#[derive(Drop)]
+#[derive(Clone, Copy)]
 pub enum Matched {
     Yes,
     No,

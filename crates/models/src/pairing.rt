@@ -10,7 +10,7 @@ use reading::FileRead;
 const PAIRS: usize = 4096;
 
 // What reading a pair finds: its two states, or the number and place of a refusal.
-#[derive(Drop)]
+#[derive(Clone, Copy)]
 pub(crate) enum PairRead {
     Read(u8, u8),
     Refused(u8, usize),

@@ -15,14 +15,14 @@ const CODE_STEP: u8 = 17;
 const SILENT_STEP: u8 = 18;
 
 // What reading the first record finds: the count of states, or the number and place of a refusal.
-#[derive(Drop)]
+#[derive(Clone, Copy)]
 pub(crate) enum StatesRead {
     Read(usize),
     Refused(u8, usize),
 }
 
 // What reading the record of a step finds.
-#[derive(Drop)]
+#[derive(Clone, Copy)]
 pub(crate) enum StepRead {
     Read(Step),
     Refused(u8, usize),

@@ -1,5 +1,7 @@
 // A test program: the three programs one after the other, on as long a rule and as large a model as there may be. First where nothing can
 // be written, then where all is, then where not all can be read, and at last on a rule of one equation more than they take.
+#![tactic(auto)]
+
 mod places;
 
 use libc::STDOUT_FILENO;

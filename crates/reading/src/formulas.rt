@@ -16,7 +16,7 @@ pub(crate) struct Scope {
 }
 
 // A node record: its kind, the pattern number or the depth in its body, or 0, and the place after it.
-#[derive(Drop)]
+#[derive(Clone, Copy)]
 pub(crate) struct Record {
     pub(crate) kind: u8,
     pub(crate) body: u8,
@@ -24,21 +24,21 @@ pub(crate) struct Record {
 }
 
 // What reading a node record finds.
-#[derive(Drop)]
+#[derive(Clone, Copy)]
 pub(crate) enum NodeRead {
     Read(Record),
     Refused(u8, usize),
 }
 
 // The place after a formula, and how many of the 64 nodes are left.
-#[derive(Drop)]
+#[derive(Clone, Copy)]
 pub(crate) struct Rest {
     pub(crate) next: usize,
     pub(crate) left: usize,
 }
 
 // What reading a formula finds.
-#[derive(Drop)]
+#[derive(Clone, Copy)]
 pub(crate) enum FormulaRead {
     Read(Rest),
     Refused(u8, usize),

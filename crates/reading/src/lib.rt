@@ -1,4 +1,6 @@
 // Reads a rule file: patterns, then one formula in prefix order. The definitions that the contracts cite stand in specs/.
+#![tactic(auto)]
+
 mod formulas;
 pub mod kinds;
 mod patterns;
@@ -10,7 +12,7 @@ ghost use Rattle.reading.specs.File.{rule_of};
 ghost use Rattle.reading.specs.Numbered.{reading_of, blank};
 
 // A pattern as it is written: a bit for each kind, and the slots from first to last, round past 31 to 0 where first is over last. A mask of 0 has no kind.
-#[derive(Drop)]
+#[derive(Clone, Copy)]
 pub struct Pattern {
     pub mask: u8,
     pub first: u8,
@@ -18,14 +20,14 @@ pub struct Pattern {
 }
 
 // The lowest code that a pattern covers; a pattern that covers none has no lowest code.
-#[derive(Drop)]
+#[derive(Clone, Copy)]
 pub enum Lowest {
     Absent,
     Code(u8),
 }
 
 // The lowest code that a pattern covers, and how many it covers.
-#[derive(Drop)]
+#[derive(Clone, Copy)]
 pub struct Extent {
     pub lowest: Lowest,
     pub count: u16,
@@ -44,14 +46,14 @@ pub struct NumberedRule {
 }
 
 // What is said of a file: accepted, or refused with a number and a place.
-#[derive(Drop)]
+#[derive(Clone, Copy)]
 pub enum FileRead {
     Accepted,
     Refused(u8, usize),
 }
 
 // What reading a rule file gives. The rule of a refused file is blank.
-#[derive(Drop)]
+#[derive(Clone, Copy)]
 pub struct Reading {
     pub answer: FileRead,
     pub rule: NumberedRule,

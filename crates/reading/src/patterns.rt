@@ -9,7 +9,7 @@ use crate::slots::slot_set;
 use crate::{Extent, FileRead, Lowest, Pattern, blank_rule};
 
 // What reading a pattern record finds: the pattern, or the number and place of a refusal.
-#[derive(Drop)]
+#[derive(Clone, Copy)]
 pub(crate) enum PatternRead {
     Read(Pattern),
     Refused(u8, usize),

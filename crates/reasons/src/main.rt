@@ -1,6 +1,8 @@
 // Reads rules and scans from standard input, and prints a line for each case: why a scan is dropped after the kept ones.
 // A case is a rule's length and the number of kept scans, each as three bytes, highest first, then the rule file, the kept scans and the
 // scan. The input ends after the last.
+#![tactic(auto)]
+
 use libc::{STDIN_FILENO, STDOUT_FILENO};
 use synthesis::Reason;
 use testing::{Head, print_field, print_refusal, read_byte, read_size};

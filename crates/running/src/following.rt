@@ -7,7 +7,7 @@ use crate::State;
 use synthesis::{DROPPED, row};
 
 // Where the loop ends: the state, and how many scans were kept.
-#[derive(Drop)]
+#[derive(Clone, Copy)]
 pub(crate) struct End {
     pub(crate) state: State,
     pub(crate) kept: usize,

@@ -1,5 +1,7 @@
 // Runs the monitor of a table over scans, in any number of calls, or those of up to four rules that are on duty. The definitions that the contracts
 // cite stand in specs/.
+#![tactic(auto)]
+
 mod checking;
 mod following;
 mod roster;
@@ -17,20 +19,20 @@ use roster::{is_on, is_sound, leave, only_first, vacant};
 use serving::{all_fit, fits_at, follow_all};
 
 // The state of a run: the number of its equation.
-#[derive(Drop)]
+#[derive(Clone, Copy)]
 pub struct State {
     pub equation: usize,
 }
 
 // Whether what a run is handed is fit for it, or else a refusal with a number and a place.
-#[derive(Drop)]
+#[derive(Clone, Copy)]
 pub enum Checked {
     Fit,
     Refused(u8, usize),
 }
 
 // What a run hands back: whether it was refused, the state in which it ended, and how many scans it kept and dropped.
-#[derive(Drop)]
+#[derive(Clone, Copy)]
 pub struct RunResult {
     pub checked: Checked,
     pub state: State,
@@ -39,7 +41,7 @@ pub struct RunResult {
 }
 
 // A rule on duty: its number, where its table begins in what is lent, the count of its equations, and the equation in which it is.
-#[derive(Drop)]
+#[derive(Clone, Copy)]
 pub struct OnDuty {
     pub number: u8,
     pub base: usize,
@@ -55,14 +57,14 @@ pub struct Duty {
 }
 
 // What a coming or a going hands back: whether it was refused, and the state after it.
-#[derive(Drop)]
+#[derive(Clone, Copy)]
 pub struct Changed {
     pub checked: Checked,
     pub duty: Duty,
 }
 
 // What a run on duty hands back: as a run does, with the state of the rules on duty for the state of a run.
-#[derive(Drop)]
+#[derive(Clone, Copy)]
 pub struct DutyRan {
     pub checked: Checked,
     pub duty: Duty,

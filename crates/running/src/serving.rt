@@ -91,7 +91,7 @@ fn placed(rules: [OnDuty; 4], equations: [usize; 4], n: usize) -> [OnDuty; 4]
 }
 
 // What a scan does in one place: whether its rule would drop the scan, and the equation to which it leads the rule.
-#[derive(Drop)]
+#[derive(Clone, Copy)]
 struct LookedInPlace {
     drops: bool,
     equation: usize,

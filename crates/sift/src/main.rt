@@ -1,4 +1,6 @@
 // Writes the scans of standard input that the rule in rule.bin keeps.
+#![tactic(auto)]
+
 fn main() {
     commands::sift();
 }

@@ -1,4 +1,6 @@
 // The program `sift` with no rule.bin.
+#![tactic(auto)]
+
 fn main() {
     commands::sift();
 }

@@ -11,6 +11,8 @@
 //   c TABLE OUTPUT VERDICTS LENGTH scans
 //                         a call, with so many entries of the table and bytes of each buffer. The state is then what it returns
 // COUNT and EQUATION are eight bytes, an entry, FIRST, STEP and TOP two, the other numbers three, highest first. The input ends after the last record.
+#![tactic(auto)]
+
 mod printing;
 
 use printing::print_ran;
@@ -21,14 +23,14 @@ use testing::{
 };
 
 // What the records so far have set, the table left aside.
-#[derive(Drop)]
+#[derive(Clone, Copy)]
 struct Held {
     count: usize,
     state: State,
 }
 
 // What a record leaves, or that there is none left.
-#[derive(Drop)]
+#[derive(Clone, Copy)]
 enum Step {
     Next(Held),
     Ended,

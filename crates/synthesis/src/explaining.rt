@@ -8,7 +8,7 @@ use crate::search::reached;
 use crate::{Counted, Reason};
 
 // Where scans lead: to an equation, or to the refusal of the first that is dropped.
-#[derive(Drop)]
+#[derive(Clone, Copy)]
 pub(crate) enum Followed {
     Equation(u64),
     Refused(u8, usize),

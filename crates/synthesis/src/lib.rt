@@ -1,4 +1,6 @@
 // Counts the equations of a rule, fills tables with its monitor, and explains why it drops a scan. The definitions that the contracts cite stand in specs/.
+#![tactic(auto)]
+
 mod explaining;
 mod filling;
 mod graph;
@@ -30,14 +32,14 @@ const PREVIEW_LIMIT: usize = 32;
 const LONGEST: usize = 256 * MOST;
 
 // What is said of a rule file: how many equations its rule has, or a refusal with a number and a place.
-#[derive(Drop)]
+#[derive(Clone, Copy)]
 pub enum Counted {
     Equations(usize),
     Refused(u8, usize),
 }
 
 // Why a scan is dropped: a kept one has no reason, and that of a dropped one is the number of an ff node; or a refusal with a number and a place.
-#[derive(Drop)]
+#[derive(Clone, Copy)]
 pub enum Reason {
     Kept,
     Node(u8),

@@ -2,6 +2,8 @@
 // prints a line for each file with what is said of it, left in the tables and listed of them.
 // A case is a table's size in entries, three bytes, a limit, eight bytes, and a file's length, three bytes, each highest first, and then the rule file. The input
 // ends after the last.
+#![tactic(auto)]
+
 ghost use Rattle.std.specs.Prelude.{◌≤◌};
 ghost use Rattle.listing.specs.Positions.{Within};
 
@@ -23,7 +25,7 @@ const WRAPPING: usize = 72057594037927936;
 const WRAPPING_BYTES: usize = 36028797018963968;
 
 // A text of several parts, or rows: how long they are together, and the digest of them all.
-#[derive(Drop)]
+#[derive(Clone, Copy)]
 struct Summary {
     len: usize,
     digest: u64,

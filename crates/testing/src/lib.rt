@@ -1,4 +1,6 @@
 // What the test programs share. The definitions that the contracts cite stand in specs/.
+#![tactic(auto)]
+
 mod digests;
 mod numbers;
 mod preparing;

@@ -5,7 +5,7 @@ ghost use Rattle.testing.specs.Numbers.{number_of, AtMost};
 use libc::STDIN_FILENO;
 
 // A number, or that the input has ended.
-#[derive(Drop)]
+#[derive(Clone, Copy)]
 pub enum Head {
     Number(usize),
     Ended,

@@ -6,7 +6,7 @@ use crate::preparing::prepare_entries;
 use libc::STDIN_FILENO;
 
 // Where a part begins and ends, or that none was read.
-#[derive(Drop)]
+#[derive(Clone, Copy)]
 enum Part {
     Between(usize, usize),
     Outside,

@@ -1,5 +1,7 @@
 // Reads rule files from standard input, and prints a line for each with what reading says of it.
 // A case is a length of three bytes, highest first, and then that many bytes of a rule file. The input ends after the last.
+#![tactic(auto)]
+
 use libc::{STDIN_FILENO, STDOUT_FILENO};
 use reading::{Extent, FileRead, Lowest, NumberedRule, Pattern, Reading};
 use testing::{Head, print_field, print_refusal, read_size};
