@@ -29,7 +29,7 @@ use testing::{
 };
 
 // Who is on duty after a record, and whether there was one.
-#[derive(Clone, Copy)]
+#[derive(Drop)]
 struct Step {
     duty: Duty,
     more: bool,

@@ -23,7 +23,7 @@ const TABLES: usize = 131072;
 const SCANS: usize = 65536;
 
 // What filling answers, and the rules that came on.
-#[derive(Clone, Copy)]
+#[derive(Drop)]
 struct Came {
     answer: Counted,
     duty: Duty,

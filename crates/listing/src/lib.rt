@@ -20,7 +20,7 @@ pub struct Line {
 }
 
 // A line of a listing, and the position of the next one.
-#[derive(Clone, Copy)]
+#[derive(Drop)]
 pub struct ListingLine {
     pub line: Line,
     pub next: usize,

@@ -42,7 +42,7 @@ pub struct PhoneModel {
 }
 
 // What reading a model file gives. The model of a refused file is blank.
-#[derive(Clone, Copy)]
+#[derive(Drop)]
 pub struct ModelReading {
     pub answer: FileRead,
     pub model: PhoneModel,

@@ -10,7 +10,7 @@ use reading::FileRead;
 
 // What comes next in a file: the step with number n, and where the record after it begins; or, where no more is read, the answer and the
 // count.
-#[derive(Clone, Copy)]
+#[derive(Drop)]
 pub(crate) struct Next {
     more: bool,
     answer: FileRead,

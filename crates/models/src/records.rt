@@ -22,7 +22,7 @@ pub(crate) enum StatesRead {
 }
 
 // What reading the record of a step finds.
-#[derive(Clone, Copy)]
+#[derive(Drop)]
 pub(crate) enum StepRead {
     Read(Step),
     Refused(u8, usize),

@@ -53,7 +53,7 @@ pub enum FileRead {
 }
 
 // What reading a rule file gives. The rule of a refused file is blank.
-#[derive(Clone, Copy)]
+#[derive(Drop)]
 pub struct Reading {
     pub answer: FileRead,
     pub rule: NumberedRule,

@@ -57,14 +57,14 @@ pub struct Duty {
 }
 
 // What a coming or a going hands back: whether it was refused, and the state after it.
-#[derive(Clone, Copy)]
+#[derive(Drop)]
 pub struct Changed {
     pub checked: Checked,
     pub duty: Duty,
 }
 
 // What a run on duty hands back: as a run does, with the state of the rules on duty for the state of a run.
-#[derive(Clone, Copy)]
+#[derive(Drop)]
 pub struct DutyRan {
     pub checked: Checked,
     pub duty: Duty,

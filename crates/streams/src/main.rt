@@ -30,7 +30,7 @@ struct Held {
 }
 
 // What a record leaves, or that there is none left.
-#[derive(Clone, Copy)]
+#[derive(Drop)]
 enum Step {
     Next(Held),
     Ended,

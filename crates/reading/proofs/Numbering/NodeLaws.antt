@@ -46,10 +46,10 @@ part_or_part root k a b one other i h = on (ltb i a) refl
         numbers_at root (omega arith) (other (i - a) (omega arith))
 
 -- node i of the formula of node k is node k + i of the whole
-node_below : {root : Formula} {k : ℕ} {ms : List EnclosingMax} (f : Formula) → Node root k ms f → (i : ℕ) → i < size f → Numbers root (k + i)
+node_below : {root : Formula} (f : Formula) {k : ℕ} {ms : List EnclosingMax} → Node root k ms f → (i : ℕ) → i < size f → Numbers root (k + i)
 node_below truth n = node_or_part n (λ i h. absurd (omega arith))
 node_below falsity n = node_or_part n (λ i h. absurd (omega arith))
-node_below {root} {k} (both f g) n = node_or_part n (part_or_part root k (size f) (size g) (node_below f (first n)) (node_below g (second n)))
+node_below {root} (both f g) {k} n = node_or_part n (part_or_part root k (size f) (size g) (node_below f (first n)) (node_below g (second n)))
 node_below (necessity p f) n = node_or_part n (λ i h. node_below f (after n) i (omega arith))
 node_below (max f) n = node_or_part n (λ i h. node_below f (body n) i (omega arith))
 node_below (variable d) n = node_or_part n (λ i h. absurd (omega arith))

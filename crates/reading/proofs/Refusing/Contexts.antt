@@ -80,7 +80,7 @@ module _ {K : Contexts} {n : ℕ} where
   consumes_same done done = refl
   consumes_same (more allows rest) (more allows' rest') = consumes_same rest rest'
 
-  pub consumes_split : {due due' : List K.Context} (xs : List Symbol) {ys : List Symbol} → Consumes K n due (xs ++ ys) due'
+  pub consumes_split : (xs : List Symbol) {ys : List Symbol} {due due' : List K.Context} → Consumes K n due (xs ++ ys) due'
       → (mid : List K.Context) × Consumes K n due xs mid × Consumes K n mid ys due'
   consumes_split {due = due} [] consumes = (due, done, consumes)
   consumes_split (x ∷ xs) (more allows rest) = let (mid, first, second) = consumes_split xs rest in (mid, more allows first, second)
@@ -146,8 +146,11 @@ module _ {K : Contexts} {n : ℕ} where
       are = ap (λ (l : List Symbol). Both ∷ l) (append_assoc (symbols f) (symbols g) (all_symbols fs) ∙ e);
     }
     with_parts Both allows (f ∷ []) (fits_cons a b) e = elim b [ ]
+    with_parts Both allows [] fit e = elim fit [ ]
     with_parts (Necessity p) allows (f ∷ fs) (fits_cons a fit) e =
         record { formulas = necessity p f ∷ fs; fit = fits_cons {f = necessity p f} (allows, a) fit; are = ap (λ (l : List Symbol). Necessity p ∷ l) e }
+    with_parts (Necessity p) allows [] fit e = elim fit [ ]
+    with_parts Max allows [] fit e = elim fit [ ]
     with_parts Max allows (f ∷ fs) (fits_cons a fit) e =
         record { formulas = max f ∷ fs; fit = fits_cons a fit; are = ap (λ (l : List Symbol). Max ∷ l) e }
     with_parts (Variable d) allows fs fit e =
@@ -165,6 +168,7 @@ module _ {K : Contexts} {n : ℕ} where
     where
       on : (fs : List Formula) → FitAll K n (c ∷ []) fs → all_symbols fs ≡ xs ++ truths due
           → (f : Formula) × Fits K n c f × (symbols f ≡ xs ++ truths due)
+      on [] fit e = elim fit [ ]
       on (f ∷ []) (fits_cons fits fits_nil) e = (f, fits, rw (append-nil (symbols f)) at e)
       on (f ∷ (f' ∷ fs)) (fits_cons fits others) e = elim others [ ]
 

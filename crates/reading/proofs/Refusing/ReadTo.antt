@@ -153,6 +153,7 @@ last_allowed {K} {n} {due = due} {c = c} xs x known consumes =
     let (mid, first, second) = consumes_split xs consumes in on mid (consumes_same first known) second
   where
     on : {due' : List K.Context} (mid : List K.Context) → mid ≡ c ∷ due → Consumes K n mid (x ∷ []) due' → Allows K n c x
+    on [] e consumes = elim consumes [ ]
     on (c' ∷ due'') e (more allows rest) = subst (λ (y : K.Context). Allows K n y x) (cc) allows
 
 module _ {s : List ℕ} {at n m next : ℕ} {g : Guards} {due : List Guards} {x : Symbol} (h : ReadTo s at n m (g ∷ due))
