@@ -82,7 +82,7 @@ module _ {K : Contexts} {n : ℕ} where
 
   pub consumes_split : (xs : List Symbol) {ys : List Symbol} {due due' : List K.Context} → Consumes K n due (xs ++ ys) due'
       → (mid : List K.Context) × Consumes K n due xs mid × Consumes K n mid ys due'
-  consumes_split {due = due} [] consumes = (due, done, consumes)
+  consumes_split [] {due = due} consumes = (due, done, consumes)
   consumes_split (x ∷ xs) (more allows rest) = let (mid, first, second) = consumes_split xs rest in (mid, more allows first, second)
 
   pub consumes_join : {due mid due' : List K.Context} {xs ys : List Symbol} → Consumes K n due xs mid → Consumes K n mid ys due'
