@@ -47,6 +47,8 @@ module _ {codes : ℕ} {answer answer' : ℕ → ℕ → Answer ℕ} {R : ℕ �
 
   same_entry_lem : (mark : ℕ) (a a' : Answer ℕ) → BothAnswer codes answer answer' R a a'
       → ((e : ℕ) → a ≡ next e → (i : ℕ) × (i < length l) × (get_or l i 0 ≡ e)) → entry_of mark l a ≡ entry_of mark l' a'
+  same_entry_lem mark dropped (next e') x5 inside = elim x5 [ ]
+  same_entry_lem mark (next e) dropped x5 inside = elim x5 [ ]
   same_entry_lem mark dropped dropped both_dropped inside = refl
   same_entry_lem mark (next e) (next e') (both_next pair) inside = let (i, h, is) = inside e refl in pair_number_lem e e' i pair h is
 

@@ -83,6 +83,11 @@ module _ {kinds args opened : List ℕ} {k : ℕ} where
   opening_both {e₁} {e₂} l q a b = opening_by_kind q on
     where
       on : OpensByKind kinds args opened k both_kind (bit_or e₁ e₂)
+      on r ir z ms truth n x is x5 = elim x5 [ ]
+      on r ir z ms falsity n x is x6 = elim x6 [ ]
+      on r ir z ms (necessity _ _) n x is x8 = elim x8 [ ]
+      on r ir z ms (max _) n x is x9 = elim x9 [ ]
+      on r ir z ms (variable _) n x is x9 = elim x9 [ ]
       on r ir z ms (both f g) n x is (is_both n₁ n₂) =
           let first = a.is r ir (λ j h. z j (omega arith)) ms f (rw (add-one k) n₁) in
           let second = b.is r ir (λ j h. z j (omega arith)) ms g (rw is n₂) in
@@ -92,6 +97,11 @@ module _ {kinds args opened : List ℕ} {k : ℕ} where
   opening_max {e} q a = opening_by_kind q on
     where
       on : OpensByKind kinds args opened k max_kind e
+      on r ir z ms truth n x is x5 = elim x5 [ ]
+      on r ir z ms falsity n x is x6 = elim x6 [ ]
+      on r ir z ms (both _ _) n x is x9 = elim x9 [ ]
+      on r ir z ms (necessity _ _) n x is x9 = elim x9 [ ]
+      on r ir z ms (variable _) n x is x9 = elim x9 [ ]
       on r ir z ms (max f) n x is (is_max n₁) =
           let inner = a.is r ir (λ j h. z j (omega arith)) (record { number = k; body = f } ∷ ms) f (rw (add-one k) n₁) in
           rw (inner, add-one k, z k (omega arith))
@@ -100,6 +110,11 @@ module _ {kinds args opened : List ℕ} {k : ℕ} where
   opening_variable q = opening_by_kind q on
     where
       on : OpensByKind kinds args opened k variable_kind (get_or opened (get_or args k 0) 0)
+      on r ir z ms truth n x is x5 = elim x5 [ ]
+      on r ir z ms falsity n x is x6 = elim x6 [ ]
+      on r ir z ms (both _ _) n x is x9 = elim x9 [ ]
+      on r ir z ms (necessity _ _) n x is x9 = elim x9 [ ]
+      on r ir z ms (max _) n x is x10 = elim x10 [ ]
       on r ir z ms (variable d) n x is (is_variable m n₁ before) =
           let bound = variable_bound (length r.patterns) ir.within_limits.well_formed.formula n in
           rw (mapped_at (λ (m : EnclosingMax). get_or opened m.number 0) ms d no_max 0 bound, ap number_of m, is)
@@ -108,12 +123,22 @@ module _ {kinds args opened : List ℕ} {k : ℕ} where
   opening_falsity h q = opening_by_kind q on
     where
       on : OpensByKind kinds args opened k falsity_kind (shifted_one k)
+      on r ir z ms truth n x is x5 = elim x5 [ ]
+      on r ir z ms (both _ _) n x is x8 = elim x8 [ ]
+      on r ir z ms (necessity _ _) n x is x8 = elim x8 [ ]
+      on r ir z ms (max _) n x is x9 = elim x9 [ ]
+      on r ir z ms (variable _) n x is x9 = elim x9 [ ]
       on r ir z ms falsity n x is is_falsity = shl_one k h
 
   pub opening_necessity : k < 64 → get_or kinds k 0 ≡ necessity_kind → IsOpening kinds args opened k (shifted_one k)
   opening_necessity h q = opening_by_kind q on
     where
       on : OpensByKind kinds args opened k necessity_kind (shifted_one k)
+      on r ir z ms truth n x is x5 = elim x5 [ ]
+      on r ir z ms falsity n x is x6 = elim x6 [ ]
+      on r ir z ms (both _ _) n x is x9 = elim x9 [ ]
+      on r ir z ms (max _) n x is x9 = elim x9 [ ]
+      on r ir z ms (variable _) n x is x9 = elim x9 [ ]
       on r ir z ms (necessity p f) n x is (is_necessity n₁) = shl_one k h
 
   pub opening_truth : (get_or kinds k 0 ≡ falsity_kind → ⊥) → (get_or kinds k 0 ≡ both_kind → ⊥) → (get_or kinds k 0 ≡ necessity_kind → ⊥)

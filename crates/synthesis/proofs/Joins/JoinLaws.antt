@@ -1,5 +1,6 @@
 -- In a join each formula is alike to what it was alone: its patterns cover the same codes, with more patterns after them or before them. So a list
 -- violates the join of two rules exactly when it violates one of them; and for more rules by induction on their list.
+use mathlib.Core.Path.{sym, subst}
 use Prim.Native.Nat.{ℕ, ◌+◌, ◌≤◌}
 use mathlib.Core.Logic.{◌↔◌, ◌⊎◌, inl, inr, ⊎_elim, ⊎_map}
 use mathlib.Core.Bool.{false}
@@ -67,7 +68,7 @@ module _ (r q : Rule) (wf : WellFormedRule r) where
   two_well_formed wf' = record {
     patterns = all_append WellFormedPattern r.patterns q.patterns wf.patterns wf'.patterns;
     formula =
-        rw (length-append r.patterns q.patterns)
+        subst (λ (n : ℕ). WellFormed n [] (both r.formula (shifted (length r.patterns) q.formula))) (sym (length-append r.patterns q.patterns))
         (more_patterns (omega arith) [] r.formula wf.formula, shifted_well_formed (length r.patterns) _ [] q.formula wf'.formula);
   }
 

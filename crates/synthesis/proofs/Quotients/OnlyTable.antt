@@ -48,10 +48,12 @@ module _ {codes : ℕ} {answer : ℕ → ℕ → Answer ℕ} {n : ℕ} (separate
   }
     where
       drop : (a : Answer ℕ) → StepAlike codes answer rival dropped a → a ≡ dropped
+      drop (next _) x'' = elim x'' [ ]
       drop dropped both_dropped = refl
 
       follow : (i j c : ℕ) → i < n → c < codes → answer i c ≡ next j → (a : Answer ℕ) → rival (rival_row separated rival i) c ≡ a
           → StepAlike codes answer rival (next j) a → a ≡ next (rival_row separated rival j)
+      follow i j c h b q dropped q' x'' = elim x'' [ ]
       follow i j c h b q (next k) q' (both_next z) =
           ap next
           (rival_only j k (inside i c j h b q) (rival_inside _ c k (rival_below separated rival alike n rival_inside some i h) b q') z)

@@ -20,10 +20,10 @@ module _ (m : ℕ) {root : Formula} where
   singleton_falsity : {k : ℕ} {ms : List EnclosingMax} → Node root k ms falsity → Has (singleton k) m → IsFalsity root m
   singleton_falsity {k} {ms} n h = rw (← (singleton_has k m h)) (ms, n)
 
-  falsities_sound : {k : ℕ} {ms : List EnclosingMax} (f : Formula) → Node root k ms f → Has (falsities k f) m → IsFalsity root m
+  falsities_sound : (f : Formula) {k : ℕ} {ms : List EnclosingMax} → Node root k ms f → Has (falsities k f) m → IsFalsity root m
   falsities_sound truth n h = absurd (has_none m h)
   falsities_sound falsity n h = singleton_falsity n h
-  falsities_sound {k} (both f g) n h =
+  falsities_sound (both f g) {k} n h =
       union_cases (falsities (suc k) f) (falsities (k + suc (size f)) g) m (falsities_sound f (first n)) (falsities_sound g (second n)) h
   falsities_sound (necessity p f) n h = falsities_sound f (after n) h
   falsities_sound (max f) n h = falsities_sound f (body n) h
@@ -69,12 +69,12 @@ module _ (covered : ℕ → ℕ → Bool) (root : Formula) (e c m : ℕ) where
       let b = (and-eq-true_iff (has e k) (covered p c)).0 t.0 in
       (k, p, ms, f, n, has_true e k b.0, b.1, t.1)
 
-  reached_sound : {k : ℕ} {ms : List EnclosingMax} (f : Formula) → Node root k ms f → Has (reached_inside k ms f) m → Reaches
+  reached_sound : (f : Formula) {k : ℕ} {ms : List EnclosingMax} → Node root k ms f → Has (reached_inside k ms f) m → Reaches
   reached_sound truth n h = absurd (has_none m h)
   reached_sound falsity n h = absurd (has_none m h)
-  reached_sound {k} {ms} (both f g) n h =
+  reached_sound (both f g) {k} {ms} n h =
       union_cases (reached_inside (suc k) ms f) (reached_inside (k + suc (size f)) ms g) m (reached_sound f (first n)) (reached_sound g (second n)) h
-  reached_sound {k} {ms} (necessity p f) n h =
+  reached_sound (necessity p f) {k} {ms} n h =
       union_cases (reached_by_node k ms p f) (reached_inside (suc k) ms f) m (reached_by_node_sound n) (reached_sound f (after n)) h
   reached_sound (max f) n h = reached_sound f (body n) h
   reached_sound (variable d) n h = absurd (has_none m h)

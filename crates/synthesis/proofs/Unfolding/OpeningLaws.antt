@@ -75,15 +75,15 @@ known_inside {root} {g} {ms} {around} x known = record { at = at }
     at (suc d) b e m = known.at d (omega arith) e m
 
 module _ (patterns : ℕ) (root : Formula) (wf : WellFormed patterns [] root) where
-  opening_opens : {g : Guards} {k : ℕ} {ms : List EnclosingMax} {around : List ℕ} (f : Formula) → WellFormed patterns g f → Node root k ms f
+  opening_opens : (f : Formula) {g : Guards} {k : ℕ} {ms : List EnclosingMax} {around : List ℕ} → WellFormed patterns g f → Node root k ms f
       → Known root g ms around → (m : ℕ) → Has (opening k around f) m ↔ Opens root k m
   opening_opens truth w n known m = opens_by_iff root m truth n (has_none m, λ h. absurd h)
-  opening_opens {k = k} falsity w n known m = opens_by_iff root m falsity n (has_singleton_iff k m)
-  opening_opens {k = k} {around = around} (both f g) w n known m =
+  opening_opens falsity {k = k} w n known m = opens_by_iff root m falsity n (has_singleton_iff k m)
+  opening_opens (both f g) {k = k} {around = around} w n known m =
       let one : ℕ = opening (suc k) around f in
       let other : ℕ = opening (k + suc (size f)) around g in
       opens_by_iff root m (both f g) n (union_iff one other m (opening_opens f w.0 (first n) known m) (opening_opens g w.1 (second n) known m))
-  opening_opens {k = k} (necessity p f) w n known m = opens_by_iff root m (necessity p f) n (has_singleton_iff k m)
+  opening_opens (necessity p f) {k = k} w n known m = opens_by_iff root m (necessity p f) n (has_singleton_iff k m)
   opening_opens (max f) w n known m = opens_by_iff root m (max f) n (opening_opens f w (body n) (known_inside _ known) m)
   opening_opens (variable d) w n known m =
       let b = variable_bound patterns wf n in
