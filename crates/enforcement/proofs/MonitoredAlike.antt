@@ -16,6 +16,7 @@ module _ {E F : Type 0} (answer : E → ℕ → Answer E) (answer' : F → ℕ �
   alike_drops {e} {f} {c} step q = on (answer' f c) refl (rw q at step)
     where
       on : (a : Answer F) → answer' f c ≡ a → StepAlike 256 answer answer' dropped a → answer' f c ≡ dropped
+      on (next _) p x3 = elim x3 [ ]
       on dropped p both_dropped = p
 
   -- what the one keeps, the other keeps, and they go on alike
@@ -25,6 +26,7 @@ module _ {E F : Type 0} (answer : E → ℕ → Answer E) (answer' : F → ℕ �
     where
       on : (a : Answer F) → answer' f c ≡ a → StepAlike 256 answer answer' (next e') a
           → (f' : F) × (answer' f c ≡ next f') × DropAlike 256 answer e' answer' f'
+      on dropped p x'' = elim x'' [ ]
       on (next f') p (both_next alike) = (f', p, alike)
 
 module _ {E F : Type 0} (answer : E → ℕ → Answer E) (answer' : F → ℕ → Answer F) (m : Model) (bytes : ByteCodes m) where

@@ -4,6 +4,5 @@ pub mod Phones
 pub mod Pairs
 pub mod Judgments
 pub mod Matchings
-pub mod Compiled
 pub mod Promises
 pub mod MatchPromises

@@ -4,7 +4,7 @@ pub mod RelationLaws
 pub mod PairsRead
 pub mod PartnerLaws
 pub mod Bisimulations
-pub mod Answers
+pub mod AnswerLaws
 pub mod ReachedPairs
 pub mod PairLists
 pub mod OneAnswer

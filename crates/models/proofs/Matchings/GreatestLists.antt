@@ -20,7 +20,7 @@ use Rattle.models.specs.Pairs.{Pair, WellFormedPair, pair_bytes, encode_pairs, m
 use Rattle.models.specs.MatchPromises.{PairsEncoded, SomeListMatches}
 use Rattle.models.proofs.Phones.GreatestSets.{listed, Within, Greatest, greatest}
 use Rattle.models.proofs.Files.Encoding.{phone_within_limits}
-use Rattle.models.proofs.Matchings.Answers.{matching_accepts}
+use Rattle.models.proofs.Matchings.AnswerLaws.{matching_accepts}
 use Rattle.models.proofs.Matchings.PairLists.{accepts_pairs}
 use Rattle.models.proofs.Matchings.AfterYes.{matched_alike}
 use Rattle.models.proofs.Matchings.AnsweredSteps.{answered, Answered, answered_is}

@@ -2,7 +2,7 @@
 use borrow.Author.Rules.{rules}
 use Rattle.reading.proofs.Basics.ByteLaws.{slice_bytes}
 use Rattle.models.proofs.Files.ReadModels.{ModelRead, model_read}
-use Rattle.models.proofs.Matchings.Answers.{states_few, answers_first, answers_second, answers_pairs, rows_long, answers_yes, answers_no}
+use Rattle.models.proofs.Matchings.AnswerLaws.{states_few, answers_first, answers_second, answers_pairs, rows_long, answers_yes, answers_no}
 use Rattle.models.proofs.match_models.Statement.{statement}
 use Rattle.models.proofs.match_models.Tie as tie
 
