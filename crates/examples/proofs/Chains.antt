@@ -2,7 +2,7 @@
 -- alone, and opening node n gives nothing. Every code leads from what one node opens to, to what the next one opens to, and from nothing to nothing: n + 1
 -- sets, one after the other.
 use Prim.Native.Nat.{ℕ, zero, suc, ◌+◌, ◌-◌, ◌≤◌, ◌<◌, min}
-use mathlib.Core.Path.{◌≡◌, refl, sym, ap}
+use mathlib.Core.Path.{◌≡◌, refl, sym, ap, subst}
 use mathlib.Core.Bool.{Bool, true, false}
 use mathlib.Core.List.{[], ◌∷◌}
 use native.Mathlib.Decide.{dec_lt}
@@ -112,7 +112,11 @@ module _ (covered : (pattern code : ℕ) → Bool) (c : ℕ) where
         on (yes before) ih =
             let lacks = has_not (front j (suc m)) k (λ q. omega (arith, front_has j (suc m) k q)) in
             rw (lacks, ih (omega arith) (omega arith)) (or_zero_l (front (suc j) m))
-        on (no here) ih = let same : j ≡ k = omega arith in let all : n ≡ m = omega arith in rw (same, all) (reached_here k m)
+        on (no here) ih =
+            let same : k ≡ j = omega arith in
+            let all : m ≡ n = omega arith in
+            subst (λ (i : ℕ). reached covered (front i (suc m)) c k [] (chain (suc n)) ≡ front (suc i) m) same
+            (subst (λ (i : ℕ). reached covered (front k (suc m)) c k [] (chain (suc i)) ≡ front (suc k) m) all (reached_here k m))
 
 -- ---- the equations
 
