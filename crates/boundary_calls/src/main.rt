@@ -11,9 +11,8 @@ use inputs::{
     NOTHING, OVER_PAGE, PAST_BYTES, POOL, SCANS, SIMPLIFIED, STARTS, SYNCED, UNGUARDED, UNKNOWN,
     VIOLATING,
 };
-use libc::STDOUT_FILENO;
 use printing::{UNTOUCHED, print_byte, print_bytes, print_filled, print_result, print_three};
-use testing::print_field;
+use testing::{STDOUT_FILENO, print_field};
 
 fn count(rule: &[u8]) {
     let mut value = 99;

@@ -1,8 +1,7 @@
 // What is printed of a call.
 ghost use Rattle.std.specs.Prelude.{◌≤◌};
 
-use libc::STDOUT_FILENO;
-use testing::print_field;
+use testing::{STDOUT_FILENO, print_field};
 
 // What each entry of a table has before the first call: no rule here has so many equations.
 pub(crate) const UNTOUCHED: u16 = 51400;

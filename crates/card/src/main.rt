@@ -2,9 +2,8 @@
 // the last slot, 31, and ends with some far over these.
 #![tactic(auto)]
 
-use libc::STDOUT_FILENO;
 use reading::slots::{slot_set, slots_under};
-use testing::print_field;
+use testing::{STDOUT_FILENO, print_field};
 
 fn print_width(width: usize) {
     io::write_all(STDOUT_FILENO, b"under");

@@ -1,7 +1,6 @@
 // What is printed of comings, goings and runs.
-use libc::STDOUT_FILENO;
 use running::{Changed, Checked, Duty, DutyRan, OnDuty};
-use testing::{print_field, print_refusal};
+use testing::{STDOUT_FILENO, print_field, print_refusal};
 
 fn print_checked(answer: Checked) {
     match answer {

@@ -5,10 +5,12 @@
 
 ghost use Rattle.std.specs.Prelude.{◌≤◌, ◌<◌, ◌≡◌, length};
 
-use libc::{STDIN_FILENO, STDOUT_FILENO};
 use running::Duty;
 use synthesis::Counted;
-use testing::{Head, digest, filled_count, print_counted, print_field, read_byte, read_size};
+use testing::{
+    Head, STDIN_FILENO, STDOUT_FILENO, digest, filled_count, print_counted, print_field, read_byte,
+    read_size,
+};
 
 // A rule has at most so many equations.
 const LIMIT: usize = 128;

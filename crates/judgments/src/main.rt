@@ -6,9 +6,8 @@
 
 mod printing;
 
-use libc::{STDIN_FILENO, STDOUT_FILENO};
 use printing::{print_judged, print_reading, print_table};
-use testing::{Head, prepare_entries, read_long, read_size};
+use testing::{Head, STDIN_FILENO, STDOUT_FILENO, prepare_entries, read_long, read_size};
 
 // Sets the table that is lent to a judgment: entry i is case + 263 × i, modulo 65,521.
 fn refresh(table: &mut [u16], case: u64) {

@@ -1,8 +1,7 @@
 // What is printed of a model that was read, of a judgment and of the table after it.
-use libc::STDOUT_FILENO;
 use models::{Judged, ModelReading, PhoneModel, Step};
 use reading::FileRead;
-use testing::{digest, digest_entries, print_field, print_refusal};
+use testing::{STDOUT_FILENO, digest, digest_entries, print_field, print_refusal};
 
 // The digest that the digits of `high` and then a step make, as four bytes: from, two bytes of label, to.
 fn step_digest(high: u64, step: Step) -> u64 {

@@ -6,9 +6,8 @@
 
 mod printing;
 
-use libc::STDOUT_FILENO;
 use printing::{print_matched, print_word};
-use testing::{Head, read_size, read_whole};
+use testing::{Head, STDOUT_FILENO, read_size, read_whole};
 
 // A case has no more rules.
 const RULES: usize = 255;

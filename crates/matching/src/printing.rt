@@ -1,7 +1,6 @@
 // What is printed of a list of pairs between two models, and of a judgment.
-use libc::STDOUT_FILENO;
 use models::{Judged, Matched};
-use testing::print_refusal;
+use testing::{STDOUT_FILENO, print_refusal};
 
 pub fn print_matched(matched: Matched) {
     match matched {

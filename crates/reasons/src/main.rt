@@ -3,9 +3,10 @@
 // scan. The input ends after the last.
 #![tactic(auto)]
 
-use libc::{STDIN_FILENO, STDOUT_FILENO};
 use synthesis::Reason;
-use testing::{Head, print_field, print_refusal, read_byte, read_size};
+use testing::{
+    Head, STDIN_FILENO, STDOUT_FILENO, print_field, print_refusal, read_byte, read_size,
+};
 
 // A case has no longer rule, and no more kept scans.
 const MOST: usize = 1024;

@@ -1,7 +1,6 @@
 // What is printed of a run.
-use libc::STDOUT_FILENO;
 use running::{Checked, RunResult};
-use testing::{print_field, print_refusal};
+use testing::{STDOUT_FILENO, print_field, print_refusal};
 
 fn print_checked(answer: Checked) {
     match answer {

@@ -7,13 +7,12 @@
 ghost use Rattle.std.specs.Prelude.{◌≤◌};
 ghost use Rattle.listing.specs.Positions.{Within};
 
-use libc::{STDIN_FILENO, STDOUT_FILENO};
 use listing::Line;
 use reading::NumberedRule;
 use synthesis::Counted;
 use testing::{
-    Head, digest, digest_entries, filled_count, prepare_entries, print_field, print_refusal,
-    read_long, read_size,
+    Head, STDIN_FILENO, STDOUT_FILENO, digest, digest_entries, filled_count, prepare_entries,
+    print_field, print_refusal, read_long, read_size,
 };
 
 // A listing has no more lines: two, one for each pattern, and one for each entry at most.

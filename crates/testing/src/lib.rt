@@ -14,3 +14,8 @@ pub use printing::{
     filled_count, print_counted, print_digests, print_field, print_filled, print_refusal,
 };
 pub use records::{read_part, read_prepared, read_whole};
+
+// The numbers of standard input and of standard output.
+pub const STDIN_FILENO: i32 = 0;
+
+pub const STDOUT_FILENO: i32 = 1;

@@ -2,7 +2,7 @@
 ghost use Rattle.std.specs.Prelude.{◌≡◌, [], ◌∷◌, ◌<◌};
 ghost use Rattle.testing.specs.Numbers.{number_of, AtMost};
 
-use libc::STDIN_FILENO;
+use crate::STDIN_FILENO;
 
 // A number, or that the input has ended.
 #[derive(Clone, Copy)]

@@ -2,8 +2,8 @@
 ghost use Rattle.std.specs.Prelude.{◌≡◌};
 ghost use Rattle.testing.specs.Numbers.{count_in};
 
+use crate::STDOUT_FILENO;
 use crate::digests::digest;
-use libc::STDOUT_FILENO;
 use synthesis::Counted;
 
 // Prints a space and a number.

@@ -1,9 +1,9 @@
 // Bytes and entries on standard input that go into a buffer or a table.
 ghost use Rattle.testing.specs.Numbers.{Inside};
 
+use crate::STDIN_FILENO;
 use crate::numbers::{Head, read_entry, read_size};
 use crate::preparing::prepare_entries;
-use libc::STDIN_FILENO;
 
 // Where a part begins and ends, or that none was read.
 #[derive(Clone, Copy)]

@@ -2,9 +2,8 @@
 // A case is a length of three bytes, highest first, and then that many bytes of a rule file. The input ends after the last.
 #![tactic(auto)]
 
-use libc::{STDIN_FILENO, STDOUT_FILENO};
 use reading::{Extent, FileRead, Lowest, NumberedRule, Pattern, Reading};
-use testing::{Head, print_field, print_refusal, read_size};
+use testing::{Head, STDIN_FILENO, STDOUT_FILENO, print_field, print_refusal, read_size};
 
 // The sum of the codes that a pattern covers.
 fn sum_of_codes(p: Pattern) -> u64 {
