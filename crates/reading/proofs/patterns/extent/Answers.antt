@@ -1,6 +1,6 @@
 -- A pattern of no kind covers no code; of any other the two words tell the numbers, and these fit.
 use Rattle.std.proofs.Common.{◌<◌, sym, arith}
-use Rattle.reading.proofs.Measures.Extents.{no_extent_lem, lowest_fits, count_fits, told_by_set}
+use Rattle.reading.proofs.Measures.Extents.{no_extent_lem, lowest_fits, told_by_set}
 use Rattle.reading.proofs.patterns.extent.Goals as goal
 
 pub returns-then-p-eq0 : goal.returns-then-p-eq0
