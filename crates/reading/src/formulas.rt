@@ -8,7 +8,7 @@ use crate::FileRead;
 use crate::kinds::{BOTH, MAX, NECESSITY, PATTERN, VARIABLE};
 
 // The max nodes around a record, outermost first. The innermost `unguarded` of them have no necessity below them yet.
-#[derive(Drop)]
+#[derive(Clone, Copy)]
 pub(crate) struct Scope {
     pub(crate) count: usize,
     pub(crate) unguarded: usize,

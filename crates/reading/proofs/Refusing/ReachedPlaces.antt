@@ -18,7 +18,7 @@ use Rattle.reading.proofs.RecordLists.RecordsAccepted.{records_after}
 use Rattle.reading.proofs.Accepting.NodeBytes.{NodeStands, bare, of_necessity, of_variable, bare_truth, bare_falsity, bare_both, bare_max, node_accepts}
 use Rattle.reading.proofs.Accepting.PatternBytes.{node_no_pattern, reads_patterns}
 use Rattle.reading.proofs.Refusing.Contexts.{guards, Allows, Consumes, done, more}
-use Rattle.reading.proofs.Refusing.Records.{records, records_bytes-append, pattern_bytes_lem, patterns_in_lem, nodes_in_lem}
+use Rattle.reading.proofs.Refusing.Records.{records_bytes-append, pattern_bytes_lem, patterns_in_lem, nodes_in_lem}
 use Rattle.reading.proofs.Refusing.Beginnings.{rule_shape}
 use Rattle.reading.proofs.Refusing.LeftToRight.{and_then-assoc, due_at, head_at, then_formula, patterns_head}
 use Rattle.reading.proofs.Refusing.ReadTo.{ReadTo, read_rule}
