@@ -35,7 +35,7 @@ pub struct Extent {
 
 // A rule by number. Pattern i is patterns[i], with its extents[i]. Node k is of kind kinds[k], and its first part is node k + 1.
 // Its args[k] is the node of the second part of a "both", the pattern of a necessity, the max node of a variable, and else 0.
-#[derive(Drop)]
+#[derive(Clone, Copy)]
 pub struct NumberedRule {
     pub patterns: [Pattern; 32],
     pub extents: [Extent; 32],
