@@ -22,7 +22,6 @@ use Rattle.running.specs.declared.Checked.TheVariants.{Fit, Refused}
 use Rattle.running.proofs.SoundStates.{duty_of-rules, rest_vacant}
 use Rattle.running.proofs.ComingAndGoing as Ways
 use Rattle.running.proofs.DutyRuns.{duty_run_ways, fit_after}
-use Rattle.running.proofs.DutyRuns as Runs
 use Rattle.running.proofs.Alongside.{Along, none, along_same, along_change, along_last, along_filter}
 use Rattle.running.proofs.Standing.{Alike, run_along}
 use Rattle.running.proofs.Days.{ran_on, came_on, went_off, Kept, kept_by_event}

@@ -2,7 +2,7 @@
 -- So in their first equations they are a monitor of the rule that joins theirs, which exactly the lists violate that violate one of the rules.
 use Prim.Native.Nat.{ℕ}
 use mathlib.Core.Path.{◌≡◌, refl}
-use mathlib.Core.Logic.{◌↔◌, ◌⊎◌, inl, inr, ⊎_elim, ⊎_map}
+use mathlib.Core.Logic.{◌↔◌, inl, inr, ⊎_elim, ⊎_map}
 use mathlib.Core.List.{List, [], ◌∷◌, map}
 use native.Mathlib.Omega.{arith}
 use lib.ListN.{drop}

@@ -17,6 +17,7 @@ fn in_range(entry: u16, count: u16) -> bool
 }
 
 // Whether all entries are in range. There is no way out before the last, so that many can be looked at in one step.
+#[tactic(auto, using(crate::proofs::ListTests::all_last), unfolding(crate::specs::Lists::all))]
 fn entries_in_range(entries: &[u16], count: u16) -> bool
     ensures { result ≡ entries_in_range mark count entries.now }
 {
@@ -31,6 +32,7 @@ fn entries_in_range(entries: &[u16], count: u16) -> bool
 }
 
 // Whether the table is well formed for so many equations.
+#[tactic(auto, unfolding(crate::specs::Running::is_well_formed))]
 fn is_well_formed(table: &[u16], count: usize) -> bool
     ensures { result ≡ is_well_formed most mark table.now count }
 {
@@ -48,6 +50,7 @@ fn is_well_formed(table: &[u16], count: usize) -> bool
 }
 
 // Whether it is, and the state's equation is one of them.
+#[tactic(auto, unfolding(crate::specs::Running::fits))]
 pub(crate) fn fits(table: &[u16], count: usize, state: State) -> bool
     ensures { result ≡ fits most mark table.now count state }
 {
@@ -68,6 +71,7 @@ pub(crate) fn has_room(scans: &[u8], output: usize, verdicts: usize) -> bool
 }
 
 // Whether a run is refused: 15 comes before 16.
+#[tactic(auto, unfolding(crate::specs::Running::run_of))]
 pub(crate) fn check(
     table: &[u16],
     count: usize,

@@ -50,7 +50,7 @@ pub struct OnDuty {
 }
 
 // The state of the rules on duty: they have the first `count` places, in order of arrival.
-#[derive(Drop)]
+#[derive(Clone, Copy)]
 pub struct Duty {
     pub rules: [OnDuty; 4],
     pub count: usize,
@@ -142,6 +142,7 @@ fn unchanged(number: u8, duty: Duty) -> Changed
 
 // A rule comes on under a number, with `count` equations, whose table begins at `base` of what is lent. It is the last, and in its first equation. A
 // refused call hands back the state that it was given.
+#[tactic(auto, unfolding(crate::specs::Duty::coming_of))]
 pub fn come_on(duty: Duty, number: u8, tables: &[u16], base: usize, count: usize) -> Changed
     ensures { result ≡ changed_of duty (coming_of most mark duty number tables.now base count) }
 {
@@ -177,6 +178,7 @@ pub fn come_on(duty: Duty, number: u8, tables: &[u16], base: usize, count: usize
 }
 
 // The rule with a number goes off. The others stay as they are, in their order. A refused call hands back the state that it was given.
+#[tactic(auto, unfolding(crate::specs::Duty::going_of))]
 pub fn go_off(duty: Duty, number: u8) -> Changed
     ensures { result ≡ changed_of duty (going_of duty number) }
 {
@@ -196,6 +198,7 @@ pub fn go_off(duty: Duty, number: u8) -> Changed
 }
 
 // Whether a run on duty would be refused, with an output and verdicts of these lengths.
+#[tactic(auto, unfolding(crate::specs::Duty::duty_run_of))]
 pub fn check_on_duty(
     tables: &[u16],
     duty: Duty,

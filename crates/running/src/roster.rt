@@ -19,6 +19,7 @@ pub(crate) fn vacant() -> OnDuty
 }
 
 // Whether one of the first n rules has this number.
+#[tactic(auto, using(crate::proofs::ListTests::any_last, crate::proofs::PlaceLaws::places_more), unfolding(crate::specs::Lists::any, crate::specs::Duty::in_places))]
 pub(crate) fn is_on(rules: [OnDuty; 4], n: usize, number: u8) -> bool
     requires { n ≤ 4 }
     ensures { result ≡ is_on number (in_places n rules) }
@@ -34,6 +35,7 @@ pub(crate) fn is_on(rules: [OnDuty; 4], n: usize, number: u8) -> bool
 }
 
 // Whether no two of the first n rules have the same number.
+#[tactic(auto, using(crate::proofs::RosterLaws::distinct_last, crate::proofs::PlaceLaws::places_more), unfolding(crate::specs::Duty::are_distinct, crate::specs::Duty::in_places))]
 fn are_distinct(rules: [OnDuty; 4], n: usize) -> bool
     requires { n ≤ 4 }
     ensures { result ≡ are_distinct (in_places n rules) }

@@ -14,6 +14,7 @@ use crate::{OnDuty, State};
 use synthesis::DROPPED;
 
 // Whether a rule's table is well formed, and its equation one of the table's.
+#[tactic(auto, using(crate::proofs::RosterLaws::no_table))]
 pub(crate) fn fits_at(tables: &[u16], rule: OnDuty) -> bool
     ensures { result ≡ fits_at most mark tables.now rule }
 {
@@ -28,6 +29,7 @@ pub(crate) fn fits_at(tables: &[u16], rule: OnDuty) -> bool
 }
 
 // Whether each of the first n rules is fit.
+#[tactic(auto, using(crate::proofs::ListTests::all_last, crate::proofs::PlaceLaws::places_more), unfolding(crate::specs::Lists::all, crate::specs::Duty::in_places))]
 pub(crate) fn all_fit(tables: &[u16], rules: [OnDuty; 4], n: usize) -> bool
     requires { n ≤ 4 }
     ensures { result ≡ all (fits_at most mark tables.now) (in_places n rules) }
@@ -98,6 +100,7 @@ struct LookedInPlace {
 }
 
 // Looks the scan up in the table of the rule in a place. Where no rule has the place, none drops the scan.
+#[tactic(auto, using(crate::proofs::Entries::entry_drops, crate::proofs::Entries::entry_moves), unfolding(crate::specs::Lists::any))]
 fn look_in_place(
     tables: &[u16],
     taken: bool,

@@ -1,0 +1,9 @@
+-- Behind the end of what is lent there are no rows.
+use Rattle.std.proofs.Common.{arith, drop, length-drop}
+use Rattle.synthesis.proofs.Tables.Rows.{row_none}
+use Rattle.running.proofs.serving.own_entry.Goals as goal
+
+pub returns-then-tables-base-clause-value : goal.returns-then-tables-base-clause-value
+returns-then-tables-base-clause-value c =
+    let x = c.args in
+    rw (row_none 256 (drop x.base x.tables.now) x.equation (omega (arith, length-drop x.base x.tables.now)))
