@@ -18,15 +18,15 @@ with_number word n h b adds = next_field 27 (decimal n) b adds (omega (arith, de
 
 pub field-requires : goal.field-requires
 field-requires c =
-    let b = with_word _ c.requires c.empty.ensures c.word.ensures in
+    let b = with_word c.args.word.now c.requires c.empty.ensures c.word.ensures in
     has_room _ b (omega (arith, decimal_digits 19 c.args.n (search rules)))
 
 pub newline-requires : goal.newline-requires
 newline-requires c =
-    let b = with_word _ c.requires c.empty.ensures c.word.ensures in
-    has_room 1 (with_number _ c.args.n (search rules) b c.field.ensures) (omega arith)
+    let b = with_word c.args.word.now c.requires c.empty.ensures c.word.ensures in
+    has_room 1 (with_number c.args.word.now c.args.n (search rules) b c.field.ensures) (omega arith)
 
 pub returns : goal.returns
 returns c =
-    let b = with_word _ c.requires c.empty.ensures c.word.ensures in
-    line_ended (with_number _ c.args.n (search rules) b c.field.ensures) c.newline.ensures
+    let b = with_word c.args.word.now c.requires c.empty.ensures c.word.ensures in
+    line_ended (with_number c.args.word.now c.args.n (search rules) b c.field.ensures) c.newline.ensures

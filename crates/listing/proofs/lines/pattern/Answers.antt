@@ -37,17 +37,17 @@ lowest-requires c =
 pub field-requires-2 : goal.field-requires-2
 field-requires-2 c =
     let b = with_number c.args.i (search rules) (with_word c.empty.ensures c.word.ensures) c.field.ensures in
-    has_room _ (with_lowest _ _ c.lowest.ensures.lowest_len_bound b c.lowest.ensures.adds)
+    has_room _ (with_lowest c.args.i c.args.extent.lowest c.lowest.ensures.lowest_len_bound b c.lowest.ensures.adds)
     (omega (arith, decimal_digits 4 c.args.extent.count (search rules)))
 
 pub newline-requires : goal.newline-requires
 newline-requires c =
     let b = with_number c.args.i (search rules) (with_word c.empty.ensures c.word.ensures) c.field.ensures in
-    let d = with_lowest _ _ c.lowest.ensures.lowest_len_bound b c.lowest.ensures.adds in
-    has_room 1 (with_count _ _ c.args.extent.count (search rules) d c.field-2.ensures) (omega arith)
+    let d = with_lowest c.args.i c.args.extent.lowest c.lowest.ensures.lowest_len_bound b c.lowest.ensures.adds in
+    has_room 1 (with_count c.args.i c.args.extent.lowest c.args.extent.count (search rules) d c.field-2.ensures) (omega arith)
 
 pub returns : goal.returns
 returns c =
     let b = with_number c.args.i (search rules) (with_word c.empty.ensures c.word.ensures) c.field.ensures in
-    let d = with_lowest _ _ c.lowest.ensures.lowest_len_bound b c.lowest.ensures.adds in
-    line_ended (with_count _ _ c.args.extent.count (search rules) d c.field-2.ensures) c.newline.ensures
+    let d = with_lowest c.args.i c.args.extent.lowest c.lowest.ensures.lowest_len_bound b c.lowest.ensures.adds in
+    line_ended (with_count c.args.i c.args.extent.lowest c.args.extent.count (search rules) d c.field-2.ensures) c.newline.ensures

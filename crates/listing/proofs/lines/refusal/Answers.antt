@@ -35,14 +35,14 @@ word-requires-2 c =
 pub field-requires-2 : goal.field-requires-2
 field-requires-2 c =
     let b = with_number c.args.number (search rules) (with_refused c.empty.ensures c.word.ensures) c.field.ensures in
-    has_room _ (with_at _ b c.word-2.ensures) (omega (arith, decimal_digits 19 c.args.place (search rules)))
+    has_room _ (with_at c.args.number b c.word-2.ensures) (omega (arith, decimal_digits 19 c.args.place (search rules)))
 
 pub newline-requires : goal.newline-requires
 newline-requires c =
     let b = with_number c.args.number (search rules) (with_refused c.empty.ensures c.word.ensures) c.field.ensures in
-    has_room 1 (with_place _ c.args.place (search rules) (with_at _ b c.word-2.ensures) c.field-2.ensures) (omega arith)
+    has_room 1 (with_place c.args.number c.args.place (search rules) (with_at c.args.number b c.word-2.ensures) c.field-2.ensures) (omega arith)
 
 pub returns : goal.returns
 returns c =
     let b = with_number c.args.number (search rules) (with_refused c.empty.ensures c.word.ensures) c.field.ensures in
-    line_ended (with_place _ c.args.place (search rules) (with_at _ b c.word-2.ensures) c.field-2.ensures) c.newline.ensures
+    line_ended (with_place c.args.number c.args.place (search rules) (with_at c.args.number b c.word-2.ensures) c.field-2.ensures) c.newline.ensures

@@ -39,24 +39,24 @@ field-requires c =
 pub field-requires-2 : goal.field-requires-2
 field-requires-2 c =
     let b = with_equation c.args.k (search rules) c.empty.ensures c.decimal.ensures in
-    has_room _ (with_first _ c.args.first (search rules) b c.field.ensures) (omega (arith, decimal_digits 2 c.args.last (search rules)))
+    has_room _ (with_first c.args.k c.args.first (search rules) b c.field.ensures) (omega (arith, decimal_digits 2 c.args.last (search rules)))
 
 pub entry-requires : goal.entry-requires
 entry-requires c =
     let b = with_equation c.args.k (search rules) c.empty.ensures c.decimal.ensures in
-    let d = with_first _ c.args.first (search rules) b c.field.ensures in
-    has_room 6 (with_last _ _ c.args.last (search rules) d c.field-2.ensures) (omega arith)
+    let d = with_first c.args.k c.args.first (search rules) b c.field.ensures in
+    has_room 6 (with_last c.args.k c.args.first c.args.last (search rules) d c.field-2.ensures) (omega arith)
 
 pub newline-requires : goal.newline-requires
 newline-requires c =
     let b = with_equation c.args.k (search rules) c.empty.ensures c.decimal.ensures in
-    let d = with_first _ c.args.first (search rules) b c.field.ensures in
-    let e = with_last _ _ c.args.last (search rules) d c.field-2.ensures in
-    has_room 1 (with_entry _ _ _ c.args.entry (search rules) e c.entry.ensures) (omega arith)
+    let d = with_first c.args.k c.args.first (search rules) b c.field.ensures in
+    let e = with_last c.args.k c.args.first c.args.last (search rules) d c.field-2.ensures in
+    has_room 1 (with_entry c.args.k c.args.first c.args.last c.args.entry (search rules) e c.entry.ensures) (omega arith)
 
 pub returns : goal.returns
 returns c =
     let b = with_equation c.args.k (search rules) c.empty.ensures c.decimal.ensures in
-    let d = with_first _ c.args.first (search rules) b c.field.ensures in
-    let e = with_last _ _ c.args.last (search rules) d c.field-2.ensures in
-    line_ended (with_entry _ _ _ c.args.entry (search rules) e c.entry.ensures) c.newline.ensures
+    let d = with_first c.args.k c.args.first (search rules) b c.field.ensures in
+    let e = with_last c.args.k c.args.first c.args.last (search rules) d c.field-2.ensures in
+    line_ended (with_entry c.args.k c.args.first c.args.last c.args.entry (search rules) e c.entry.ensures) c.newline.ensures
