@@ -13,7 +13,7 @@ ghost use Rattle.listing.specs.LineParts.{Gives};
 use reading::NumberedRule;
 
 // A line of text: its first len bytes. The others are 0.
-#[derive(Drop)]
+#[derive(Clone, Copy)]
 pub struct Line {
     pub bytes: [u8; 64],
     pub len: usize,

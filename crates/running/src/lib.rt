@@ -57,7 +57,7 @@ pub struct Duty {
 }
 
 // What a coming or a going hands back: whether it was refused, and the state after it.
-#[derive(Drop)]
+#[derive(Clone, Copy)]
 pub struct Changed {
     pub checked: Checked,
     pub duty: Duty,
