@@ -6,7 +6,7 @@ use Rattle.synthesis.proofs.merging.merge.Given as goal
 
 abbrev pub invariant-loop-left : goal.invariant-loop-left
 invariant-loop-left l =
-    let n = length l.classes in
+    let n = length l.initial.classes in
     record { in_range : l.left ≤ n; rounds_so_far : l.classes ≡ rounds 256 (lookup 256 mark l.long) n (n - l.left) }
 
 abbrev pub decreases-loop-left : goal.decreases-loop-left
