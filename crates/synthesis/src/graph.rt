@@ -123,9 +123,9 @@ fn add_to_codes(p: Pattern, k: usize, enabled: &mut [u64])
 }
 
 // Puts node k, where it is a necessity, into the set of each code that its pattern covers.
-fn enable(rule: NumberedRule, k: usize, enabled: &mut [u64])
-    requires { SomeNumbered rule k × (length enabled.old ≡ 256) }
-    ensures { (r : Rule) → IsNumbered r rule → EnabledBelow r k enabled.old → EnabledBelow r (k + 1) enabled.new }
+fn enable(rule: &NumberedRule, k: usize, enabled: &mut [u64])
+    requires { SomeNumbered rule.now k × (length enabled.old ≡ 256) }
+    ensures { (r : Rule) → IsNumbered r rule.now → EnabledBelow r k enabled.old → EnabledBelow r (k + 1) enabled.new }
 {
     let kinds = rule.kinds;
     if kinds[k] != NECESSITY {
@@ -145,7 +145,7 @@ fn enable_all(rule: NumberedRule, enabled: &mut [u64])
     let n = rule.nnodes;
     let mut k = 0;
     while k < n {
-        enable(rule, k, enabled);
+        enable(&rule, k, enabled);
         k += 1;
     }
 }
