@@ -1,7 +1,6 @@
 -- A pair that was not seen before finds room in the list.
-use Rattle.std.proofs.Common.{◌<◌, arith}
-use Rattle.models.specs.Exploring.{pair_limit}
-use Rattle.models.proofs.Pairs.WorklistLaws.{enqueued_old, found_room, enqueued_new}
+use Rattle.std.proofs.Common.{arith}
+use Rattle.models.proofs.Pairs.WorklistLaws.{found_room, enqueued_new}
 use Rattle.models.proofs.exploring.enqueue.Goals as goal
 
 pub offset_bounds-pairs-found : goal.offset_bounds-pairs-found

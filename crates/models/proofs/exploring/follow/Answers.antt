@@ -61,5 +61,5 @@ returns-clause-result_bound c =
     let p = c.requires in
     let none : get_or c.args.earlier.now (c.args.at.step - 1) 0 ≡ 0 = omega (arith, c.if-left-gt0.false) in
     let s =
-        followed_next_pair p.1 p.2 p.3 c.equation_after-next.ensures c.if-next.false c.enqueue-found.ensures refl none c.next_pair.ensures in
+    followed_next_pair p.1 p.2 p.3 c.equation_after-next.ensures c.if-next.false c.enqueue-found.ensures refl none c.next_pair.ensures in
     omega (arith, c.next_pair.ensures.not_before, s.step_inside, index_inside p.1 p.2)

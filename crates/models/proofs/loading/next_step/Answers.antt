@@ -1,14 +1,11 @@
 -- The three ways out: the end of the file, a refusal, and a step.
-use Rattle.std.proofs.Common.{◌≡◌, ◌+◌, ◌-◌, ◌≤◌, ◌<◌, length, arith}
+use Rattle.std.proofs.Common.{◌≡◌, ◌-◌}
 use Rattle.reading.specs.File.{accepted}
 use Rattle.reading.specs.Representations.{record_at}
-use Rattle.reading.proofs.Basics.ByteLaws.{slice_bytes}
 use Rattle.reading.proofs.Basics.Outcomes.{by_case-value}
-use Rattle.reading.proofs.RecordLists.RecordWays.{record_accepted}
-use Rattle.models.specs.Phone.{record_length, step_format}
+use Rattle.models.specs.Phone.{step_format}
 use Rattle.models.proofs.Files.Cases.{step_cases}
 use Rattle.models.proofs.Files.FileWays.{next_at_end, next_refused, next_read}
-use Rattle.models.proofs.Files.StepBytes.{step_inside}
 use Rattle.models.proofs.loading.next_step.Goals as goal
 
 pub returns-then-bytes-at : goal.returns-then-bytes-at
@@ -21,5 +18,5 @@ returns-in_default c steps b =
 pub returns : goal.returns
 returns c steps b =
     let is_read : record_at (step_format c.args.bytes.now c.args.states) (512 - c.args.n) c.args.at ≡ accepted c.in-Read.step =
-        by_case-value step_cases _ _ c.in-Read.ensures in
+    by_case-value step_cases _ _ c.in-Read.ensures in
     rw c.record_length-width.ensures (next_read b c.in-Read.step c.if-bytes-at.false is_read)

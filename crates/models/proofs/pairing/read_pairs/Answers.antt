@@ -1,5 +1,5 @@
 -- A pair is refused, or one pair more is read, and in the end all of them.
-use Rattle.std.proofs.Common.{◌≡◌, ◌+◌, ◌≤◌, length, arith}
+use Rattle.std.proofs.Common.{◌≡◌, arith}
 use Rattle.reading.specs.File.{accepted}
 use Rattle.reading.proofs.Basics.Outcomes.{by_case-value}
 use Rattle.models.specs.Pairs.{Pair, pair_at}
@@ -18,7 +18,7 @@ pub loop-at-preserved : goal.loop-at-preserved
 loop-at-preserved c =
     let pair : Pair = record { first = c.in-Read.x; second = c.in-Read.y } in
     let is_pair : pair_at c.args.bytes.now c.args.first c.args.second c.loop-at.at c.loop-at.left ≡ accepted pair =
-        by_case-value pair_cases _ pair c.in-Read.ensures in
+    by_case-value pair_cases _ pair c.in-Read.ensures in
     let stands = pair_stands c.args.bytes.now c.args.first c.args.second c.loop-at.at c.loop-at.left pair is_pair in
     record {
       inside = omega (arith, stands.whole);
