@@ -34,7 +34,7 @@ pub struct Step {
 }
 
 // A phone model: how many states it has, and its steps, the first nsteps of the array.
-#[derive(Drop)]
+#[derive(Clone, Copy)]
 pub struct PhoneModel {
     pub states: usize,
     pub steps: [Step; 512],
