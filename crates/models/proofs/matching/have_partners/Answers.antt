@@ -1,8 +1,13 @@
 -- A step without a partner is found, or one step more has partners.
 use Rattle.std.proofs.Common.{arith}
 use mathlib.Core.Bool.{false≢true}
+use Rattle.models.proofs.Pairs.LinkLaws.{stored_step, stored_few, stored_length}
 use Rattle.models.proofs.Matchings.PartnerLaws.{next_has_partners, lacks_partners}
 use Rattle.models.proofs.matching.have_partners.Goals as goal
+
+pub partners-found-requires : goal.partners-found-requires
+partners-found-requires c =
+    (stored_few c.requires.1, record { long = stored_length c.requires.1; among = stored_step c.requires.1 })
 
 pub returns-then-related-found : goal.returns-then-related-found
 returns-then-related-found c =

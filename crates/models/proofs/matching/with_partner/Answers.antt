@@ -1,5 +1,5 @@
 -- The state of the step is added exactly where the step is a partner.
-use Rattle.std.proofs.Common.{sym, subst, arith}
+use Rattle.std.proofs.Common.{sym, subst, arith, rules}
 use Rattle.reading.specs.Pattern.{bit}
 use Rattle.models.specs.Relating.{WithPartner}
 use Rattle.models.proofs.Matchings.PartnerLaws.{no_target, partner_added}
@@ -14,4 +14,4 @@ unfolding bit
 returns c =
     let x = c.args in
     subst (WithPartner x.states x.step x.label x.targets) (sym c.with_state.ensures)
-    (partner_added x.states x.step x.label x.targets c.if-step-label.false (omega (arith, c.if-targets-step-eq0.false)))
+    (partner_added x.states x.step x.label x.targets (search rules) (omega (arith, c.if-targets-step-eq0.false)))
