@@ -17,8 +17,8 @@ overflow_mul-m c = omega (arith, counted_short_few (short_plan_counted _ _ _ _ c
 pub returns-then-table-m : goal.returns-then-table-m
 returns-then-table-m c =
     let left =
-        too_short_leaves (short_of most _) c.args.table.now (short_filling-by_count most _ _) _ c.short_plan_of-plan.ensures.answer_is _
-        c.in-Equations.is c.if-table-m.true in
+    too_short_leaves (short_of most _) c.args.table.now (short_filling-by_count most _ _) _ c.short_plan_of-plan.ensures.answer_is _
+    c.in-Equations.is c.if-table-m.true in
     record { value = left.0; table_after = left.1 }
 
 pub fill_short_rows-requires : goal.fill_short_rows-requires
@@ -28,7 +28,7 @@ pub returns : goal.returns
 returns c =
     let counted = short_plan_counted _ _ _ _ c.short_plan_of-plan.ensures c.in-Equations.is in
     let left =
-        filled_leaves (short_of most _) c.args.table.now (short_filling-by_count most _ _) _
-        (sym c.in-Equations.is ∙ c.short_plan_of-plan.ensures.answer_is) _ refl c.if-table-m.false _ counted.is _
-        (short_plan_filled counted _ _ c.fill_short_rows.ensures) in
+    filled_leaves (short_of most _) c.args.table.now (short_filling-by_count most _ _) _
+    (sym c.in-Equations.is ∙ c.short_plan_of-plan.ensures.answer_is) _ refl c.if-table-m.false _ counted.is _
+    (short_plan_filled counted _ _ c.fill_short_rows.ensures) in
     record { value = left.0; table_after = left.1 }

@@ -23,6 +23,6 @@ returns c =
     let p : IsPlan (synthesis_of (min c.args.limit most) c.args.rule.now) c.plan_of-plan.result = rw c.capped.ensures at c.plan_of-plan.ensures in
     let counted = plan_counted _ _ p c.in-Equations.is in
     let left =
-        filled_leaves (synthesis_of _ _) c.args.table.now (filling_by_count _ _ _) _ (sym c.in-Equations.is ∙ p.answer_is) _ refl c.if-table-n.false
-        _ counted.is _ (plan_filled counted _ _ c.fill_table.ensures) in
+    filled_leaves (synthesis_of _ _) c.args.table.now (filling_by_count _ _ _) _ (sym c.in-Equations.is ∙ p.answer_is) _ refl c.if-table-n.false
+    _ counted.is _ (plan_filled counted _ _ c.fill_table.ensures) in
     record { value = left.0; table_after = left.1 }

@@ -1,4 +1,4 @@
-use Rattle.std.proofs.Common.{◌≡◌, Bool, ℕ, List, get_or, sym, ◌∙◌, arith}
+use Rattle.std.proofs.Common.{Bool, ℕ, List, get_or, sym, ◌∙◌, arith}
 use Rattle.reading.proofs.Measures.BoundedTests.{every_is, every_not}
 use Rattle.synthesis.specs.Monitor.{mark, meaning}
 use Rattle.synthesis.specs.Merging.{up_to, same_answer}

@@ -9,7 +9,7 @@ invariant-loop-c l =
     record {
       in_range : l.c ≤ 256;
       same : (i : ℕ) → i < l.c
-        → same_answer (up_to l.classes (meaning mark (get_or l.a i mark))) (up_to l.classes (meaning mark (get_or l.b i mark))) ≡ true;
+          → same_answer (up_to l.classes (meaning mark (get_or l.a i mark))) (up_to l.classes (meaning mark (get_or l.b i mark))) ≡ true;
     }
 
 abbrev pub decreases-loop-c : goal.decreases-loop-c

@@ -11,7 +11,7 @@ invariant-loop-c l =
     record {
       in_range : l.c ≤ 256;
       filled : (classes fs : List ℕ) → AreNumbers (length l.numbers) classes fs l.numbers
-        → l.short ≡ entries_of mark (merged classes (lookup 256 mark l.long)) fs l.k l.c ++ drop l.c l.initial.short;
+          → l.short ≡ entries_of mark (merged classes (lookup 256 mark l.long)) fs l.k l.c ++ drop l.c l.initial.short;
     }
 
 abbrev pub decreases-loop-c : goal.decreases-loop-c

@@ -15,8 +15,8 @@ fill_short_row-requires c =
     let x = c.args in
     let i = c.loop-i.i in
     let below : get_or x.firsts.now i 0 < x.n =
-        rw (get_or-take x.m x.firsts.now i 0 (omega arith)) at
-        (all_at (λ k. k < x.n) (take x.m x.firsts.now) i 0 c.requires.4 (omega (arith, length-take-le x.m x.firsts.now c.requires.1))) in (
+    rw (get_or-take x.m x.firsts.now i 0 (omega arith)) at
+    (all_at (λ k. k < x.n) (take x.m x.firsts.now) i 0 c.requires.4 (omega (arith, length-take-le x.m x.firsts.now c.requires.1))) in (
       rw (length-take-le x.n x.numbers.now c.requires.2) (c.requires.0.row _ below),
       simp (length-take, length-drop) (omega arith),
     )

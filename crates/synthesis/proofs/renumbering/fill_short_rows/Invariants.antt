@@ -11,7 +11,7 @@ invariant-loop-i l =
     record {
       in_range : l.i ≤ l.m;
       filled : (classes : List ℕ) → AreNumbers l.n classes (take l.m l.firsts) l.numbers
-        → l.table ≡ rows mark (merged classes (lookup 256 mark l.long)) (take l.m l.firsts) 256 l.i ++ drop (256 * l.i) l.initial.table;
+          → l.table ≡ rows mark (merged classes (lookup 256 mark l.long)) (take l.m l.firsts) 256 l.i ++ drop (256 * l.i) l.initial.table;
     }
 
 abbrev pub decreases-loop-i : goal.decreases-loop-i

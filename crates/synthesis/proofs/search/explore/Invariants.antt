@@ -1,5 +1,5 @@
 -- The array holds what the answers to the codes so far give.
-use Rattle.std.proofs.Common.{◌≡◌, ◌-◌, ◌≤◌, List, ℕ}
+use Rattle.std.proofs.Common.{◌-◌, ◌≤◌, List, ℕ}
 use Rattle.synthesis.specs.Search.{explored}
 use Rattle.synthesis.specs.Arrays.{answer_by, Holds}
 use Rattle.synthesis.proofs.search.explore.Given as goal

@@ -1,5 +1,5 @@
-use Rattle.std.proofs.Common.{◌≤◌, ◌<◌, ◌^◌, sym, ◌∙◌, arith}
-use Rattle.synthesis.proofs.Unfolding.NodeSetLaws.{toggled, toggled_lt, without_lowest}
+use Rattle.std.proofs.Common.{◌<◌, ◌^◌, sym, ◌∙◌, arith}
+use Rattle.synthesis.proofs.Unfolding.NodeSetLaws.{toggled_lt, without_lowest}
 use Rattle.synthesis.proofs.Functions.Gathering.{gather_step, gather_none, has_lowest}
 use Rattle.synthesis.proofs.search.gather.Goals as goal
 

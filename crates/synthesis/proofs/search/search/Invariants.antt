@@ -1,5 +1,5 @@
 -- The array holds the equations found after the expansions so far.
-use Rattle.std.proofs.Common.{◌≡◌, ◌-◌, ◌≤◌}
+use Rattle.std.proofs.Common.{◌-◌, ◌≤◌}
 use Rattle.synthesis.specs.Search.{found}
 use Rattle.synthesis.specs.Arrays.{answer_by, Holds}
 use Rattle.synthesis.proofs.search.search.Given as goal

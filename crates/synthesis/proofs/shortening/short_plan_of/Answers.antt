@@ -12,7 +12,7 @@ pub number_classes-count-requires : goal.number_classes-count-requires
 number_classes-count-requires c =
     let p = plan_counted _ _ c.plan_of-plan.ensures c.in-Equations.is in
     let wf : WellFormedTable most mark c.in-Equations.equations c.fill_table.new.table =
-        rw p.count_is (long_well_formed _ p.synthesis p.is _ _ (omega (arith, p.fills.few)) (plan_filled p _ _ c.fill_table.ensures)) in
+    rw p.count_is (long_well_formed _ p.synthesis p.is _ _ (omega (arith, p.fills.few)) (plan_filled p _ _ c.fill_table.ensures)) in
     (wf, wf.few, wf.few)
 
 pub returns : goal.returns
@@ -21,7 +21,7 @@ returns c =
     let left = plan_filled p _ _ c.fill_table.ensures in
     let room : 256 * length p.synthesis.equations ≤ length c.args.long.now = omega (arith, p.fills.few) in
     let wf : WellFormedTable most mark c.in-Equations.equations c.fill_table.new.table =
-        rw p.count_is (long_well_formed _ p.synthesis p.is _ _ room left) in
+    rw p.count_is (long_well_formed _ p.synthesis p.is _ _ room left) in
     counted_short_plan _ p.synthesis p.is _ _ p.count_is wf
     (λ k code h b. long_answers _ p.synthesis p.is _ _ room left k code (omega (arith, h, p.count_is)) b) _ refl
     c.number_classes-count.ensures (search rules) (search rules)
