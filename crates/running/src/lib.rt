@@ -64,7 +64,7 @@ pub struct Changed {
 }
 
 // What a run on duty hands back: as a run does, with the state of the rules on duty for the state of a run.
-#[derive(Drop)]
+#[derive(Clone, Copy)]
 pub struct DutyRan {
     pub checked: Checked,
     pub duty: Duty,
