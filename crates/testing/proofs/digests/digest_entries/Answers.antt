@@ -5,6 +5,6 @@ use Rattle.testing.proofs.digests.digest_entries.Goals as goal
 
 pub loop-i-preserved : goal.loop-i-preserved
 loop-i-preserved c = (
-      omega arith,
-      rw (add-one c.loop-i.i, take-suc c.args.entries.now c.loop-i.i 0 (omega arith), digest_last, c.wide_entry.ensures.value, c.loop-i.invariant.1),
-    )
+  omega arith,
+  rw (add-one c.loop-i.i, take-suc c.args.entries.now c.loop-i.i 0 (omega arith), digest_last, c.wide_entry.ensures.value, c.loop-i.invariant.1),
+)
