@@ -1,6 +1,5 @@
-// The library for programs in C: counting, filling, explaining, judging, matching and running, under plain names. A slice is a pointer and a length; the
-// contracts suppose that it is good, and apart from what is changed. include/jarveun.h declares the functions, and says what a caller owes. The
-// definitions that the contracts cite stand in specs/ of the layers; Results.antt has the answers as numbers.
+// What programs in C call, under plain names: counting, filling, explaining, judging, matching and running. The crate `boundary_c` exports these functions.
+// The definitions that the contracts cite stand in specs/ of the layers; Results.antt has the answers as numbers.
 #![tactic(auto)]
 
 ghost use Rattle.std.specs.Prelude.{◌≡◌, length};
@@ -37,8 +36,7 @@ fn hand_back(answer: Counted, value: &mut usize) -> u8
 }
 
 // Counts the equations of a rule.
-#[unsafe(no_mangle)]
-pub extern "C" fn jarveun_count(rule: &[u8], value: &mut usize) -> u8
+pub fn jarveun_count(rule: &[u8], value: &mut usize) -> u8
     ensures value { result ≡ (counted_result (counted_of (synthesis_of most rule.now))).number }
     ensures value_after { value.new ≡ (counted_result (counted_of (synthesis_of most rule.now))).value }
 {
@@ -46,8 +44,7 @@ pub extern "C" fn jarveun_count(rule: &[u8], value: &mut usize) -> u8
 }
 
 // Fills a table with the rows of a rule's equations.
-#[unsafe(no_mangle)]
-pub extern "C" fn jarveun_fill(rule: &[u8], table: &mut [u16], value: &mut usize) -> u8
+pub fn jarveun_fill(rule: &[u8], table: &mut [u16], value: &mut usize) -> u8
     ensures value { result ≡ (counted_result (counted_of (filling_of most rule.now (length table.old)))).number }
     ensures value_after { value.new ≡ (counted_result (counted_of (filling_of most rule.now (length table.old)))).value }
     ensures table_after { table.new ≡ table_after mark (filling_of most rule.now (length table.old)) table.old }
@@ -56,8 +53,7 @@ pub extern "C" fn jarveun_fill(rule: &[u8], table: &mut [u16], value: &mut usize
 }
 
 // Counts the equations of a rule as the rule page shows it.
-#[unsafe(no_mangle)]
-pub extern "C" fn jarveun_count_preview(rule: &[u8], value: &mut usize) -> u8
+pub fn jarveun_count_preview(rule: &[u8], value: &mut usize) -> u8
     ensures value { result ≡ (counted_result (counted_of (preview_of rule.now))).number }
     ensures value_after { value.new ≡ (counted_result (counted_of (preview_of rule.now))).value }
 {
@@ -65,8 +61,7 @@ pub extern "C" fn jarveun_count_preview(rule: &[u8], value: &mut usize) -> u8
 }
 
 // Fills a table with their rows.
-#[unsafe(no_mangle)]
-pub extern "C" fn jarveun_fill_preview(rule: &[u8], table: &mut [u16], value: &mut usize) -> u8
+pub fn jarveun_fill_preview(rule: &[u8], table: &mut [u16], value: &mut usize) -> u8
     ensures value { result ≡ (counted_result (counted_of (preview_filling_of rule.now (length table.old)))).number }
     ensures value_after { value.new ≡ (counted_result (counted_of (preview_filling_of rule.now (length table.old)))).value }
     ensures table_after { table.new ≡ table_after mark (preview_filling_of rule.now (length table.old)) table.old }
@@ -75,8 +70,7 @@ pub extern "C" fn jarveun_fill_preview(rule: &[u8], table: &mut [u16], value: &m
 }
 
 // Counts the rows of a rule's short table.
-#[unsafe(no_mangle)]
-pub extern "C" fn jarveun_count_short(rule: &[u8], value: &mut usize) -> u8
+pub fn jarveun_count_short(rule: &[u8], value: &mut usize) -> u8
     ensures value { result ≡ (counted_result (counted_of (short_of most rule.now))).number }
     ensures value_after { value.new ≡ (counted_result (counted_of (short_of most rule.now))).value }
 {
@@ -84,8 +78,7 @@ pub extern "C" fn jarveun_count_short(rule: &[u8], value: &mut usize) -> u8
 }
 
 // Fills a table with these rows.
-#[unsafe(no_mangle)]
-pub extern "C" fn jarveun_fill_short(rule: &[u8], table: &mut [u16], value: &mut usize) -> u8
+pub fn jarveun_fill_short(rule: &[u8], table: &mut [u16], value: &mut usize) -> u8
     ensures value { result ≡ (counted_result (counted_of (short_filling_of most rule.now (length table.old)))).number }
     ensures value_after { value.new ≡ (counted_result (counted_of (short_filling_of most rule.now (length table.old)))).value }
     ensures table_after { table.new ≡ table_after mark (short_filling_of most rule.now (length table.old)) table.old }
@@ -95,8 +88,7 @@ pub extern "C" fn jarveun_fill_short(rule: &[u8], table: &mut [u16], value: &mut
 
 // Explains why a scan is dropped after the scans kept so far. Answers 0, with the number of an ff node in `value`, or `KEPT_VALUE` where the scan is
 // kept; or the number of a refusal, with its place.
-#[unsafe(no_mangle)]
-pub extern "C" fn jarveun_explain(rule: &[u8], kept: &[u8], scan: u8, value: &mut usize) -> u8
+pub fn jarveun_explain(rule: &[u8], kept: &[u8], scan: u8, value: &mut usize) -> u8
     ensures value { result ≡ (reason_result (reason_of (explanation_of most rule.now kept.now scan))).number }
     ensures value_after { value.new ≡ (reason_result (reason_of (explanation_of most rule.now kept.now scan))).value }
 {
@@ -118,13 +110,7 @@ pub extern "C" fn jarveun_explain(rule: &[u8], kept: &[u8], scan: u8, value: &mu
 
 // Judges a model under a rule. Answers 0, with 1 in `value` where it meets the rule and 0 where it breaks it, or the number of a refusal, with
 // its place.
-#[unsafe(no_mangle)]
-pub extern "C" fn jarveun_judge(
-    rule: &[u8],
-    model: &[u8],
-    table: &mut [u16],
-    value: &mut usize,
-) -> u8
+pub fn jarveun_judge(rule: &[u8], model: &[u8], table: &mut [u16], value: &mut usize) -> u8
     ensures judged_as { (answer : Judged) × JudgedAs (judging_of most rule.now (length table.old) model.now) answer
         × (result ≡ (judged_result answer).number) × (value.new ≡ (judged_result answer).value) }
     ensures table_after { table.new
@@ -191,8 +177,7 @@ fn match_result(answer: Matched) -> MatchResult
 
 // Says whether a list of pairs of states matches two models. Answers 0, with 1 in `value` for yes and 0 for no, and 0 in `input`; or the number of a
 // refusal, with its place, and in `input` what it is about: 1 the first model, 2 the second, 3 the list.
-#[unsafe(no_mangle)]
-pub extern "C" fn jarveun_match(
+pub fn jarveun_match(
     first: &[u8],
     second: &[u8],
     pairs: &[u8],
@@ -221,8 +206,7 @@ fn number_of(checked: Checked) -> u8
 
 // Runs over scans from `equation`, which becomes the one in which the run ends; puts how many were kept and dropped into `kept` and `dropped`.
 // Answers 0, or the number of a refusal, whose place is 0.
-#[unsafe(no_mangle)]
-pub extern "C" fn jarveun_run(
+pub fn jarveun_run(
     table: &[u16],
     count: usize,
     equation: &mut usize,
