@@ -1,4 +1,4 @@
-// The rules, models, scans and lists of pairs on which the functions are called.
+// The rules, models and scans on which the functions are called.
 pub const POOL: [u8; 23] = [
     1, 2, 5, 5, 1, 1, 5, 5, 1, 16, 0, 31, 6, 5, 0, 4, 5, 1, 3, 5, 2, 7, 0,
 ];
@@ -50,17 +50,3 @@ pub const CANCELLED: [u8; 1] = [37];
 pub const SYNCED: [u8; 2] = [37, 128];
 
 pub const VIOLATING: [u8; 2] = [37, 5];
-
-// A drawing that goes to and fro between two states with code 5, and a simplified one that stays where it is.
-pub const DRAWN: [u8; 10] = [16, 2, 17, 0, 5, 1, 17, 1, 5, 0];
-
-pub const SIMPLIFIED: [u8; 6] = [16, 1, 17, 0, 5, 0];
-
-// The pairs that match them, and lists that lack the second pair, end inside a pair, and name a state that the drawing doesn't have.
-pub const MATCHING: [u8; 4] = [0, 0, 1, 0];
-
-pub const STARTS: [u8; 2] = [0, 0];
-
-pub const HALF: [u8; 1] = [0];
-
-pub const UNKNOWN: [u8; 2] = [2, 0];

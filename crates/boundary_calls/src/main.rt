@@ -1,17 +1,15 @@
-// A test program: the functions for C, called on the paper's rule, model and scans, on input that is refused, on a rule of 256 equations, and on two models
-// that match. Each call prints its answer and what it handed back beside it; where a table was lent to be filled, how many entries of that are untouched; and
-// where it is a run, what both buffers hold.
+// A test program: the functions for C, called on the paper's rule, model and scans, on input that is refused, and on a rule of 256 equations. Each call prints its answer and what it
+// handed back beside it; where a table was lent to be filled, how many entries of that are untouched; and where it is a run, what both buffers hold.
 #![tactic(auto)]
 
 mod inputs;
 mod printing;
 
 use inputs::{
-    ALIKE, BREAKS, CANCELLED, CUT, DRAWN, EITHER, FIVES, FULL_PAGE, HALF, MANY, MATCHING, MEETS,
-    NOTHING, OVER_PAGE, PAST_BYTES, POOL, SCANS, SIMPLIFIED, STARTS, SYNCED, UNGUARDED, UNKNOWN,
-    VIOLATING,
+    ALIKE, BREAKS, CANCELLED, CUT, EITHER, FIVES, FULL_PAGE, MANY, MEETS, NOTHING, OVER_PAGE,
+    PAST_BYTES, POOL, SCANS, SYNCED, UNGUARDED, VIOLATING,
 };
-use printing::{UNTOUCHED, print_byte, print_bytes, print_filled, print_result, print_three};
+use printing::{UNTOUCHED, print_byte, print_bytes, print_filled, print_result};
 use testing::{STDOUT_FILENO, print_field};
 
 fn count(rule: &[u8]) {
@@ -64,13 +62,6 @@ fn judge(rule: &[u8], model: &[u8], table: &mut [u16]) {
     let mut value = 99;
     let number = boundary::jarveun_judge(rule, model, table, &mut value);
     print_filled(b"judge", number, value, table);
-}
-
-fn match_models(first: &[u8], second: &[u8], pairs: &[u8]) {
-    let mut value = 99;
-    let mut input = 99;
-    let number = boundary::jarveun_match(first, second, pairs, &mut value, &mut input);
-    print_three(b"match", number, value, input);
 }
 
 // Runs over scans. The line has the equation, both counts and both buffers after the answer.
@@ -185,17 +176,6 @@ fn explain_all() {
     explain(&EITHER, &CANCELLED, 5);
 }
 
-// Asks whether lists of pairs match two models.
-fn match_all() {
-    match_models(&DRAWN, &SIMPLIFIED, &MATCHING);
-    match_models(&DRAWN, &SIMPLIFIED, &STARTS);
-    match_models(&DRAWN, &SIMPLIFIED, &NOTHING);
-    match_models(&DRAWN, &SIMPLIFIED, &HALF);
-    match_models(&DRAWN, &SIMPLIFIED, &UNKNOWN);
-    match_models(&NOTHING, &SIMPLIFIED, &STARTS);
-    match_models(&DRAWN, &NOTHING, &STARTS);
-}
-
 // Runs over a table that three rows just fit.
 fn run_long() {
     let mut table = [UNTOUCHED; 768];
@@ -251,7 +231,6 @@ fn main() {
     preview_less_than_all();
     preview_all();
     explain_all();
-    match_all();
     run_long();
     run_preview();
     run_short();

@@ -45,20 +45,15 @@ fn print_answer(name: &[u8], number: u8, value: usize) {
     print_field(value as u64);
 }
 
-// The line of a call that has nothing else.
+// The line of a call to which no table was lent.
 pub(crate) fn print_result(name: &[u8], number: u8, value: usize) {
     print_answer(name, number, value);
     io::write_all(STDOUT_FILENO, b"\n");
 }
 
-// The line of one with a third number beside these.
-pub(crate) fn print_three(name: &[u8], number: u8, value: usize, third: usize) {
-    print_answer(name, number, value);
-    print_field(third as u64);
-    io::write_all(STDOUT_FILENO, b"\n");
-}
-
 // The line of one to which this table was lent.
 pub(crate) fn print_filled(name: &[u8], number: u8, value: usize, table: &[u16]) {
-    print_three(name, number, value, untouched(table));
+    print_answer(name, number, value);
+    print_field(untouched(table) as u64);
+    io::write_all(STDOUT_FILENO, b"\n");
 }
