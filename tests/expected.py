@@ -14,8 +14,8 @@ MOST_ENTRIES = 262144
 FRESH, STEP = 65521, 263
 CYCLE = array("H", [STEP * i % FRESH for i in range(FRESH)]) * (MOST_ENTRIES // FRESH + 2)
 
-# The folders of a crate that no script writes.
-SOURCES = {"src", "specs", "proofs", "must-fail"}
+# The folders of a crate that no script here writes.
+SOURCES = {"src", "specs", "proofs", "must-fail", "out"}
 
 
 def three_bytes(number):

@@ -111,15 +111,6 @@ LINES = [
     "explain 0 4",
     "explain 0 64",
     "explain 17 0",
-    # both states of the drawing beside the one state; a list that lacks the second pair, and an empty one
-    "match 0 1 0",
-    "match 0 0 0",
-    "match 0 0 0",
-    # a list that ends inside a pair, and one with a state that the drawing doesn't have; then each model empty
-    "match 22 1 3",
-    "match 23 0 3",
-    "match 11 0 1",
-    "match 11 0 2",
     # 768
     "judge 0 1 0",
     "fill 0 3 0",
@@ -142,6 +133,19 @@ LINES = [
     "run 0 255 6 0 5 5 5 5 5 5 7 7 0 0 0 0 0 0 7 7",
     "run 0 213 6 0 37 5 128 5 37 5 7 7 0 0 0 0 0 0 7 7",
     "run 16 256 0 0 7 7 7 7 7 7 7 7 0 0 0 0 0 0 7 7",
+]
+
+# Those of matching have no table: beside the value stands which input a refusal is about.
+MATCHES = [
+    # both states of the drawing beside the one state; a list that lacks the second pair, and an empty one
+    "match 0 1 0",
+    "match 0 0 0",
+    "match 0 0 0",
+    # a list that ends inside a pair, and one with a state that the drawing doesn't have; then each model empty
+    "match 22 1 3",
+    "match 23 0 3",
+    "match 11 0 1",
+    "match 11 0 2",
 ]
 
 
@@ -248,16 +252,22 @@ def all_lines():
     reasons = [explained_line(POOL, "37", 5), explained_line(POOL, "37 128", 5)]
     reasons += [explained_line(POOL, "37 5", 5), explained_line(POOL, "37 5", 128), explained_line(UNGUARDED, "37 5", 5)]
     reasons += [explained_line(EITHER, "", scan) for scan in (5, 37, 6)] + [explained_line(EITHER, "37", 5)]
+    return counts + table_lines() + preview_lines() + reasons + run_lines() + past_lines()
+
+
+def match_lines():
+    """The lines of matching."""
     matches = [matched_line(DRAWN, SIMPLIFIED, pairs) for pairs in ("0 0 1 0", "0 0", "", "0", "2 0")]
-    matches += [matched_line("", SIMPLIFIED, "0 0"), matched_line(DRAWN, "", "0 0")]
-    return counts + table_lines() + preview_lines() + reasons + matches + run_lines() + past_lines()
+    return matches + [matched_line("", SIMPLIFIED, "0 0"), matched_line(DRAWN, "", "0 0")]
 
 
 def main():
     checks = is_check(__doc__)
     expect(all_lines() == LINES, "calls", all_lines())
+    expect(match_lines() == MATCHES, "matches", match_lines())
     settle("boundary_calls", b"", LINES, checks)
-    print(f"{len(LINES)} calls")
+    settle("matching_calls", b"", MATCHES, checks)
+    print(f"{len(LINES) + len(MATCHES)} calls")
 
 
 if __name__ == "__main__":
