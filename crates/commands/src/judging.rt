@@ -36,24 +36,13 @@ fn print_judged<W: Write, E: Write>(
     ensures judges_files { JudgesFiles rule.now model.now result }
 {
     let answer = models::judge_within(rule, model, LIMIT, table);
-    print_line("meets: standard output", answer_line(answer), stdout, stderr);
+    print_line(
+        "meets: standard output",
+        answer_line(answer),
+        stdout,
+        stderr,
+    );
     answer
-}
-
-// The same with writers in the place of standard output and error.
-pub fn meets_of<F: Files, W: Write, E: Write>(
-    files: &F,
-    stdout: &mut W,
-    stderr: &mut E,
-) -> Judged
-    ensures { (s : List ℕ) × (f : List ℕ) × Bytes s × Bytes f × JudgesFiles s f result }
-{
-    let mut rule = [0u8; FILE];
-    let n = read_file("meets: rule.bin", files, "rule.bin", &mut rule, stderr);
-    let mut model = [0u8; FILE];
-    let k = read_file("meets: model.bin", files, "model.bin", &mut model, stderr);
-    let mut table = [0u16; TABLE];
-    print_judged(&rule[..n], &model[..k], &mut table, stdout, stderr)
 }
 
 // Reads a rule from the file rule.bin and a model from the file model.bin, prints whether the model meets the rule or why one is refused, and
@@ -62,4 +51,16 @@ pub fn meets(rt: &HostRuntime) -> Judged
     ensures { (s : List ℕ) × (f : List ℕ) × Bytes s × Bytes f × JudgesFiles s f result }
 {
     meets_of(rt, &mut rt.stdout(), &mut rt.stderr())
+}
+
+// The same with writers in the place of standard output and error.
+pub fn meets_of<F: Files, W: Write, E: Write>(files: &F, stdout: &mut W, stderr: &mut E) -> Judged
+    ensures { (s : List ℕ) × (f : List ℕ) × Bytes s × Bytes f × JudgesFiles s f result }
+{
+    let mut rule = [0u8; FILE];
+    let n = read_file("meets: rule.bin", files, "rule.bin", &mut rule, stderr);
+    let mut model = [0u8; FILE];
+    let k = read_file("meets: model.bin", files, "model.bin", &mut model, stderr);
+    let mut table = [0u16; TABLE];
+    print_judged(&rule[..n], &model[..k], &mut table, stdout, stderr)
 }

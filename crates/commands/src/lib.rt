@@ -54,12 +54,7 @@ struct Printed {
 }
 
 // Prints a line, and says whether it was written.
-fn print_line<W: Write, E: Write>(
-    what: &str,
-    line: Line,
-    stdout: &mut W,
-    stderr: &mut E,
-) -> bool
+fn print_line<W: Write, E: Write>(what: &str, line: Line, stdout: &mut W, stderr: &mut E) -> bool
     requires { Within line }
 {
     let bytes = line.bytes;
@@ -145,6 +140,14 @@ fn print_equations<W: Write, E: Write>(
     }
 }
 
+// Reads a rule file from standard input, prints the listing of its equations or why it is refused, and hands back the answer and how far
+// printing came. The first 257 bytes of a file settle the answer; no more than 4,096 are read.
+pub fn equations(rt: &HostRuntime) -> EquationsResult
+    ensures { (s : List ℕ) × (table : List ℕ) × Bytes s × Shows s table result }
+{
+    equations_of(&mut rt.stdin(), &mut rt.stdout(), &mut rt.stderr())
+}
+
 // The same with a reader and writers in the place of standard input, output and error.
 pub fn equations_of<R: Read, W: Write, E: Write>(
     stdin: &mut R,
@@ -157,12 +160,4 @@ pub fn equations_of<R: Read, W: Write, E: Write>(
     let n = read_whole("equations: standard input", stdin, &mut file, stderr);
     let mut table = [0u16; TABLE];
     print_equations(&file[..n], &mut table, stdout, stderr)
-}
-
-// Reads a rule file from standard input, prints the listing of its equations or why it is refused, and hands back the answer and how far
-// printing came. The first 257 bytes of a file settle the answer; no more than 4,096 are read.
-pub fn equations(rt: &HostRuntime) -> EquationsResult
-    ensures { (s : List ℕ) × (table : List ℕ) × Bytes s × Shows s table result }
-{
-    equations_of(&mut rt.stdin(), &mut rt.stdout(), &mut rt.stderr())
 }

@@ -149,6 +149,13 @@ fn sift_under<R: Read, W: Write, E: Write>(
     }
 }
 
+// Reads a rule from the file rule.bin, and writes the scans of standard input that it keeps, or else why it is refused.
+pub fn sift(rt: &HostRuntime) -> SiftResult
+    ensures { (s : List ℕ) × (table : List ℕ) × Bytes s × Sifts s table result }
+{
+    sift_of(rt, &mut rt.stdin(), &mut rt.stdout(), &mut rt.stderr())
+}
+
 // The same with a reader and writers in the place of standard input, output and error.
 pub fn sift_of<F: Files, R: Read, W: Write, E: Write>(
     files: &F,
@@ -162,11 +169,4 @@ pub fn sift_of<F: Files, R: Read, W: Write, E: Write>(
     let n = read_file("sift: rule.bin", files, "rule.bin", &mut file, stderr);
     let mut table = [0u16; TABLE];
     sift_under(&file[..n], &mut table, stdin, stdout, stderr)
-}
-
-// Reads a rule from the file rule.bin, and writes the scans of standard input that it keeps, or else why it is refused.
-pub fn sift(rt: &HostRuntime) -> SiftResult
-    ensures { (s : List ℕ) × (table : List ℕ) × Bytes s × Sifts s table result }
-{
-    sift_of(rt, &mut rt.stdin(), &mut rt.stdout(), &mut rt.stderr())
 }
