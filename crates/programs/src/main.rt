@@ -5,8 +5,7 @@
 mod signals;
 
 use signals::Signalled;
-use std::fs;
-use std::io;
+use std::{fs, io};
 
 // How many colons of a line have come, up to two, after one more byte of a text.
 fn colons_after(colons: u64, byte: u8) -> u64 {

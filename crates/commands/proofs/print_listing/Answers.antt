@@ -1,6 +1,6 @@
 -- Each line that isn't empty leads to a later position.
 use Rattle.std.proofs.Common.{arith}
-use Rattle.commands.proofs.Leading.{LeadsOn, leads_none, leads_next}
+use Rattle.commands.proofs.Leading.{leads_none, leads_next}
 use Rattle.commands.proofs.print_listing.Goals as goal
 
 pub loop-rule-init : goal.loop-rule-init

@@ -1,8 +1,8 @@
 -- The calls are on the table that filling leaves; after a refusal there are none.
-use Rattle.std.proofs.Common.{◌≡◌, length, sym, ◌∙◌, subst, arith}
+use Rattle.std.proofs.Common.{length, sym, ◌∙◌, subst, arith}
 use Rattle.reading.proofs.Basics.ByteLaws.{slice_bytes}
 use Rattle.synthesis.specs.Monitor.{mark, most}
-use Rattle.synthesis.specs.Building.{synthesis_of, counted_of, table_after}
+use Rattle.synthesis.specs.Building.{synthesis_of}
 use Rattle.synthesis.specs.Table.{WellFormedTable}
 use Rattle.synthesis.proofs.Tables.WellFormedTables.{well_formed_weaken}
 use Rattle.synthesis.proofs.Tables.SynthesisOutcomes.{filling_within_lem}
