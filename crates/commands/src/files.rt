@@ -1,88 +1,112 @@
-// Reading and writing. What fails is said on standard error, under the name that the caller gives it.
-ghost use Rattle.std.specs.Prelude.{◌≤◌, length};
-ghost use Rattle.io.specs.Counts.{IsPrefixLen};
+// Reading and writing. What fails is said under the name that the caller gives it, with why.
+ghost use Rattle.std.specs.Prelude.{◌≤◌, length, IfSome};
+ghost use Rattle.std.specs.Io.{ReadsAtMost};
 
-// Whether a call that answered this moved nothing because a signal came.
-fn is_interrupted(answer: isize) -> bool {
-    if 0 <= answer {
-        return false;
+use std::fmt::InlineText;
+use std::fs;
+use std::io::{Error, ErrorKind, Read, Result, Write};
+use std::rt::Files;
+
+// What stands in an error's text behind the system's own words: its number.
+const NUMBER: &str = " (os error ";
+
+// The words of an error's text.
+fn words_of(text: &str) -> &str {
+    match text.split_once(NUMBER) {
+        Some((words, _)) => words,
+        None => text,
     }
-    os::errno() == libc::EINTR
 }
 
-// Reads once, and again where a signal interrupts it. Answers how many bytes came, 0 at the end, or -1. The loop counts down from a
-// number of turns that no signals use up, so that it ends.
-pub(crate) fn read_some(what: &[u8], fd: i32, buffer: &mut [u8]) -> isize {
-    let mut got = libc::read(fd, buffer);
-    let mut left = u64::MAX;
-    while 0 < left && is_interrupted(got) {
-        got = libc::read(fd, buffer);
-        left -= 1;
+// Says what failed, and why.
+fn say<E: Write>(what: &str, why: Error, stderr: &mut E) {
+    let text = InlineText::<128>::of(why);
+    let words = words_of(text.as_str());
+    let _ = writeln!(stderr, "{what}: {words}");
+}
+
+// Reads once, and again where a signal interrupts it.
+fn read_once<R: Read>(input: &mut R, buffer: &mut [u8]) -> Result<usize>
+    ensures { ReadsAtMost result buffer.new }
+{
+    for _ in 0..u64::MAX {
+        match input.read(buffer) {
+            Err(why) if why.kind() == ErrorKind::Interrupted => {}
+            answer => return answer,
+        }
     }
-    if got < 0 {
-        os::fail(what);
+    Err(Error::from(ErrorKind::Interrupted))
+}
+
+// Reads once. Answers how many bytes came, 0 at the end, or none where the read fails.
+pub(crate) fn read_some<R: Read, E: Write>(
+    what: &str,
+    input: &mut R,
+    buffer: &mut [u8],
+    stderr: &mut E,
+) -> Option<usize>
+    ensures { IfSome result (λ n. n ≤ length buffer.new) }
+{
+    match read_once(input, buffer) {
+        Ok(n) => Some(n),
+        Err(why) => {
+            say(what, why, stderr);
+            None
+        }
     }
-    got
 }
 
 // Reads until the buffer is full or the input ends, and says how many bytes there are. An input of which a read fails has none.
-pub(crate) fn read_whole(what: &[u8], fd: i32, file: &mut [u8]) -> usize
-    ensures { IsPrefixLen result file.new }
+pub(crate) fn read_whole<R: Read, E: Write>(
+    what: &str,
+    input: &mut R,
+    file: &mut [u8],
+    stderr: &mut E,
+) -> usize
+    ensures { result ≤ length file.new }
 {
     let mut done = 0;
     while done < file.len() {
-        let got = read_some(what, fd, &mut file[done..]);
-        if got < 0 {
-            return 0;
+        match read_some(what, input, &mut file[done..], stderr) {
+            None => return 0,
+            Some(0) => return done,
+            Some(more) => done += more,
         }
-        let more = io::count(got, &file[done..]);
-        if more == 0 {
-            return done;
-        }
-        done += more;
     }
     done
 }
 
 // Reads the file of this name in the same way. One that can't be opened has no bytes.
-pub(crate) fn read_file(what: &[u8], name: &[u8], file: &mut [u8]) -> usize
-    ensures { IsPrefixLen result file.new }
+pub(crate) fn read_file<F: Files, E: Write>(
+    what: &str,
+    files: &F,
+    name: &str,
+    file: &mut [u8],
+    stderr: &mut E,
+) -> usize
+    ensures { result ≤ length file.new }
 {
-    let fd = os::open_read(name);
-    if fd < 0 {
-        os::fail(what);
-        return 0;
-    }
-    let n = read_whole(what, fd, file);
-    libc::close(fd);
-    n
-}
-
-// Writes once to standard output, and again where a signal interrupts it. Answers how many of the bytes were taken, 0 where it failed.
-fn write_some(what: &[u8], bytes: &[u8]) -> usize
-    ensures { result ≤ length bytes.now }
-{
-    let mut put = libc::write(libc::STDOUT_FILENO, bytes);
-    let mut left = u64::MAX;
-    while 0 < left && is_interrupted(put) {
-        put = libc::write(libc::STDOUT_FILENO, bytes);
-        left -= 1;
-    }
-    if put <= 0 {
-        os::fail(what);
-    }
-    io::count(put, bytes)
-}
-
-// Writes all of the bytes to standard output, or stops at a write that fails; says whether all were written.
-pub(crate) fn write_whole(what: &[u8], bytes: &[u8]) -> bool {
-    let mut done = 0;
-    while done < bytes.len() {
-        let more = write_some(what, &bytes[done..]);
-        if more == 0 {
-            return false;
+    match fs::open(files, name) {
+        Ok(mut input) => read_whole(what, &mut input, file, stderr),
+        Err(why) => {
+            say(what, why, stderr);
+            0
         }
-        done += more;
     }
-    true
+}
+
+// Writes all of the bytes, or stops at a write that fails; says whether all were written. A write that a signal interrupts is made again.
+pub(crate) fn write_whole<W: Write, E: Write>(
+    what: &str,
+    bytes: &[u8],
+    output: &mut W,
+    stderr: &mut E,
+) -> bool {
+    match output.write_all(bytes) {
+        Ok(()) => true,
+        Err(why) => {
+            say(what, why, stderr);
+            false
+        }
+    }
 }

@@ -5,9 +5,11 @@ ghost use Rattle.listing.specs.Positions.{line_of, Within};
 ghost use Rattle.commands.specs.Printing.{program_limit, judged_text, JudgesFiles};
 
 use crate::files::read_file;
-use crate::{LIMIT, TABLE, print_line};
+use crate::{FILE, LIMIT, TABLE, print_line};
 use listing::Line;
 use models::Judged;
+use std::io::Write;
+use std::rt::Files;
 
 // The line of an answer.
 fn answer_line(answer: Judged) -> Line
@@ -22,25 +24,43 @@ fn answer_line(answer: Judged) -> Line
 }
 
 // Judges a model file under a rule file, and prints the answer. (A slice of u8 consists of bytes.)
-fn print_judged(rule: &[u8], model: &[u8], table: &mut [u16]) -> Judged
+fn print_judged<W: Write, E: Write>(
+    rule: &[u8],
+    model: &[u8],
+    table: &mut [u16],
+    stdout: &mut W,
+    stderr: &mut E,
+) -> Judged
     requires { length table.old ≡ 256 * program_limit }
     ensures bytes { Bytes rule.now × Bytes model.now }
     ensures judges_files { JudgesFiles rule.now model.now result }
 {
     let answer = models::judge_within(rule, model, LIMIT, table);
-    print_line(b"meets: standard output", answer_line(answer));
+    print_line(
+        "meets: standard output",
+        answer_line(answer),
+        stdout,
+        stderr,
+    );
     answer
 }
 
 // Reads a rule from the file rule.bin and a model from the file model.bin, prints whether the model meets the rule or why one is refused, and
 // hands back the answer. No more than 4,096 bytes are read of each.
-pub fn meets() -> Judged
+pub fn meets(rt: &HostRuntime) -> Judged
     ensures { (s : List ℕ) × (f : List ℕ) × Bytes s × Bytes f × JudgesFiles s f result }
 {
-    let mut rule = io::buffer();
-    let n = read_file(b"meets: rule.bin", b"rule.bin", &mut rule);
-    let mut model = io::buffer();
-    let k = read_file(b"meets: model.bin", b"model.bin", &mut model);
+    meets_of(rt, &mut rt.stdout(), &mut rt.stderr())
+}
+
+// The same with writers in the place of standard output and error.
+pub fn meets_of<F: Files, W: Write, E: Write>(files: &F, stdout: &mut W, stderr: &mut E) -> Judged
+    ensures { (s : List ℕ) × (f : List ℕ) × Bytes s × Bytes f × JudgesFiles s f result }
+{
+    let mut rule = [0u8; FILE];
+    let n = read_file("meets: rule.bin", files, "rule.bin", &mut rule, stderr);
+    let mut model = [0u8; FILE];
+    let k = read_file("meets: model.bin", files, "model.bin", &mut model, stderr);
     let mut table = [0u16; TABLE];
-    print_judged(&rule[..n], &model[..k], &mut table)
+    print_judged(&rule[..n], &model[..k], &mut table, stdout, stderr)
 }

@@ -13,12 +13,12 @@ ghost use Rattle.listing.specs.Positions.{Within};
 ghost use Rattle.commands.specs.Printing.{program_limit, ListingStops, Stops, Shows};
 
 use files::{read_whole, write_whole};
-pub use judging::meets;
-use libc::STDIN_FILENO;
+pub use judging::{meets, meets_of};
 use listing::Line;
 use reading::NumberedRule;
 use running::State;
-pub use sifting::sift;
+pub use sifting::{sift, sift_of};
+use std::io::{Read, Write};
 use synthesis::Counted;
 
 // The most equations that a rule may have here. The library takes more.
@@ -26,6 +26,9 @@ const LIMIT: usize = 128;
 
 // The entries of a program's table: a row for each of them.
 const TABLE: usize = 256 * LIMIT;
+
+// The most bytes that are read of a rule file or a model file.
+const FILE: usize = 4096;
 
 // What `equations` hands back: what counting answers to the rule file, how many lines were printed, and whether all of them could be
 // written.
@@ -51,16 +54,22 @@ struct Printed {
 }
 
 // Prints a line, and says whether it was written.
-fn print_line(what: &[u8], line: Line) -> bool
+fn print_line<W: Write, E: Write>(what: &str, line: Line, stdout: &mut W, stderr: &mut E) -> bool
     requires { Within line }
 {
     let bytes = line.bytes;
     let n = line.len;
-    write_whole(what, &bytes[..n])
+    write_whole(what, &bytes[..n], stdout, stderr)
 }
 
 // Prints a listing, up to a line that can't be written.
-fn print_listing(rule: NumberedRule, table: &[u16], count: usize) -> Printed
+fn print_listing<W: Write, E: Write>(
+    rule: NumberedRule,
+    table: &[u16],
+    count: usize,
+    stdout: &mut W,
+    stderr: &mut E,
+) -> Printed
     ensures { ListingStops rule table.now count result.lines result.written }
 {
     let mut at = 0;
@@ -74,7 +83,7 @@ fn print_listing(rule: NumberedRule, table: &[u16], count: usize) -> Printed
                 written: true,
             };
         }
-        if !print_line(b"equations: standard output", line) {
+        if !print_line("equations: standard output", line, stdout, stderr) {
             return Printed {
                 lines,
                 written: false,
@@ -86,17 +95,23 @@ fn print_listing(rule: NumberedRule, table: &[u16], count: usize) -> Printed
 }
 
 // Prints the listing of a rule file from its table, or the line of a refusal.
-fn print_answer(answer: Counted, file: &[u8], table: &[u16]) -> Printed
+fn print_answer<W: Write, E: Write>(
+    answer: Counted,
+    file: &[u8],
+    table: &[u16],
+    stdout: &mut W,
+    stderr: &mut E,
+) -> Printed
     ensures { Stops answer (reading_of (rule_of file.now)).rule table.now result.lines result.written }
 {
     match answer {
         Counted::Equations(count) => {
             let reading = reading::read_rule(file);
-            print_listing(reading.rule, table, count)
+            print_listing(reading.rule, table, count, stdout, stderr)
         }
         Counted::Refused(number, place) => {
             let line = listing::refusal_line(number, place);
-            let written = print_line(b"equations: standard output", line);
+            let written = print_line("equations: standard output", line, stdout, stderr);
             Printed {
                 lines: written as usize,
                 written,
@@ -106,13 +121,18 @@ fn print_answer(answer: Counted, file: &[u8], table: &[u16]) -> Printed
 }
 
 // Fills the table of a rule file, and prints the answer. (A slice of u8 consists of bytes.)
-fn print_equations(file: &[u8], table: &mut [u16]) -> EquationsResult
+fn print_equations<W: Write, E: Write>(
+    file: &[u8],
+    table: &mut [u16],
+    stdout: &mut W,
+    stderr: &mut E,
+) -> EquationsResult
     requires { length table.old ≡ 256 * program_limit }
     ensures bytes { Bytes file.now }
     ensures shows { Shows file.now table.old result }
 {
     let answer = synthesis::fill_within(file, LIMIT, table);
-    let printed = print_answer(answer, file, table);
+    let printed = print_answer(answer, file, table, stdout, stderr);
     EquationsResult {
         answer,
         lines: printed.lines,
@@ -122,11 +142,22 @@ fn print_equations(file: &[u8], table: &mut [u16]) -> EquationsResult
 
 // Reads a rule file from standard input, prints the listing of its equations or why it is refused, and hands back the answer and how far
 // printing came. The first 257 bytes of a file settle the answer; no more than 4,096 are read.
-pub fn equations() -> EquationsResult
+pub fn equations(rt: &HostRuntime) -> EquationsResult
     ensures { (s : List ℕ) × (table : List ℕ) × Bytes s × Shows s table result }
 {
-    let mut file = io::buffer();
-    let n = read_whole(b"equations: standard input", STDIN_FILENO, &mut file);
+    equations_of(&mut rt.stdin(), &mut rt.stdout(), &mut rt.stderr())
+}
+
+// The same with a reader and writers in the place of standard input, output and error.
+pub fn equations_of<R: Read, W: Write, E: Write>(
+    stdin: &mut R,
+    stdout: &mut W,
+    stderr: &mut E,
+) -> EquationsResult
+    ensures { (s : List ℕ) × (table : List ℕ) × Bytes s × Shows s table result }
+{
+    let mut file = [0u8; FILE];
+    let n = read_whole("equations: standard input", stdin, &mut file, stderr);
     let mut table = [0u16; TABLE];
-    print_equations(&file[..n], &mut table)
+    print_equations(&file[..n], &mut table, stdout, stderr)
 }

@@ -8,10 +8,14 @@ ghost use Rattle.commands.specs.Printing.{program_limit};
 ghost use Rattle.commands.specs.Sifting.{EndsCallsOn, GoesOn, Sifts};
 
 use crate::files::{read_file, read_some, write_whole};
-use crate::{LIMIT, SiftResult, TABLE, print_line};
-use libc::STDIN_FILENO;
+use crate::{FILE, LIMIT, SiftResult, TABLE, print_line};
 use running::State;
+use std::io::{Read, Write};
+use std::rt::Files;
 use synthesis::Counted;
+
+// The most scans that are read at once.
+const BLOCK: usize = 65_536;
 
 // The state after a block of scans, and whether there may be more.
 #[derive(Clone, Copy)]
@@ -21,13 +25,15 @@ struct BlockResult {
 }
 
 // Runs over a block of scans, and writes those that are kept. (A slice of u8 consists of bytes.)
-fn sift_block(
+fn sift_block<W: Write, E: Write>(
     table: &[u16],
     count: usize,
     state: State,
     scans: &[u8],
     output: &mut [u8],
     verdicts: &mut [u8],
+    stdout: &mut W,
+    stderr: &mut E,
 ) -> BlockResult
     ensures bytes { Bytes scans.now }
     ensures state_value { result.state ≡ (result_of state (run_of most mark table.now count state scans.now
@@ -35,46 +41,74 @@ fn sift_block(
 {
     let ran = running::run(table, count, state, scans, output, verdicts);
     let kept = ran.kept;
-    let goes_on = write_whole(b"sift: standard output", &output[..kept]);
+    let goes_on = write_whole("sift: standard output", &output[..kept], stdout, stderr);
     let state = ran.state;
     BlockResult { state, goes_on }
 }
 
 // Reads once, and sifts what came.
-fn sift_some(
+fn sift_some<R: Read, W: Write, E: Write>(
     table: &[u16],
     count: usize,
     state: State,
     scans: &mut [u8],
     output: &mut [u8],
     verdicts: &mut [u8],
+    stdin: &mut R,
+    stdout: &mut W,
+    stderr: &mut E,
 ) -> BlockResult
     requires { (length scans.old ≤ length output.old) × (length scans.old ≤ length verdicts.old) }
     ensures { GoesOn table.now count state result.state }
 {
-    let got = read_some(b"sift: standard input", STDIN_FILENO, scans);
-    let n = io::count(got, scans);
+    let got = read_some("sift: standard input", stdin, scans, stderr);
+    let n = got.unwrap_or(0);
     if n == 0 {
         return BlockResult {
             state,
             goes_on: false,
         };
     }
-    sift_block(table, count, state, &scans[..n], output, verdicts)
+    sift_block(
+        table,
+        count,
+        state,
+        &scans[..n],
+        output,
+        verdicts,
+        stdout,
+        stderr,
+    )
 }
 
 // Sifts all of standard input. The loop counts down from a number of turns that no input uses up, so that it ends.
-fn sift_all(table: &[u16], count: usize) -> State
+fn sift_all<R: Read, W: Write, E: Write>(
+    table: &[u16],
+    count: usize,
+    stdin: &mut R,
+    stdout: &mut W,
+    stderr: &mut E,
+) -> State
     requires { WellFormedTable most mark count table.now }
     ensures { EndsCallsOn table.now count result }
 {
-    let mut scans = io::large_buffer();
-    let mut output = io::large_buffer();
-    let mut verdicts = io::large_buffer();
+    let mut scans = [0u8; BLOCK];
+    let mut output = [0u8; BLOCK];
+    let mut verdicts = [0u8; BLOCK];
     let mut state = running::start();
     let mut left = u64::MAX;
     while 0 < left {
-        let turn = sift_some(table, count, state, &mut scans, &mut output, &mut verdicts);
+        let turn = sift_some(
+            table,
+            count,
+            state,
+            &mut scans,
+            &mut output,
+            &mut verdicts,
+            stdin,
+            stdout,
+            stderr,
+        );
         state = turn.state;
         if !turn.goes_on {
             return state;
@@ -85,7 +119,13 @@ fn sift_all(table: &[u16], count: usize) -> State
 }
 
 // Fills the table of a rule file, and sifts standard input under it.
-fn sift_under(file: &[u8], table: &mut [u16]) -> SiftResult
+fn sift_under<R: Read, W: Write, E: Write>(
+    file: &[u8],
+    table: &mut [u16],
+    stdin: &mut R,
+    stdout: &mut W,
+    stderr: &mut E,
+) -> SiftResult
     requires { length table.old ≡ 256 * program_limit }
     ensures bytes { Bytes file.now }
     ensures sifts { Sifts file.now table.old result }
@@ -93,13 +133,15 @@ fn sift_under(file: &[u8], table: &mut [u16]) -> SiftResult
     let answer = synthesis::fill_within(file, LIMIT, table);
     match answer {
         Counted::Equations(count) => {
-            let state = sift_all(table, count);
+            let state = sift_all(table, count, stdin, stdout, stderr);
             SiftResult { answer, state }
         }
         Counted::Refused(number, place) => {
             print_line(
-                b"sift: standard output",
+                "sift: standard output",
                 listing::refusal_line(number, place),
+                stdout,
+                stderr,
             );
             let state = running::start();
             SiftResult { answer, state }
@@ -108,11 +150,23 @@ fn sift_under(file: &[u8], table: &mut [u16]) -> SiftResult
 }
 
 // Reads a rule from the file rule.bin, and writes the scans of standard input that it keeps, or else why it is refused.
-pub fn sift() -> SiftResult
+pub fn sift(rt: &HostRuntime) -> SiftResult
     ensures { (s : List ℕ) × (table : List ℕ) × Bytes s × Sifts s table result }
 {
-    let mut file = io::buffer();
-    let n = read_file(b"sift: rule.bin", b"rule.bin", &mut file);
+    sift_of(rt, &mut rt.stdin(), &mut rt.stdout(), &mut rt.stderr())
+}
+
+// The same with a reader and writers in the place of standard input, output and error.
+pub fn sift_of<F: Files, R: Read, W: Write, E: Write>(
+    files: &F,
+    stdin: &mut R,
+    stdout: &mut W,
+    stderr: &mut E,
+) -> SiftResult
+    ensures { (s : List ℕ) × (table : List ℕ) × Bytes s × Sifts s table result }
+{
+    let mut file = [0u8; FILE];
+    let n = read_file("sift: rule.bin", files, "rule.bin", &mut file, stderr);
     let mut table = [0u16; TABLE];
-    sift_under(&file[..n], &mut table)
+    sift_under(&file[..n], &mut table, stdin, stdout, stderr)
 }

@@ -1,6 +1,6 @@
 // Prints the equations of the rule file on standard input.
 #![tactic(auto)]
 
-fn main() {
-    commands::equations();
+fn main(rt: HostRuntime) {
+    commands::equations(&rt);
 }

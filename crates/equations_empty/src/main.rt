@@ -1,6 +1,6 @@
 // The program `equations` on an empty file.
 #![tactic(auto)]
 
-fn main() {
-    commands::equations();
+fn main(rt: HostRuntime) {
+    commands::equations(&rt);
 }

@@ -1,6 +1,6 @@
 // The program `equations` on a rule of 128 equations.
 #![tactic(auto)]
 
-fn main() {
-    commands::equations();
+fn main(rt: HostRuntime) {
+    commands::equations(&rt);
 }

@@ -1,6 +1,6 @@
 // The program `equations` on a long file that is refused.
 #![tactic(auto)]
 
-fn main() {
-    commands::equations();
+fn main(rt: HostRuntime) {
+    commands::equations(&rt);
 }

@@ -1,6 +1,6 @@
 // Prints whether the phone model in model.bin meets the rule in rule.bin, or why one is refused.
 #![tactic(auto)]
 
-fn main() {
-    commands::meets();
+fn main(rt: HostRuntime) {
+    commands::meets(&rt);
 }

@@ -1,6 +1,6 @@
 // The program `meets` with neither file.
 #![tactic(auto)]
 
-fn main() {
-    commands::meets();
+fn main(rt: HostRuntime) {
+    commands::meets(&rt);
 }

@@ -1,6 +1,6 @@
 // The program `meets` on a model that meets its rule.
 #![tactic(auto)]
 
-fn main() {
-    commands::meets();
+fn main(rt: HostRuntime) {
+    commands::meets(&rt);
 }

@@ -1,6 +1,6 @@
 // The program `meets` with no model.bin.
 #![tactic(auto)]
 
-fn main() {
-    commands::meets();
+fn main(rt: HostRuntime) {
+    commands::meets(&rt);
 }

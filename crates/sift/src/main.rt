@@ -1,6 +1,6 @@
 // Writes the scans of standard input that the rule in rule.bin keeps.
 #![tactic(auto)]
 
-fn main() {
-    commands::sift();
+fn main(rt: HostRuntime) {
+    commands::sift(&rt);
 }

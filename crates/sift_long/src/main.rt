@@ -1,6 +1,6 @@
 // The program `sift` on more scans than one block holds.
 #![tactic(auto)]
 
-fn main() {
-    commands::sift();
+fn main(rt: HostRuntime) {
+    commands::sift(&rt);
 }

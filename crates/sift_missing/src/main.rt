@@ -1,6 +1,6 @@
 // The program `sift` with no rule.bin.
 #![tactic(auto)]
 
-fn main() {
-    commands::sift();
+fn main(rt: HostRuntime) {
+    commands::sift(&rt);
 }

@@ -1,6 +1,6 @@
 // The program `sift` under a rule.bin that is refused, and longer than what is read of it.
 #![tactic(auto)]
 
-fn main() {
-    commands::sift();
+fn main(rt: HostRuntime) {
+    commands::sift(&rt);
 }
