@@ -1,6 +1,6 @@
 /* Jarveun for programs in C and C++: the equations of a rule are counted and filled into a table, scans are run through the table, a dropped scan is
    explained by the rule, a model of a phone is judged under it, and two models are matched by a list of pairs. README.md says what the files mean.
-   `rt staticlib boundary` writes target/staticlib/libboundary.a, for x86-64 Linux; it is linked beside the program, and wants nothing but memcpy and
+   `tools/build` writes target/staticlib/libboundary.a, for x86-64 Linux; it is linked beside the program, and wants nothing but memcpy and
    memset of the C library.
 
    Every function answers 0, or the number of a refusal. Whatever the bytes are, it ends, and does what is said here.
