@@ -35,7 +35,7 @@
 
    What a call takes
    - No globals, heap, files or locks: calls share nothing, and may run side by side, any number of them on one table that they only read.
-   - Stack. At most 200 bytes were seen in use by a run, 20,000 by matching, 65,000 by counting and by filling, for the page too, 68,000 by
+   - Stack. At most 200 bytes were seen in use by a run, 20,000 by matching, 67,000 by counting and by filling, for the page too, 70,000 by
      explaining, 260,000 by judging, and 600,000 by counting and filling for the short table, all but the first two on rules with 64 nodes, each
      inside the one before; bench/stack.c measures this.
 
