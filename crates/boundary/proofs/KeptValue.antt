@@ -7,7 +7,6 @@ use Rattle.reading.specs.File.{Outcome, accepted, refused}
 use Rattle.reading.proofs.Accepting.Accepted.{accepts_encodings}
 use Rattle.synthesis.specs.Monitor.{most}
 use Rattle.synthesis.specs.Building.{Synthesis, synthesis_of, counted_of}
-use Rattle.synthesis.specs.declared.Reason.TheVariants.{Node, Refused}
 use Rattle.synthesis.proofs.Tables.Equations.{answers_count}
 use Rattle.synthesis.proofs.Reasons.Explained.{reasons_exactly}
 use Rattle.boundary.specs.Results.{kept_value}
@@ -24,6 +23,6 @@ kept_is_no_node s w c m bytes e = on (synthesis_of most s) refl
         let within = ((accepts_encodings s bytes counts.rule).0 counts.is).0 in
         omega (arith, ((reasons_exactly most s bytes w c).explained counts.rule n counts.is counted).inside m e, within.few_nodes)
     on (refused number place) q =
-        let same : Refused number place ≡ Node m = sym ((reasons_exactly most s bytes w c).refused number place (ap counted_of q)) ∙ e in
+        let same : refused number place ≡ accepted (Some m) = sym ((reasons_exactly most s bytes w c).refused number place (ap counted_of q)) ∙ e in
         let z : ◌≡◌ {A = ℕ} 0 1 = cc in
         absurd (omega arith)

@@ -22,7 +22,6 @@ use Rattle.models.specs.Faults as Models
 use Rattle.models.specs.Judging.{with_model, judging_of}
 use Rattle.models.specs.Pairs.{pairs_of, matching_of, MatchedAs, paper_answer}
 use Rattle.models.specs.PairFaults.{PairFault, pair_cut, no_such_state, one_too_many}
-use Rattle.models.specs.declared.Matched.{Matched}
 use Rattle.models.proofs.Files.FileFaults.{model_refused, refuses_at_the_fault}
 use Rattle.models.proofs.Matchings.PairLists.{refuses_at_the_pair}
 use Rattle.models.proofs.Matchings.RefusalOrder.{refuses_by_number}
@@ -121,7 +120,7 @@ module _ (limit : ℕ) (s : List ℕ) (bytes : Bytes s) where
       (λ e. accepted_numbered (opened_falsities r e c)))
 
 -- what matching answers is refused as the first of its three inputs is
-pub matching_numbered : (f g l : List ℕ) → Bytes f → Bytes g → (answer : Matched) → MatchedAs (matching_of f g l) answer → Numbered (paper_answer answer)
+pub matching_numbered : (f g l : List ℕ) → Bytes f → Bytes g → (answer : MatchAnswer) → MatchedAs (matching_of f g l) answer → Numbered (paper_answer answer)
 matching_numbered f g l first second answer matched number place e =
     then_numbered (phone_of f) _ (model_numbered f first) (λ a.
     then_numbered (phone_of g) _ (model_numbered g second) (λ b. pairs_numbered l a.states b.states))

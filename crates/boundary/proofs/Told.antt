@@ -11,20 +11,10 @@ use Rattle.synthesis.specs.Monitor.{mark, most}
 use Rattle.synthesis.specs.NodeSet.{has, empty_set}
 use Rattle.synthesis.specs.Building.{Synthesis, counted_of}
 use Rattle.synthesis.specs.Reason.{explanation_of, reason_of}
-use Rattle.synthesis.specs.declared.Counted.{Counted}
-use Rattle.synthesis.specs.declared.Counted.TheVariants as Counted'
-use Rattle.synthesis.specs.declared.Reason.{Reason}
-use Rattle.synthesis.specs.declared.Reason.TheVariants as Reason'
 use Rattle.running.specs.Running.{result_of}
-use Rattle.running.specs.declared.Checked.{Checked}
-use Rattle.running.specs.declared.Checked.TheVariants as Checked'
 use Rattle.running.proofs.RunCases.{run_cases}
 use Rattle.models.specs.Judging.{RuleAndModel, JudgedAs}
-use Rattle.models.specs.declared.Judged.{Judged}
-use Rattle.models.specs.declared.Judged.TheVariants as Judged'
 use Rattle.models.specs.Pairs.{paper_answer}
-use Rattle.models.specs.declared.Matched.{Matched}
-use Rattle.models.specs.declared.Matched.TheVariants as Matched'
 use Rattle.boundary.specs.declared.MatchResult.{MatchResult}
 use Rattle.boundary.specs.Results.{Result, counted_result, kept_value, reason_result, judged_result, matched_result, checked_number, state_of}
 use Rattle.boundary.specs.Promises.{CountTold, TellsCounts, TellsReason, TellsJudgment, TellsMatch, TellsRun}
@@ -55,18 +45,18 @@ module _ {A : Type 0} (said : (value : ℕ) → A) (refusal : (number place : �
 
 -- ---- counting and filling
 
-abbrev count_back : Result → Counted
-count_back = read_back Counted'.Equations Counted'.Refused
+abbrev count_back : Result → Outcome ℕ
+count_back = read_back accepted refused
 
 count_back_lem : (o : Outcome Synthesis) → Numbered o → count_back (counted_result (counted_of o)) ≡ counted_of o
 count_back_lem (accepted y) numbered = refl
-count_back_lem (refused number place) numbered = refusal_back Counted'.Equations Counted'.Refused number place (numbered number place refl)
+count_back_lem (refused number place) numbered = refusal_back accepted refused number place (numbered number place refl)
 
 count_told : (o : Outcome Synthesis) → Numbered o → CountTold o
 count_told o numbered = record {
   counted = λ n. told_apart counted_result count_back (count_back_lem o numbered) refl;
   refused = λ number place some. told_apart counted_result count_back (count_back_lem o numbered)
-      (refusal_back Counted'.Equations Counted'.Refused number place some);
+      (refusal_back accepted refused number place some);
 }
 
 pub tells_counts : TellsCounts
@@ -81,24 +71,24 @@ tells_counts s capacity bytes = record {
 
 -- ---- explaining
 
-abbrev said_reason : (value : ℕ) → Reason
-said_reason value = or_else (kept_value - value) Reason'.Kept (Reason'.Node value)
+abbrev said_reason : (value : ℕ) → Outcome (Option ℕ)
+said_reason value = or_else (kept_value - value) (accepted None) ((accepted (Some value)))
 
-abbrev reason_back : Result → Reason
-reason_back = read_back said_reason Reason'.Refused
+abbrev reason_back : Result → Outcome (Option ℕ)
+reason_back = read_back said_reason refused
 
-node_back : (m : ℕ) → m < kept_value → reason_back (reason_result (Reason'.Node m)) ≡ Reason'.Node m
-node_back m inside = from_1 Reason'.Kept (Reason'.Node m) (kept_value - m) (omega (arith, inside))
+node_back : (m : ℕ) → m < kept_value → reason_back (reason_result ((accepted (Some m)))) ≡ accepted (Some m)
+node_back m inside = from_1 (accepted None) ((accepted (Some m))) (kept_value - m) (omega (arith, inside))
 
-reason_back_lem : (o : Outcome ℕ) → Numbered o → ((m : ℕ) → reason_of o ≡ Reason'.Node m → m < kept_value)
+reason_back_lem : (o : Outcome ℕ) → Numbered o → ((m : ℕ) → reason_of o ≡ accepted (Some m) → m < kept_value)
     → reason_back (reason_result (reason_of o)) ≡ reason_of o
 reason_back_lem (accepted set) numbered inside = on (eqb set empty_set) (least 64 (has set)) inside
   where
-    on : (b : Bool) (k : ℕ) → ((m : ℕ) → cond b Reason'.Kept (Reason'.Node k) ≡ Reason'.Node m → m < kept_value)
-        → reason_back (reason_result (cond b Reason'.Kept (Reason'.Node k))) ≡ cond b Reason'.Kept (Reason'.Node k)
+    on : (b : Bool) (k : ℕ) → ((m : ℕ) → cond b (accepted None) ((accepted (Some k))) ≡ accepted (Some m) → m < kept_value)
+        → reason_back (reason_result (cond b (accepted None) ((accepted (Some k))))) ≡ cond b (accepted None) ((accepted (Some k)))
     on true k inside = refl
     on false k inside = node_back k (inside k refl)
-reason_back_lem (refused number place) numbered inside = refusal_back said_reason Reason'.Refused number place (numbered number place refl)
+reason_back_lem (refused number place) numbered inside = refusal_back said_reason refused number place (numbered number place refl)
 
 pub tells_reason : TellsReason
 tells_reason s kept scan bytes =
@@ -106,21 +96,21 @@ tells_reason s kept scan bytes =
     record {
       kept = told_apart reason_result reason_back back refl;
       node = λ m inside. told_apart reason_result reason_back back (node_back m inside);
-      refused = λ number place some. told_apart reason_result reason_back back (refusal_back said_reason Reason'.Refused number place some);
+      refused = λ number place some. told_apart reason_result reason_back back (refusal_back said_reason refused number place some);
     }
 
 -- ---- judging
 
-abbrev said_judgment : (value : ℕ) → Judged
-said_judgment value = or_else value Judged'.Breaks Judged'.Meets
+abbrev said_judgment : (value : ℕ) → Outcome Judgment
+said_judgment value = or_else value (accepted Breaks) (accepted Meets)
 
-abbrev judged_back : Result → Judged
-judged_back = read_back said_judgment Judged'.Refused
+abbrev judged_back : Result → Outcome Judgment
+judged_back = read_back said_judgment refused
 
-judged_back_lem : (o : Outcome RuleAndModel) → Numbered o → (answer : Judged) → JudgedAs o answer → judged_back (judged_result answer) ≡ answer
+judged_back_lem : (o : Outcome RuleAndModel) → Numbered o → (answer : Outcome Judgment) → JudgedAs o answer → judged_back (judged_result answer) ≡ answer
 judged_back_lem (accepted x) numbered answer (inl (is, _)) = rw is
 judged_back_lem (accepted x) numbered answer (inr (is, _)) = rw is
-judged_back_lem (refused number place) numbered answer is = rw is (refusal_back said_judgment Judged'.Refused number place (numbered number place refl))
+judged_back_lem (refused number place) numbered answer is = rw is (refusal_back said_judgment refused number place (numbered number place refl))
 
 pub tells_judgment : TellsJudgment
 tells_judgment s f capacity answer bytes model judged =
@@ -128,33 +118,33 @@ tells_judgment s f capacity answer bytes model judged =
     record {
       meets = told_apart judged_result judged_back back refl;
       breaks = told_apart judged_result judged_back back refl;
-      refused = λ number place some. told_apart judged_result judged_back back (refusal_back said_judgment Judged'.Refused number place some);
+      refused = λ number place some. told_apart judged_result judged_back back (refusal_back said_judgment refused number place some);
     }
 
 -- ---- matching
 
-abbrev said_matched : (value : ℕ) → Matched
-said_matched value = or_else value Matched'.No Matched'.Yes
+abbrev said_matched : (value : ℕ) → MatchAnswer
+said_matched value = or_else value (said false) (said true)
 
 -- the refusal of an input
-abbrev refusal_of : (input number place : ℕ) → Matched
+abbrev refusal_of : (input number place : ℕ) → MatchAnswer
 refusal_of input number place =
-    or_else (input - 1) (Matched'.RefusedFirst number place)
-    (or_else (input - 2) (Matched'.RefusedSecond number place) (Matched'.RefusedPairs number place))
+    or_else (input - 1) (refused_first number place)
+    (or_else (input - 2) (refused_second number place) (refused_pairs number place))
 
-abbrev matched_back : MatchResult → Matched
+abbrev matched_back : MatchResult → MatchAnswer
 matched_back r = read_back said_matched (refusal_of r.input) (record { number = r.number; value = r.value })
 
 input_back : (input number place : ℕ) → 1 ≤ number
     → matched_back (record { number = number; value = place; input = input }) ≡ refusal_of input number place
 input_back input = refusal_back said_matched (refusal_of input)
 
-matched_back_lem : (answer : Matched) → Numbered (paper_answer answer) → matched_back (matched_result answer) ≡ answer
-matched_back_lem Matched'.Yes numbered = refl
-matched_back_lem Matched'.No numbered = refl
-matched_back_lem (Matched'.RefusedFirst number place) numbered = input_back 1 number place (numbered number place refl)
-matched_back_lem (Matched'.RefusedSecond number place) numbered = input_back 2 number place (numbered number place refl)
-matched_back_lem (Matched'.RefusedPairs number place) numbered = input_back 3 number place (numbered number place refl)
+matched_back_lem : (answer : MatchAnswer) → Numbered (paper_answer answer) → matched_back (matched_result answer) ≡ answer
+matched_back_lem (said true) numbered = refl
+matched_back_lem (said false) numbered = refl
+matched_back_lem (refused_first number place) numbered = input_back 1 number place (numbered number place refl)
+matched_back_lem (refused_second number place) numbered = input_back 2 number place (numbered number place refl)
+matched_back_lem (refused_pairs number place) numbered = input_back 3 number place (numbered number place refl)
 
 pub tells_match : TellsMatch
 tells_match f g l answer first second matched =
@@ -169,8 +159,8 @@ tells_match f g l answer first second matched =
 
 -- ---- a run
 
-abbrev checked_back : ℕ → Checked
-checked_back number = or_else number Checked'.Fit (Checked'.Refused number 0)
+abbrev checked_back : ℕ → Outcome Unit
+checked_back number = or_else number (accepted unit) (refused number 0)
 
 pub tells_run : TellsRun
 tells_run table count first scans output verdicts number equation kept dropped is =
@@ -180,6 +170,6 @@ tells_run table count first scans output verdicts number equation kept dropped i
     (λ r. refl) (λ r f. refl) (λ r f. refl) in
     record {
       fit = rw is.number_is (told_apart checked_number checked_back back refl);
-      refused = λ k some. rw is.number_is (told_apart checked_number checked_back back (from_1 Checked'.Fit (Checked'.Refused k 0) k some));
+      refused = λ k some. rw is.number_is (told_apart checked_number checked_back back (from_1 (accepted unit) (refused k 0) k some));
       rest = rw (is.equation_is, is.kept_is, is.dropped_is);
     }

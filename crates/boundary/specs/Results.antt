@@ -2,18 +2,8 @@
 -- place of the refusal. Matching says besides which of its inputs it refuses.
 use Rattle.std.specs.Prelude.{ℕ, ◌≡◌}
 use Rattle.reading.specs.File.{Outcome}
-use Rattle.synthesis.specs.declared.Counted.{Counted}
-use Rattle.synthesis.specs.declared.Counted as Counted'
-use Rattle.synthesis.specs.declared.Reason.{Reason}
-use Rattle.synthesis.specs.declared.Reason as Reason'
 use Rattle.running.specs.Running.{start, moved, Run, result_of}
 use Rattle.running.specs.declared.State.{State}
-use Rattle.running.specs.declared.Checked.{Checked}
-use Rattle.running.specs.declared.Checked as Checked'
-use Rattle.models.specs.declared.Judged.{Judged}
-use Rattle.models.specs.declared.Judged as Judged'
-use Rattle.models.specs.declared.Matched.{Matched}
-use Rattle.models.specs.declared.Matched as Matched'
 use Rattle.boundary.specs.declared.MatchResult.{MatchResult}
 
 -- a number and a value
@@ -22,39 +12,39 @@ pub record Result : Type 0 where
   pub value : ℕ
 
 -- counting and filling: the count of equations
-abbrev pub counted_result : Counted → Result
-counted_result (Counted'.TheVariants.Equations n) = record { number = 0; value = n }
-counted_result (Counted'.TheVariants.Refused number place) = record { number = number; value = place }
+abbrev pub counted_result : Outcome ℕ → Result
+counted_result (accepted n) = record { number = 0; value = n }
+counted_result (refused number place) = record { number = number; value = place }
 
 -- what stands in place of a node where a scan is kept: a rule has at most 64 nodes, numbered from 0
 abbrev pub kept_value : ℕ
 kept_value = 64
 
 -- explaining: the number of the ff node, or that a scan is kept
-abbrev pub reason_result : Reason → Result
-reason_result Reason'.TheVariants.Kept = record { number = 0; value = kept_value }
-reason_result (Reason'.TheVariants.Node m) = record { number = 0; value = m }
-reason_result (Reason'.TheVariants.Refused number place) = record { number = number; value = place }
+abbrev pub reason_result : Outcome (Option ℕ) → Result
+reason_result (accepted None) = record { number = 0; value = kept_value }
+reason_result (accepted (Some m)) = record { number = 0; value = m }
+reason_result (refused number place) = record { number = number; value = place }
 
 -- judging: 1 where the model meets the rule, 0 where it breaks it
-abbrev pub judged_result : Judged → Result
-judged_result Judged'.TheVariants.Meets = record { number = 0; value = 1 }
-judged_result Judged'.TheVariants.Breaks = record { number = 0; value = 0 }
-judged_result (Judged'.TheVariants.Refused number place) = record { number = number; value = place }
+abbrev pub judged_result : Outcome Judgment → Result
+judged_result (accepted Meets) = record { number = 0; value = 1 }
+judged_result (accepted Breaks) = record { number = 0; value = 0 }
+judged_result (refused number place) = record { number = number; value = place }
 
 -- matching, with an input beside the number and the value: 1 for yes and 0 for no. A refusal is about input 1, 2 or 3: the first model, the second, or
 -- the list of pairs.
-abbrev pub matched_result : Matched → MatchResult
-matched_result Matched'.TheVariants.Yes = record { number = 0; value = 1; input = 0 }
-matched_result Matched'.TheVariants.No = record { number = 0; value = 0; input = 0 }
-matched_result (Matched'.TheVariants.RefusedFirst number place) = record { number = number; value = place; input = 1 }
-matched_result (Matched'.TheVariants.RefusedSecond number place) = record { number = number; value = place; input = 2 }
-matched_result (Matched'.TheVariants.RefusedPairs number place) = record { number = number; value = place; input = 3 }
+abbrev pub matched_result : MatchAnswer → MatchResult
+matched_result (said true) = record { number = 0; value = 1; input = 0 }
+matched_result (said false) = record { number = 0; value = 0; input = 0 }
+matched_result (refused_first number place) = record { number = number; value = place; input = 1 }
+matched_result (refused_second number place) = record { number = number; value = place; input = 2 }
+matched_result (refused_pairs number place) = record { number = number; value = place; input = 3 }
 
 -- a run: 0 where it is fit. Its refusals stand at place 0.
-abbrev pub checked_number : Checked → ℕ
-checked_number Checked'.TheVariants.Fit = 0
-checked_number (Checked'.TheVariants.Refused number place) = number
+abbrev pub checked_number : Outcome Unit → ℕ
+checked_number (accepted unit) = 0
+checked_number (refused number place) = number
 
 -- the state of a run, which a C program has as the number of its equation
 abbrev pub state_of : (equation : ℕ) → State

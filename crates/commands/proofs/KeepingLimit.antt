@@ -8,8 +8,6 @@ use Rattle.reading.specs.File.{rule_of}
 use Rattle.reading.specs.Numbered.{reading_of}
 use Rattle.synthesis.specs.Monitor.{mark, most}
 use Rattle.synthesis.specs.Building.{synthesis_of, counted_of, table_after}
-use Rattle.synthesis.specs.declared.Counted.{Counted}
-use Rattle.synthesis.specs.declared.Counted.TheVariants.{Equations, Refused}
 use Rattle.synthesis.proofs.Tables.SynthesisOutcomes.{filling_within_lem}
 use Rattle.synthesis.proofs.Tables.Equations.{answers_count}
 use Rattle.synthesis.proofs.Quotients.TwoLimits.{old_rules_stay}
@@ -37,9 +35,9 @@ one_line false = omega arith
 pub few_lines : FewLines
 few_lines s table r shows = on r.answer (sym shows.answer) shows.stops
   where
-    on : (a : Counted) → counted_of (synthesis_of program_limit s) ≡ a
+    on : (a : Outcome ℕ) → counted_of (synthesis_of program_limit s) ≡ a
         → Stops a (reading_of (rule_of s)).rule (table_after mark (synthesis_of program_limit s) table) r.lines r.written → r.lines ≤ 32802
-    on (Equations n) e stops =
+    on (accepted n) e stops =
         let leads = lead_leads stops.lead in
         omega (arith, leads.fewer, leads.inside, (answers_count program_limit s n e).few)
-    on (Refused number place) e stops = rw stops (one_line r.written)
+    on (refused number place) e stops = rw stops (one_line r.written)

@@ -12,7 +12,6 @@ use Rattle.reading.specs.Numbered.{reading_of, numbered}
 use Rattle.reading.proofs.Accepting.Accepted.{accepts_encodings}
 use Rattle.synthesis.specs.Monitor.{mark, most, row_of}
 use Rattle.synthesis.specs.Building.{Synthesis, synthesis_of, filling_of, counted_of, table_after, preview_limit, preview_of, preview_filling_of}
-use Rattle.synthesis.specs.declared.Counted.TheVariants.{Equations}
 use Rattle.synthesis.proofs.Tables.SynthesisOutcomes.{synthesis_accepts, counted_accepts, filling_by_count, filling_accepts}
 use Rattle.synthesis.proofs.Tables.Limits.{limits_agree}
 use Rattle.synthesis.proofs.Tables.Pages.{preview_accepted}
@@ -36,7 +35,7 @@ listing_same s r bytes read n t t' same lines enough =
     let alike = lines_same t t' n same (numbered r) lines 0 in
     (rw read (alike ∙ there), sym here ∙ alike ∙ there)
 
-module _ (s : List ℕ) (n : ℕ) (bytes : Bytes s) (e : counted_of (preview_of s) ≡ Equations n) (table table' : List ℕ) (room : 256 * n ≤ length table)
+module _ (s : List ℕ) (n : ℕ) (bytes : Bytes s) (e : counted_of (preview_of s) ≡ accepted n) (table table' : List ℕ) (room : 256 * n ≤ length table)
     (room' : 256 * n ≤ length table') where
   -- with room for its rows, filling at the desk accepts what was counted
   filled : (y : Synthesis) → synthesis_of most s ≡ accepted y → n ≡ length y.equations → (capacity : ℕ) → 256 * n ≤ capacity

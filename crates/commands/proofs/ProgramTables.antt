@@ -10,7 +10,6 @@ use Rattle.reading.specs.File.{Outcome, accepted, rule_of}
 use Rattle.synthesis.specs.Monitor.{Answer}
 use Rattle.synthesis.specs.Table.{rows, filled}
 use Rattle.synthesis.specs.Building.{Synthesis, synthesis_of, filling_of, counted_of, table_after, Fills}
-use Rattle.synthesis.specs.declared.Counted.TheVariants.{Equations}
 use Rattle.synthesis.proofs.Tables.SynthesisOutcomes.{counted_accepts, fills_as_counted}
 use Rattle.synthesis.proofs.Tables.Built.{fills_when_counted, zero_rows, zero_rows_lem}
 
@@ -22,7 +21,7 @@ filled_alone mark answer l table h = ap (λ (rest : List ℕ). rows mark answer 
 
 -- what is left in any table is what filling leaves in some table
 pub any_table : (limit mark : ℕ) (s : List ℕ) (r : Rule) (n : ℕ) → limit ≤ mark → Bytes s → rule_of s ≡ accepted r
-    → counted_of (synthesis_of limit s) ≡ Equations n → (table : List ℕ)
+    → counted_of (synthesis_of limit s) ≡ accepted n → (table : List ℕ)
     → (table' : List ℕ) × Fills limit mark s table' r n (table_after mark (synthesis_of limit s) table)
 any_table limit mark s r n below bytes read counted table = on (dec_le (256 * n) (length table))
   where

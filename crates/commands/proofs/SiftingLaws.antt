@@ -11,7 +11,6 @@ use Rattle.reading.specs.File.{Outcome}
 use Rattle.synthesis.specs.Monitor.{mark, most}
 use Rattle.synthesis.specs.Table.{WellFormedTable}
 use Rattle.synthesis.specs.Building.{Synthesis, synthesis_of, counted_of, table_after}
-use Rattle.synthesis.specs.declared.Counted.TheVariants.{Equations}
 use Rattle.running.specs.Running.{run_of, result_of}
 use Rattle.running.specs.Calls.{Call, History, with_call, Calls, none, call, OnTableOrRefused}
 use Rattle.running.specs.declared.State.{State}
@@ -55,7 +54,7 @@ ends_calls_next table count wf (h, calls, same) (inr (x, bytes, ro, rv, e)) =
 
 -- calls on the table that filling leaves, with its count, are those that `sift` makes under the rule
 pub ends_calls_under_rule : (outcome : Outcome Synthesis) (table : List ℕ) (n : ℕ) {t : List ℕ} {s : State} → t ≡ table_after mark outcome table
-    → counted_of outcome ≡ Equations n → EndsCallsOn t n s → EndsCalls (UnderRule outcome table) s
+    → counted_of outcome ≡ accepted n → EndsCallsOn t n s → EndsCalls (UnderRule outcome table) s
 ends_calls_under_rule outcome table n same e (h, calls, ends) =
     (h, calls_weaken most mark (λ h c may. record { count = n; answered = e; fit_on = rw (← same) may }) h calls, ends)
 

@@ -6,11 +6,7 @@ use Rattle.reading.specs.Numbered.{reading_of}
 use Rattle.reading.specs.declared.NumberedRule.{NumberedRule}
 use Rattle.synthesis.specs.Monitor.{mark}
 use Rattle.synthesis.specs.Building.{Synthesis, synthesis_of, counted_of, table_after}
-use Rattle.synthesis.specs.declared.Counted.{Counted}
-use Rattle.synthesis.specs.declared.Counted.TheVariants.{Equations, Refused}
 use Rattle.models.specs.Judging.{with_model, JudgedAs}
-use Rattle.models.specs.declared.Judged.{Judged}
-use Rattle.models.specs.declared.Judged as Judged'
 use Rattle.listing.specs.Lines.{refusal_line, judgment_line, listing}
 use Rattle.listing.specs.Positions.{listing_line_at, lines_from}
 use Rattle.commands.specs.declared.EquationsResult.{EquationsResult}
@@ -25,13 +21,13 @@ text_for (accepted y) table = listing (map extent_of y.rule.patterns) (length y.
 text_for (refused number place) table = refusal_line number place
 
 -- the text that is due to a judgment
-abbrev pub judged_text : Judged → List ℕ
-judged_text Judged'.TheVariants.Meets = judgment_line true
-judged_text Judged'.TheVariants.Breaks = judgment_line false
-judged_text (Judged'.TheVariants.Refused number place) = refusal_line number place
+abbrev pub judged_text : Outcome Judgment → List ℕ
+judged_text (accepted Meets) = judgment_line true
+judged_text (accepted Breaks) = judgment_line false
+judged_text (refused number place) = refusal_line number place
 
 -- what `meets` hands back for a rule file and a model file
-abbrev pub JudgesFiles : (s f : List ℕ) → Judged → Type 0
+abbrev pub JudgesFiles : (s f : List ℕ) → Outcome Judgment → Type 0
 JudgesFiles s f answer = JudgedAs (and_then (synthesis_of program_limit s) (with_model f)) answer
 
 -- ---- how far printing comes
@@ -48,17 +44,17 @@ pub record ListingStops (rule : NumberedRule) (table : List ℕ) (count lines : 
   pub lead : LeadTo rule table count lines at
   pub ends : written ≡ true → (listing_line_at rule table count at).line.len ≡ 0
 
--- The same of the text that is due to an answer. A refusal has one line.
-abbrev pub Stops : Counted → NumberedRule → (table : List ℕ) → (lines : ℕ) → (written : Bool) → Type 0
-Stops (Equations count) rule table lines written = ListingStops rule table count lines written
-Stops (Refused number place) rule table lines written = lines ≡ cond written 1 0
+-- The same of the text that is due to an answer, beside what was read of the rule. A refusal has one line.
+abbrev pub Stops : Outcome ℕ → Outcome NumberedRule → (table : List ℕ) → (lines : ℕ) → (written : Bool) → Type 0
+Stops (accepted count) read table lines written = (rule : NumberedRule) × (read ≡ accepted rule) × ListingStops rule table count lines written
+Stops (refused number place) read table lines written = lines ≡ cond written 1 0
 
 -- the text of these lines
-abbrev pub printed : Counted → NumberedRule → (table : List ℕ) → (lines : ℕ) → List ℕ
-printed (Equations count) rule table lines = lines_from rule table count lines 0
-printed (Refused number place) rule table lines = refusal_line number place
+abbrev pub printed : Outcome ℕ → Outcome NumberedRule → (table : List ℕ) → (lines : ℕ) → List ℕ
+printed (accepted count) read table lines = by_case (λ rule. lines_from rule table count lines 0) (λ number place. []) read
+printed (refused number place) read table lines = refusal_line number place
 
 -- what `equations` hands back for a rule file, with a table for its rows
 pub record Shows (s table : List ℕ) (r : EquationsResult) : Type 0 where
-  pub answer : r.answer ≡ counted_of (synthesis_of program_limit s)
-  pub stops : Stops r.answer (reading_of (rule_of s)).rule (table_after mark (synthesis_of program_limit s) table) r.lines r.written
+  pub answer : as_outcome r.answer ≡ counted_of (synthesis_of program_limit s)
+  pub stops : Stops (as_outcome r.answer) (reading_of (rule_of s)) (table_after mark (synthesis_of program_limit s) table) r.lines r.written

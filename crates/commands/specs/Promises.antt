@@ -3,18 +3,14 @@ use Rattle.std.specs.Prelude.{◌≡◌, true, List, ℕ, min, ◌+◌, ◌*◌,
 use Rattle.reading.specs.Rule.{Rule, Bytes}
 use Rattle.reading.specs.File.{accepted, and_then, rule_of}
 use Rattle.reading.specs.Numbered.{reading_of}
-use Rattle.reading.specs.declared.FileRead.TheVariants.{Refused as NotAccepted}
 use Rattle.synthesis.specs.Monitor.{mark, most}
 use Rattle.synthesis.specs.Building.{synthesis_of, filling_of, counted_of, table_after, preview_of, preview_filling_of}
 use Rattle.synthesis.specs.LimitPromises.{Stays}
-use Rattle.synthesis.specs.declared.Counted.TheVariants.{Equations, Refused}
 use Rattle.running.specs.Calls.{History, no_calls, Calls}
 use Rattle.running.specs.Promises.{Sifted}
 use Rattle.models.specs.Phone.{Phone, phone_of}
 use Rattle.models.specs.Judging.{model_reading_of, with_model, judging_of}
 use Rattle.models.specs.Promises.{JudgedExactly}
-use Rattle.models.specs.declared.Judged.{Judged}
-use Rattle.models.specs.declared.Judged.TheVariants.{Meets, Breaks, Refused as NotJudged}
 use Rattle.listing.specs.Text.{text}
 use Rattle.listing.specs.Lines.{refusal_line}
 use Rattle.listing.specs.Positions.{lines_from}
@@ -46,7 +42,7 @@ abbrev pub PrintsAnswer : Type 0
 PrintsAnswer =
     (s table : List ℕ) (r : EquationsResult) → Bytes s → Shows s table r → r.written ≡ true →
     let after = table_after mark (synthesis_of program_limit s) table in
-    printed r.answer (reading_of (rule_of s)).rule after r.lines ≡ text_for (synthesis_of program_limit s) after
+    printed (as_outcome r.answer) (reading_of (rule_of s)) after r.lines ≡ text_for (synthesis_of program_limit s) after
 
 -- It never counts more than 32,802 of them.
 abbrev pub FewLines : Type 0
@@ -54,7 +50,7 @@ FewLines = (s table : List ℕ) (r : EquationsResult) → Shows s table r → r.
 
 -- The answer that it hands back is that of counting under 128, however far printing came.
 abbrev pub EquationsHandsBack : Type 0
-EquationsHandsBack = (s table : List ℕ) (r : EquationsResult) → Shows s table r → r.answer ≡ counted_of (synthesis_of 128 s)
+EquationsHandsBack = (s table : List ℕ) (r : EquationsResult) → Shows s table r → as_outcome r.answer ≡ counted_of (synthesis_of 128 s)
 
 -- 3. The 4,096 bytes that each program reads of a rule file settle the answer to the whole of it.
 abbrev pub SettledByBuffer : Type 0
@@ -69,19 +65,19 @@ JudgmentSettledByBuffer = (s f : List ℕ) → and_then (synthesis_of program_li
 -- 4. The runs are the library's. Under an accepted rule, calls as the contract of `sift` has them sift by the rule, however the scans come in blocks.
 abbrev pub SiftsByRule : Type 0
 SiftsByRule =
-    (s table : List ℕ) (r : Rule) (n : ℕ) → Bytes s → rule_of s ≡ accepted r → counted_of (synthesis_of program_limit s) ≡ Equations n
+    (s table : List ℕ) (r : Rule) (n : ℕ) → Bytes s → rule_of s ≡ accepted r → counted_of (synthesis_of program_limit s) ≡ accepted n
     → (h : History) → Calls most mark (UnderRule (synthesis_of program_limit s) table) h → Sifted r h
 
 -- Under a refused one there are no calls.
 abbrev pub NoCallsRefused : Type 0
 NoCallsRefused =
-    (s table : List ℕ) (number place : ℕ) → counted_of (synthesis_of program_limit s) ≡ Refused number place
+    (s table : List ℕ) (number place : ℕ) → counted_of (synthesis_of program_limit s) ≡ refused number place
     → (h : History) → Calls most mark (UnderRule (synthesis_of program_limit s) table) h → h ≡ no_calls
 
 -- So this is what `sift` hands back: the answer of counting, and under an accepted rule a state in which scans that were sifted by the rule leave the run.
 pub record HandsBack (s : List ℕ) (x : SiftResult) : Type 0 where
   pub answer : x.answer ≡ counted_of (synthesis_of program_limit s)
-  pub state : (r : Rule) (n : ℕ) → rule_of s ≡ accepted r → counted_of (synthesis_of program_limit s) ≡ Equations n
+  pub state : (r : Rule) (n : ℕ) → rule_of s ≡ accepted r → counted_of (synthesis_of program_limit s) ≡ accepted n
       → (h : History) × Sifted r h × (x.state ≡ h.state)
 
 abbrev pub SiftHandsBack : Type 0
@@ -89,21 +85,21 @@ SiftHandsBack = (s table : List ℕ) (x : SiftResult) → Bytes s → Sifts s ta
 
 -- 5. What `meets` hands back: the refusal of the rule, if it has one, else that of the model; 10 doesn't come. Where neither is refused, it is "meets"
 -- exactly when the model satisfies the rule, and else "breaks".
-pub record MeetsFiles (s f : List ℕ) (answer : Judged) : Type 1 where
-  pub rule : (number place : ℕ) → counted_of (synthesis_of program_limit s) ≡ Refused number place → answer ≡ NotJudged number place
-  pub model : (n : ℕ) → counted_of (synthesis_of program_limit s) ≡ Equations n
-      → (number place : ℕ) → (model_reading_of (phone_of f)).answer ≡ NotAccepted number place → answer ≡ NotJudged number place
-  pub judged : (r : Rule) (n : ℕ) (y : Phone) → rule_of s ≡ accepted r → counted_of (synthesis_of program_limit s) ≡ Equations n → phone_of f ≡ accepted y
+pub record MeetsFiles (s f : List ℕ) (answer : Outcome Judgment) : Type 1 where
+  pub rule : (number place : ℕ) → counted_of (synthesis_of program_limit s) ≡ refused number place → answer ≡ refused number place
+  pub model : (n : ℕ) → counted_of (synthesis_of program_limit s) ≡ accepted n
+      → (number place : ℕ) → model_reading_of (phone_of f) ≡ refused number place → answer ≡ refused number place
+  pub judged : (r : Rule) (n : ℕ) (y : Phone) → rule_of s ≡ accepted r → counted_of (synthesis_of program_limit s) ≡ accepted n → phone_of f ≡ accepted y
       → JudgedExactly r y answer
 
 abbrev pub MeetsExactly : Type 1
-MeetsExactly = (s f : List ℕ) (answer : Judged) → Bytes s → JudgesFiles s f answer → MeetsFiles s f answer
+MeetsExactly = (s f : List ℕ) (answer : Outcome Judgment) → Bytes s → JudgesFiles s f answer → MeetsFiles s f answer
 
 -- The line that is due to a judgment.
 pub record JudgedTexts : Type 0 where
-  pub meets : judged_text Meets ≡ text "meets\n"
-  pub breaks : judged_text Breaks ≡ text "breaks\n"
-  pub refused : (number place : ℕ) → judged_text (NotJudged number place) ≡ refusal_line number place
+  pub meets : judged_text (accepted Meets) ≡ text "meets\n"
+  pub breaks : judged_text (accepted Breaks) ≡ text "breaks\n"
+  pub refused : (number place : ℕ) → judged_text (refused number place) ≡ refusal_line number place
 
 -- ---- the rule page
 
@@ -111,12 +107,12 @@ pub record JudgedTexts : Type 0 where
 -- is due to its filling, and what its lines are one after the other.
 pub record TextOfPage (s table : List ℕ) (n : ℕ) (expected : List ℕ) : Type 0 where
   pub due : text_for (preview_filling_of s (length table)) (table_after mark (preview_filling_of s (length table)) table) ≡ expected
-  pub line_by_line : (lines : ℕ) → 34 + 256 * n ≤ lines
-      → lines_from (reading_of (rule_of s)).rule (table_after mark (preview_filling_of s (length table)) table) n lines 0 ≡ expected
+  pub line_by_line : (rule : NumberedRule) × (reading_of (rule_of s) ≡ accepted rule) × ((lines : ℕ) → 34 + 256 * n ≤ lines
+      → lines_from rule (table_after mark (preview_filling_of s (length table)) table) n lines 0 ≡ expected)
 
 abbrev pub PreviewText : Type 0
 PreviewText =
-    (s : List ℕ) (n : ℕ) → Bytes s → counted_of (preview_of s) ≡ Equations n → (table table' : List ℕ) → 256 * n ≤ length table → 256 * n ≤ length table'
+    (s : List ℕ) (n : ℕ) → Bytes s → counted_of (preview_of s) ≡ accepted n → (table table' : List ℕ) → 256 * n ≤ length table → 256 * n ≤ length table'
     → TextOfPage s table n (text_for (synthesis_of program_limit s) (table_after mark (synthesis_of program_limit s) table'))
 
 -- ---- all of these

@@ -11,7 +11,6 @@ use Rattle.reading.proofs.Refusing.FaultsRefused as rules
 use Rattle.synthesis.specs.Monitor.{mark, most}
 use Rattle.synthesis.specs.Building.{filling_of, short_filling_of, counted_of, Fills}
 use Rattle.synthesis.specs.Promises.{SameAfterRows}
-use Rattle.synthesis.specs.declared.Counted.TheVariants.{Equations}
 use Rattle.synthesis.proofs.Tables.Equations.{file_well_formed, answers_count, counted_equations, reaches_equations}
 use Rattle.synthesis.proofs.Tables.Built as tables
 use Rattle.synthesis.proofs.Tables.SynthesisOutcomes.{fills_as_counted, short_fills_as_counted}
@@ -25,7 +24,6 @@ use Rattle.synthesis.proofs.Reasons.Explained.{reasons_exactly}
 use Rattle.running.specs.Running.{result_of}
 use Rattle.running.specs.Calls.{Call, History, Calls, OnTable, OnTableOrRefused}
 use Rattle.running.specs.Promises.{NotUnfit}
-use Rattle.running.specs.declared.Checked.TheVariants as Checked
 use Rattle.running.proofs.Refusals.{runs_on_tables}
 use Rattle.running.proofs.BuiltTables.{never_unfit, short_never_unfit}
 use Rattle.running.proofs.Leaving as leaving
@@ -62,9 +60,9 @@ use Rattle.demands.proofs.RefusedOnDuty.{come_refused, go_refused, check_refused
 -- ---- demand 1
 
 -- what the page fills is what the desk fills
-preview_rest : (s table : List ℕ) (n : ℕ) → counted_of (preview_filling s table) ≡ Equations n → SameAfterRows n table (preview_table_filled s table)
+preview_rest : (s table : List ℕ) (n : ℕ) → counted_of (preview_filling s table) ≡ accepted n → SameAfterRows n table (preview_table_filled s table)
 preview_rest s table n e =
-    let counted : counted_of (preview_counting s) ≡ Equations n = rw (← (preview_fills_as_counted s (length table)).same n e) e in
+    let counted : counted_of (preview_counting s) ≡ accepted n = rw (← (preview_fills_as_counted s (length table)).same n e) e in
     let agrees = preview_agrees s n counted in
     rw (agrees.table table) (tables.counted_rest most mark s table n (sym (agrees.answer (length table)) ∙ e))
 
@@ -134,7 +132,7 @@ module _ (n : ℕ) (table : List ℕ) (fit : NotUnfit most mark n table) (h : Hi
       ((runs_on_tables most mark c.table c.count h.state c.scans (length c.output) (length c.verdicts)).unfit.1
       (a, a', unfit_not_fit bad))
 
-  call_taken : (result_of h.state (running h.state c)).checked ≡ Checked.Fit
+  call_taken : (result_of h.state (running h.state c)).checked ≡ accepted unit
   call_taken = run_fit h.state c call_unrefused
 
 pub demand_two : DemandTwo
@@ -159,7 +157,7 @@ demand_two = record {
 }
 
 -- what is filled within a limit is filled under `most`
-filled_within : (limit : ℕ) (s table : List ℕ) (n : ℕ) → Bytes s → counted_of (filling_within limit s table) ≡ Equations n
+filled_within : (limit : ℕ) (s table : List ℕ) (n : ℕ) → Bytes s → counted_of (filling_within limit s table) ≡ accepted n
     → (r : Rule) × Fills (min limit most) mark s table r n (table_filled_within limit s table)
 filled_within limit s table n bytes e = tables.fills_accepted (min limit most) mark s table n (omega arith) bytes e
 

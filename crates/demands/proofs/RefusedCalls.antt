@@ -12,17 +12,13 @@ use Rattle.reading.proofs.Basics.Outcomes.{refuse_refused, never_refused, and_th
 use Rattle.synthesis.specs.Monitor.{mark, most}
 use Rattle.synthesis.specs.Building.{Synthesis, synthesis_of, filling_of, counted_of}
 use Rattle.synthesis.proofs.Tables.SynthesisOutcomes.{filling_by_count, filling_accepted, fills_as_counted, counted_accepts, counted_refuses}
-use Rattle.synthesis.specs.declared.Counted.TheVariants as Counted
 use Rattle.running.specs.Running.{has_room, fits, Run, run_of, checked_of, result_of}
 use Rattle.running.specs.Calls.{Call}
 use Rattle.running.specs.Promises.{RunsOn}
 use Rattle.running.specs.declared.State.{State}
-use Rattle.running.specs.declared.Checked.TheVariants as Checked
 use Rattle.running.proofs.Refusals.{runs_on_tables}
 use Rattle.models.specs.Phone.{phone_of}
 use Rattle.models.specs.Judging.{RuleAndModel, judging_of, JudgedAs}
-use Rattle.models.specs.declared.Judged.{Judged}
-use Rattle.models.specs.declared.Judged.TheVariants as Judged'
 use Rattle.models.proofs.Files.FileFaults.{model_refused, refuses_at_the_fault}
 use Rattle.demands.specs.Outcomes.{running, RefusedIff}
 use Rattle.demands.specs.Refusals.{CountRefused, RunRefused, short_buffer, unfit, JudgeRefused, in_filling, in_model}
@@ -35,7 +31,7 @@ result_checked : (s : State) (o : Outcome Run) → (result_of s o).checked ≡ c
 result_checked s (accepted y) = refl
 result_checked s (refused number place) = refl
 
-checked_refuses : (o : Outcome Run) (number place : ℕ) → checked_of o ≡ Checked.Refused number place → o ≡ refused number place
+checked_refuses : (o : Outcome Run) (number place : ℕ) → checked_of o ≡ refused number place → o ≡ refused number place
 checked_refuses (accepted y) number place e = let z : ◌≡◌ {A = ℕ} 0 1 = cc in absurd (omega arith)
 checked_refuses (refused m at) number place e = cc
 
@@ -43,7 +39,7 @@ module _ (s : State) (c : Call) where
   run_on_table : RunsOn most mark c.table c.count s c.scans (length c.output) (length c.verdicts)
   run_on_table = runs_on_tables most mark c.table c.count s c.scans (length c.output) (length c.verdicts)
 
-  run_refusal_clause : (number place : ℕ) → checked_of (running s c) ≡ Checked.Refused number place → RunRefused s c number place
+  run_refusal_clause : (number place : ℕ) → checked_of (running s c) ≡ refused number place → RunRefused s c number place
   unfolding run_of
   run_refusal_clause number place e =
       refuse_refused (RunRefused s c) (not (has_room c.scans (length c.output) (length c.verdicts))) 15 0 _
@@ -54,31 +50,31 @@ module _ (s : State) (c : Call) where
       (λ t. let (room, room', bad) = run_on_table.unfit.0 (rw (f, t)) in unfit room room' (not_fit_unfit c.table c.count s bad))
       (λ f' e''. absurd (never_refused e'')))
 
-  run_clause_refuses : {number place : ℕ} → RunRefused s c number place → checked_of (running s c) ≡ Checked.Refused number place
+  run_clause_refuses : {number place : ℕ} → RunRefused s c number place → checked_of (running s c) ≡ refused number place
   run_clause_refuses (short_buffer short) = run_on_table.short.1 short
   run_clause_refuses (unfit room room' bad) = run_on_table.unfit.1 (room, room', unfit_not_fit bad)
 
-  pub run_refused : RefusedIff (result_of s (running s c)).checked Checked.Refused (RunRefused s c)
+  pub run_refused : RefusedIff (result_of s (running s c)).checked refused (RunRefused s c)
   run_refused number place = rw (result_checked s (running s c)) (run_refusal_clause number place, run_clause_refuses)
 
   -- where no clause holds, the run isn't refused
-  pub run_fit : ((number place : ℕ) → RunRefused s c number place → ⊥) → (result_of s (running s c)).checked ≡ Checked.Fit
+  pub run_fit : ((number place : ℕ) → RunRefused s c number place → ⊥) → (result_of s (running s c)).checked ≡ accepted unit
   run_fit none = on (running s c) refl
     where
-      on : (o : Outcome Run) → running s c ≡ o → (result_of s o).checked ≡ Checked.Fit
+      on : (o : Outcome Run) → running s c ≡ o → (result_of s o).checked ≡ accepted unit
       on (accepted y) e = refl
       on (refused number place) e = absurd (none number place (run_refusal_clause number place (ap checked_of e)))
 
 -- ---- judging
 
-judged_refuses : (o : Outcome RuleAndModel) (number place : ℕ) → JudgedAs o (Judged'.Refused number place) → o ≡ refused number place
+judged_refuses : (o : Outcome RuleAndModel) (number place : ℕ) → JudgedAs o (refused number place) → o ≡ refused number place
 judged_refuses (accepted x) number place (inl (e, sat)) = let z : ◌≡◌ {A = ℕ} 0 1 = cc in absurd (omega arith)
 judged_refuses (accepted x) number place (inr (e, sat)) = let z : ◌≡◌ {A = ℕ} 0 1 = cc in absurd (omega arith)
 judged_refuses (refused m at) number place e = cc
 
 -- a refusal is the only answer to its outcome
-refusal_only_answer : (o : Outcome RuleAndModel) (answer : Judged) (number place : ℕ) → JudgedAs o answer → JudgedAs o (Judged'.Refused number place)
-    → answer ≡ Judged'.Refused number place
+refusal_only_answer : (o : Outcome RuleAndModel) (answer : Outcome Judgment) (number place : ℕ) → JudgedAs o answer → JudgedAs o (refused number place)
+    → answer ≡ refused number place
 refusal_only_answer o answer number place judged refuses = rw (judged_refuses o number place refuses) at judged
 
 module _ (limit : ℕ) (s table f : List ℕ) (bytes : Bytes s) (bytes' : Bytes f) where
@@ -91,7 +87,7 @@ module _ (limit : ℕ) (s table f : List ℕ) (bytes : Bytes s) (bytes' : Bytes 
   abbrev judges : Outcome RuleAndModel
   judges = judging_of limit s (length table) f
 
-  judge_refusal_clause : (number place : ℕ) → JudgedAs judges (Judged'.Refused number place)
+  judge_refusal_clause : (number place : ℕ) → JudgedAs judges (refused number place)
       → JudgeRefused (CountRefused limit 9 s) (counted_of counts) (length table) f number place
   unfolding judging_of
   judge_refusal_clause number place judged =
@@ -106,7 +102,7 @@ module _ (limit : ℕ) (s table f : List ℕ) (bytes : Bytes s) (bytes' : Bytes 
       (λ p read e'. absurd (never_refused e')))
 
   judge_clause_refuses : {number place : ℕ} → JudgeRefused (CountRefused limit 9 s) (counted_of counts) (length table) f number place
-      → JudgedAs judges (Judged'.Refused number place)
+      → JudgedAs judges (refused number place)
   unfolding judging_of
   judge_clause_refuses {number} {place} (in_filling b) = rw (counted_refuses fills number place ((fill_refused_within limit s table bytes number place).1 b))
   judge_clause_refuses {number} {place} (in_model n e room fault) =
@@ -114,8 +110,8 @@ module _ (limit : ℕ) (s table f : List ℕ) (bytes : Bytes s) (bytes' : Bytes 
       let read = (model_refused (phone_of f) number place).1 ((refuses_at_the_fault f bytes' number place).1 fault) in
       rw (filled, read)
 
-  pub judge_refused : (answer : Judged) → JudgedAs judges answer
-      → RefusedIff answer Judged'.Refused (JudgeRefused (CountRefused limit 9 s) (counted_of counts) (length table) f)
+  pub judge_refused : (answer : Outcome Judgment) → JudgedAs judges answer
+      → RefusedIff answer refused (JudgeRefused (CountRefused limit 9 s) (counted_of counts) (length table) f)
   judge_refused answer judged number place = (
     λ e. judge_refusal_clause number place (rw e at judged),
     λ h. refusal_only_answer judges answer number place judged (judge_clause_refuses h),

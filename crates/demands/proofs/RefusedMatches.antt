@@ -3,14 +3,11 @@ use Prim.Native.Nat.{ℕ}
 use mathlib.Core.Path.{◌≡◌}
 use mathlib.Core.List.{List}
 use Rattle.reading.specs.Rule.{Bytes}
-use Rattle.reading.specs.declared.FileRead.TheVariants.{Accepted}
 use Rattle.models.specs.Phone.{Phone, PhoneWithinLimits, encode_phone, phone_of}
 use Rattle.models.specs.Faults.{Fault as ModelFault}
 use Rattle.models.specs.Judging.{model_reading_of}
 use Rattle.models.specs.Pairs.{matching_of, MatchedAs}
 use Rattle.models.specs.MatchPromises.{RefusedInOrder}
-use Rattle.models.specs.declared.Matched.{Matched}
-use Rattle.models.specs.declared.Matched.TheVariants as Matched'
 use Rattle.models.proofs.Files.Encoding.{accepts_phones, answers_accepted}
 use Rattle.models.proofs.Files.FileFaults.{refuses_at_the_fault}
 use Rattle.models.proofs.Matchings.RefusalOrder.{refuses_pairs}
@@ -21,7 +18,7 @@ use Rattle.demands.specs.Refusals.{SecondRefused, in_second, PairsRefused, in_pa
 record IsModel (f : List ℕ) (y : Phone) : Type 0 where
   within_limits : PhoneWithinLimits y
   encoded : f ≡ encode_phone y
-  answer : (model_reading_of (phone_of f)).answer ≡ Accepted
+  answer : (model_reading_of (phone_of f)).answer ≡ FILE_ACCEPTED
   states : (model_reading_of (phone_of f)).model.states ≡ y.states
 
 encoding_read : (f : List ℕ) → Bytes f → (y : Phone) → PhoneWithinLimits y → f ≡ encode_phone y → IsModel f y
@@ -29,44 +26,44 @@ encoding_read f bytes y within is =
     let read = (accepts_phones f bytes y).1 (within, is) in
     record { within_limits = within; encoded = is; answer = rw read; states = rw read }
 
-accepted_read : (f : List ℕ) → Bytes f → (model_reading_of (phone_of f)).answer ≡ Accepted → (y : Phone) × IsModel f y
+accepted_read : (f : List ℕ) → Bytes f → (model_reading_of (phone_of f)).answer ≡ FILE_ACCEPTED → (y : Phone) × IsModel f y
 accepted_read f bytes e = let (y, within, is, _) = (answers_accepted f bytes).0 e in (y, encoding_read f bytes y within is)
 
 module _ (f g l : List ℕ) (bytes : Bytes f) where
-  pub match_first_refused : (answer : Matched) → MatchedAs (matching_of f g l) answer → RefusedIff answer Matched'.RefusedFirst (ModelFault f)
+  pub match_first_refused : (answer : MatchAnswer) → MatchedAs (matching_of f g l) answer → RefusedIff answer refused_first (ModelFault f)
   match_first_refused answer matched number place =
       let order = (refuses_pairs f g l answer matched).first number place in
       let fault = refuses_at_the_fault f bytes number place in
       (λ e. fault.0 (order.0 e), λ h. order.1 (fault.1 h))
 
-  module _ (bytes' : Bytes g) (answer : Matched) (matched : MatchedAs (matching_of f g l) answer) where
+  module _ (bytes' : Bytes g) (answer : MatchAnswer) (matched : MatchedAs (matching_of f g l) answer) where
     order : RefusedInOrder (model_reading_of (phone_of f)) (model_reading_of (phone_of g)) l answer
     order = refuses_pairs f g l answer matched
 
-    pub match_second_refused : RefusedIff answer Matched'.RefusedSecond (SecondRefused f g)
+    pub match_second_refused : RefusedIff answer refused_second (SecondRefused f g)
     match_second_refused number place = (refused, refuses)
       where
-        refused : answer ≡ Matched'.RefusedSecond number place → SecondRefused f g number place
+        refused : answer ≡ refused_second number place → SecondRefused f g number place
         refused e =
             let (one, other) = (order.second number place).0 e in
             let (a, m) = accepted_read f bytes one in
             in_second a m.within_limits m.encoded ((refuses_at_the_fault g bytes' number place).0 other)
 
-        refuses : SecondRefused f g number place → answer ≡ Matched'.RefusedSecond number place
+        refuses : SecondRefused f g number place → answer ≡ refused_second number place
         refuses (in_second a within is fault) =
             (order.second number place).1 ((encoding_read f bytes a within is).answer, (refuses_at_the_fault g bytes' number place).1 fault)
 
-    pub match_pairs_refused : RefusedIff answer Matched'.RefusedPairs (PairsRefused f g l)
+    pub match_pairs_refused : RefusedIff answer refused_pairs (PairsRefused f g l)
     match_pairs_refused number place = (refused, refuses)
       where
-        refused : answer ≡ Matched'.RefusedPairs number place → PairsRefused f g l number place
+        refused : answer ≡ refused_pairs number place → PairsRefused f g l number place
         refused e =
             let (one, other, fault) = (order.pairs number place).0 e in
             let (a, m) = accepted_read f bytes one in
             let (b, n) = accepted_read g bytes' other in
             in_pairs a b m.within_limits m.encoded n.within_limits n.encoded (rw (m.states, n.states) at fault)
 
-        refuses : PairsRefused f g l number place → answer ≡ Matched'.RefusedPairs number place
+        refuses : PairsRefused f g l number place → answer ≡ refused_pairs number place
         refuses (in_pairs a b within is within' is' fault) =
             let m = encoding_read f bytes a within is in
             let n = encoding_read g bytes' b within' is' in

@@ -12,8 +12,6 @@ use Rattle.synthesis.specs.Monitor.{most}
 use Rattle.synthesis.specs.Building.{Synthesis, counted_of}
 use Rattle.synthesis.specs.Reason.{reason_of}
 use Rattle.synthesis.specs.ReasonPromises.{Reasons, Explained}
-use Rattle.synthesis.specs.declared.Reason.{Reason}
-use Rattle.synthesis.specs.declared.Reason.TheVariants.{Kept, Node, Refused}
 use Rattle.synthesis.proofs.Reasons.Explained.{reasons_exactly}
 use Rattle.models.specs.Promises.{Acceptable}
 use Rattle.models.proofs.Judgments.Accepting.{counted_acceptable, acceptable_counted}
@@ -21,11 +19,11 @@ use Rattle.demands.specs.Outcomes.{counting, explaining, RefusedIff}
 use Rattle.demands.specs.Refusals.{ExplainRefused, in_counting, violating_scan}
 use Rattle.demands.proofs.Refused.{count_refused}
 
-refusal_same : {number place number' place' : ℕ} → Refused number place ≡ Refused number' place' → (number ≡ number') × (place ≡ place')
+refusal_same : {number place number' place' : ℕ} → refused number place ≡ refused number' place' → (number ≡ number') × (place ≡ place')
 refusal_same e = (cc, cc)
 
 module _ (s : List ℕ) (bytes : Bytes s) (kept : List ℕ) (scan : ℕ) where
-  abbrev reason : Reason
+  abbrev reason : Outcome (Option ℕ)
   reason = reason_of (explaining s kept scan)
 
   reasons : Reasons most s kept scan
@@ -37,18 +35,18 @@ module _ (s : List ℕ) (bytes : Bytes s) (kept : List ℕ) (scan : ℕ) where
       reasons.explained a.rule n ((accepts_encodings s bytes a.rule).1 (a.within_limits, a.encoded)) counted
 
   -- a rule that is accepted: the only refusal is 17
-  violating_clause : (a : Acceptable most s) (number place : ℕ) → reason ≡ Refused number place → ExplainRefused s kept number place
+  violating_clause : (a : Acceptable most s) (number place : ℕ) → reason ≡ refused number place → ExplainRefused s kept number place
   violating_clause a number place e = on (explained a).only
     where
-      on : (reason ≡ Kept) ⊎ (((m : ℕ) × (reason ≡ Node m)) ⊎ ((i : ℕ) × (reason ≡ Refused 17 i))) → ExplainRefused s kept number place
+      on : (reason ≡ accepted None) ⊎ (((m : ℕ) × (reason ≡ accepted (Some m))) ⊎ ((i : ℕ) × (reason ≡ refused 17 i))) → ExplainRefused s kept number place
       on (inl q) = let z : ◌≡◌ {A = ℕ} 0 1 = cc in absurd (omega arith)
       on (inr (inl (m, q))) = let z : ◌≡◌ {A = ℕ} 0 1 = cc in absurd (omega arith)
       on (inr (inr (i, q))) =
-          let same : Refused 17 i ≡ Refused number place = cc in
+          let same : refused 17 i ≡ refused number place = cc in
           let (number_is, place_is) = refusal_same same in
           rw (← number_is, ← place_is) (violating_scan a i (((explained a).unfit i).0 q))
 
-  refusal_clause : (number place : ℕ) → reason ≡ Refused number place → ExplainRefused s kept number place
+  refusal_clause : (number place : ℕ) → reason ≡ refused number place → ExplainRefused s kept number place
   refusal_clause number place e = on (counting s) refl
     where
       on : (o : Outcome Synthesis) → counting s ≡ o → ExplainRefused s kept number place
@@ -57,9 +55,9 @@ module _ (s : List ℕ) (bytes : Bytes s) (kept : List ℕ) (scan : ℕ) where
           let (number_is, place_is) = refusal_same (sym (reasons.refused number' place' (ap counted_of q)) ∙ e) in
           rw (← number_is, ← place_is) (in_counting ((count_refused s bytes number' place').0 (ap counted_of q)))
 
-  clause_refuses : {number place : ℕ} → ExplainRefused s kept number place → reason ≡ Refused number place
+  clause_refuses : {number place : ℕ} → ExplainRefused s kept number place → reason ≡ refused number place
   clause_refuses {number} {place} (in_counting clause) = reasons.refused number place ((count_refused s bytes number place).1 clause)
   clause_refuses (violating_scan a i first) = ((explained a).unfit i).1 first
 
-  pub explain_refused : RefusedIff reason Refused (ExplainRefused s kept)
+  pub explain_refused : RefusedIff reason refused (ExplainRefused s kept)
   explain_refused number place = (refusal_clause number place, clause_refuses)

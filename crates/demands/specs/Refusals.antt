@@ -7,8 +7,6 @@ use Rattle.synthesis.specs.Monitor.{mark, most}
 use Rattle.synthesis.specs.Building.{preview_limit}
 use Rattle.synthesis.specs.Reason.{FirstViolated}
 use Rattle.synthesis.specs.Promises.{Closed}
-use Rattle.synthesis.specs.declared.Counted.{Counted}
-use Rattle.synthesis.specs.declared.Counted.TheVariants.{Equations}
 use Rattle.running.specs.Running.{start, moved}
 use Rattle.running.specs.Calls.{Call}
 use Rattle.running.specs.Spells.{DutyCall, Coming}
@@ -51,11 +49,11 @@ pub data ExplainRefused (s kept : List ℕ) : (number place : ℕ) → Type 1 wh
   violating_scan : (a : Acceptable most s) (i : ℕ) → FirstViolated a.rule kept i → ExplainRefused s kept 17 i
 
 -- filling a table of so many entries, where counting for it is refused by these clauses, and gives this answer
-pub data FillRefused (Counting : (number place : ℕ) → Type 1) (counted : Counted) (capacity : ℕ) : (number place : ℕ) → Type 1 where
+pub data FillRefused (Counting : (number place : ℕ) → Type 1) (counted : Outcome ℕ) (capacity : ℕ) : (number place : ℕ) → Type 1 where
   -- 1 to 9, or on the page 1 to 8 and 18: counting is refused
   in_rule : {number place : ℕ} → Counting number place → FillRefused Counting counted capacity number place
   -- 10: it isn't, and the table has fewer entries than the rows of all that are counted
-  short_table_lem : (n : ℕ) → counted ≡ Equations n → capacity < 256 * n → FillRefused Counting counted capacity 10 0
+  short_table_lem : (n : ℕ) → counted ≡ accepted n → capacity < 256 * n → FillRefused Counting counted capacity 10 0
 
 -- what makes a table, a count and a state unfit for a run: element 256 × k + c is the entry of equation k for the code c
 pub data Unfit (table : List ℕ) (count : ℕ) (s : State) : Type 0 where
@@ -102,11 +100,11 @@ pub data DutyRunRefused (d : Duty) (c : DutyCall) : (number place : ℕ) → Typ
       → Unfit (drop (rule_in d i).base c.tables) (rule_in d i).count (moved start (rule_in d i).equation) → DutyRunRefused d c 16 0
 
 -- judging a model file under a rule file, with a table of so many entries, where counting is refused by these clauses, and gives this answer
-pub data JudgeRefused (Counting : (number place : ℕ) → Type 1) (counted : Counted) (capacity : ℕ) (f : List ℕ) : (number place : ℕ) → Type 1 where
+pub data JudgeRefused (Counting : (number place : ℕ) → Type 1) (counted : Outcome ℕ) (capacity : ℕ) (f : List ℕ) : (number place : ℕ) → Type 1 where
   -- 1 to 10: filling is refused
   in_filling : {number place : ℕ} → FillRefused Counting counted capacity number place → JudgeRefused Counting counted capacity f number place
   -- 11 to 14: it isn't, and the file is no model
-  in_model : {number place : ℕ} (n : ℕ) → counted ≡ Equations n → 256 * n ≤ capacity → ModelFault f number place
+  in_model : {number place : ℕ} (n : ℕ) → counted ≡ accepted n → 256 * n ≤ capacity → ModelFault f number place
       → JudgeRefused Counting counted capacity f number place
 
 -- matching two model files by a list of pairs: the first is refused by `ModelFault`; the second, where the first is a model within the limits

@@ -19,7 +19,6 @@ use Rattle.synthesis.specs.Monitor.{next}
 use Rattle.synthesis.specs.NodeSet.{Has, has, empty_set}
 use Rattle.synthesis.specs.Violation.{covered_by}
 use Rattle.synthesis.specs.Answering.{opening, falsities, reached, first_of, answer_of, unsatisfiable}
-use Rattle.synthesis.specs.declared.Counted.TheVariants.{Equations}
 use Rattle.synthesis.proofs.Unfolding.NodeSetLaws.{has_none, has_singleton, singleton_has, true_has}
 use Rattle.examples.specs.Examples.{pattern, ReadAs}
 use Rattle.examples.specs.RefusalExamples.{times}
@@ -181,5 +180,5 @@ module _ (n : ℕ) where
   unfolding unsatisfiable
   satisfiable = rw (chain_falsities 0 n, and_zero_r)
 
-  pub chain_reads : n ≤ 63 → ReadAs (chain_file n) (chain_rule n) (Equations (suc n))
+  pub chain_reads : n ≤ 63 → ReadAs (chain_file n) (chain_rule n) (accepted (suc n))
   chain_reads few = reads_enumerated (chain_file n) (chain_rule n) (chain_read n few) satisfiable (suc n) enumerates (omega arith)

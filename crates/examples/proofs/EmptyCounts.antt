@@ -10,7 +10,6 @@ use Rattle.synthesis.specs.Monitor.{Answer}
 use Rattle.synthesis.specs.NodeSet.{has, empty_set}
 use Rattle.synthesis.specs.Violation.{covered_by}
 use Rattle.synthesis.specs.Answering.{opening, falsities, reached, first_of, answer_of, unsatisfiable}
-use Rattle.synthesis.specs.declared.Counted.TheVariants.{Equations, Refused}
 use Rattle.examples.specs.Examples.{ReadAs}
 use Rattle.examples.specs.RefusalExamples.{times}
 use Rattle.examples.specs.FamilyExamples.{chain, chain_rule, window_rule}
@@ -74,11 +73,11 @@ chain_read : rule_of (empty_chain_file 31) ≡ accepted (empty_chain_rule 31)
 unfolding times chain_then rule_of records_at formula_of formula_at
 chain_read = refl
 
-chain_counted : ReadAs (empty_chain_file 31) (empty_chain_rule 31) (Equations 33)
+chain_counted : ReadAs (empty_chain_file 31) (empty_chain_rule 31) (accepted 33)
 unfolding unsatisfiable first_of chain_then chain
 chain_counted = reads_enumerated (empty_chain_file 31) (empty_chain_rule 31) chain_read refl 33 (by_answers (chain_alike 31) (chain-enumerates 32)) (omega arith)
 
-window_counted : ReadAs (empty_window_file 9) (empty_window_rule 9) (Refused 9 0)
+window_counted : ReadAs (empty_window_file 9) (empty_window_rule 9) (refused 9 0)
 unfolding times chain_then chain rule_of records_at formula_of formula_at unsatisfiable first_of
 window_counted =
     reads_over (empty_window_file 9) (empty_window_rule 9) refl refl 1024 (by_answers (window_alike 9) (window-enumerates 10 shifts_10)) (omega arith)

@@ -16,7 +16,6 @@ use Rattle.synthesis.specs.Answering.{first_of, answer_of, unsatisfiable}
 use Rattle.synthesis.specs.Search.{index_of, found}
 use Rattle.synthesis.specs.Merging.{tabulate}
 use Rattle.synthesis.specs.Building.{equations_of}
-use Rattle.synthesis.specs.declared.Counted.TheVariants.{Equations, Refused}
 use Rattle.synthesis.proofs.Numberings.Indices.{Member, index_is, member_at, distinct_fits}
 use Rattle.synthesis.proofs.Numberings.Tabulating.{Injective, tabulate_length, tabulate_at, injective_fits}
 use Rattle.synthesis.proofs.Numberings.Finding.{ClosedUnder, found_first, found_distinct, found_closed, found_inside}
@@ -106,12 +105,12 @@ module _ {codes : ℕ} {answer : ℕ → ℕ → Answer ℕ} {first : ℕ} {set 
 
 module _ (s : List ℕ) (r : Rule) (read : rule_of s ≡ accepted r) (satisfiable : unsatisfiable r ≡ false) {set : ℕ → ℕ} {to : ℕ → ℕ → ℕ} (n : ℕ)
     (sets : Enumerates 256 (answer_of r) (first_of r) set to n) where
-  pub reads_enumerated : n ≤ most → ReadAs s r (Equations n)
+  pub reads_enumerated : n ≤ most → ReadAs s r (accepted n)
   unfolding equations_of
   reads_enumerated few =
       let count : length (equations_of most r) ≡ n = found_within sets most few in
       rw count at (reads s r read satisfiable (equations_of most r) refl (omega (arith, count)))
 
-  pub reads_over : most < n → ReadAs s r (Refused 9 0)
+  pub reads_over : most < n → ReadAs s r (refused 9 0)
   unfolding equations_of
   reads_over over = reads_too_many s r read satisfiable (found_over sets most over)

@@ -12,8 +12,6 @@ use Rattle.synthesis.specs.Answering.{answer_of, unsatisfiable}
 use Rattle.synthesis.specs.Monitor.{mark, most, row_of}
 use Rattle.synthesis.specs.Table.{entries_of}
 use Rattle.synthesis.specs.Building.{equations_of, with_equations, synthesis_of, filling_of, counted_of, table_left, Fills}
-use Rattle.synthesis.specs.declared.Counted.{Counted}
-use Rattle.synthesis.specs.declared.Counted.TheVariants.{Equations, Refused}
 use Rattle.synthesis.proofs.Tables.Built.{counted_row}
 use Rattle.synthesis.proofs.Tables.SynthesisOutcomes.{accepts_with_equations, refuses_eight, refuses_nine, counted_accepts, accepts_as}
 use Rattle.synthesis.proofs.Tables.SynthesisOutcomes.{filling_by_count, filling_accepts, fills_as_counted}
@@ -21,27 +19,27 @@ use Rattle.examples.specs.Examples.{CountedAs, Refuses, ReadAs}
 
 module _ (s : List ℕ) where
   -- with the entries for the answer, filling answers as counting does
-  answers : (answer : Counted) → counted_of (synthesis_of most s) ≡ answer → CountedAs s answer
-  answers (Equations n) e = record { counting = e; filling = λ capacity. (fills_as_counted most s capacity).enough n e }
-  answers (Refused number place) e = record { counting = e; filling = λ capacity none. (fills_as_counted most s capacity).refused number place e }
+  answers : (answer : Outcome ℕ) → counted_of (synthesis_of most s) ≡ answer → CountedAs s answer
+  answers (accepted n) e = record { counting = e; filling = λ capacity. (fills_as_counted most s capacity).enough n e }
+  answers (refused number place) e = record { counting = e; filling = λ capacity none. (fills_as_counted most s capacity).refused number place e }
 
   pub refuses : (number place : ℕ) → rule_of s ≡ refused number place → Refuses s number place
   unfolding synthesis_of
-  refuses number place read = record { reading = read; answers = answers (Refused number place) (rw read) }
+  refuses number place read = record { reading = read; answers = answers (refused number place) (rw read) }
 
   module _ (r : Rule) (read : rule_of s ≡ accepted r) where
-    pub reads_unsatisfiable : unsatisfiable r ≡ true → ReadAs s r (Refused 8 0)
-    reads_unsatisfiable h = record { reading = read; answers = answers (Refused 8 0) (rw (refuses_eight most s r read h)) }
+    pub reads_unsatisfiable : unsatisfiable r ≡ true → ReadAs s r (refused 8 0)
+    reads_unsatisfiable h = record { reading = read; answers = answers (refused 8 0) (rw (refuses_eight most s r read h)) }
 
-    pub reads_too_many : unsatisfiable r ≡ false → most < length (equations_of most r) → ReadAs s r (Refused 9 0)
-    reads_too_many h over = record { reading = read; answers = answers (Refused 9 0) (rw (refuses_nine most s r read h over)) }
+    pub reads_too_many : unsatisfiable r ≡ false → most < length (equations_of most r) → ReadAs s r (refused 9 0)
+    reads_too_many h over = record { reading = read; answers = answers (refused 9 0) (rw (refuses_nine most s r read h over)) }
 
     module _ (satisfiable : unsatisfiable r ≡ false) (l : List ℕ) (equations : equations_of most r ≡ l) (few : length l ≤ most) where
       synthesis : synthesis_of most s ≡ accepted (with_equations most r)
       synthesis = accepts_with_equations most s r read satisfiable (rw equations few)
 
-      pub reads : ReadAs s r (Equations (length l))
-      reads = record { reading = read; answers = answers (Equations (length l)) (rw (synthesis, equations)) }
+      pub reads : ReadAs s r (accepted (length l))
+      reads = record { reading = read; answers = answers (accepted (length l)) (rw (synthesis, equations)) }
 
       pub row_left : (table : List ℕ) → 256 * length l ≤ length table → (k : ℕ) → k < length l
           → row_of 256 (table_left most mark s table) k ≡ entries_of mark (answer_of r) l (get_or l k 0) 256
@@ -49,7 +47,7 @@ module _ (s : List ℕ) where
 
 -- ---- a file that is read and counted
 
-module _ (s : List ℕ) (r : Rule) (n : ℕ) (file : ReadAs s r (Equations n)) where
+module _ (s : List ℕ) (r : Rule) (n : ℕ) (file : ReadAs s r (accepted n)) where
   -- with room for its rows, filling accepts it
   pub reads_filling : (capacity : ℕ) → 256 * n ≤ capacity → filling_of most s capacity ≡ accepted (with_equations most r)
   reads_filling capacity room =

@@ -8,8 +8,6 @@ use Rattle.reading.specs.Rule.{All}
 use Rattle.reading.specs.File.{Outcome, accepted, by_case}
 use Rattle.models.specs.Phone.{Phone, phone_of}
 use Rattle.models.specs.Pairs.{Pair, pairs_of, Listed, Matches, Matching, matching, first_refused, second_refused, pairs_refused, matching_of, MatchedAs}
-use Rattle.models.specs.declared.Matched.{Matched}
-use Rattle.models.specs.declared.Matched.TheVariants.{Yes, No, RefusedFirst, RefusedSecond, RefusedPairs}
 use Rattle.examples.specs.MatchingExamples.{Answers}
 
 -- what holds of every pair of a list
@@ -20,23 +18,23 @@ every_pair P (p ∷ ps) all (inr h) = every_pair P ps all.1 h
 
 module _ (f g l : List ℕ) where
   -- what the three inputs say decides which answers there are
-  only_answer : {m : Matching} {answer : Matched} → matching_of f g l ≡ m → ((r : Matched) → MatchedAs m r ↔ (r ≡ answer)) → Answers f g l answer
+  only_answer : {m : Matching} {answer : MatchAnswer} → matching_of f g l ≡ m → ((r : MatchAnswer) → MatchedAs m r ↔ (r ≡ answer)) → Answers f g l answer
   only_answer read only = record { only = λ r. rw read (only r) }
 
   -- ---- accepted
 
   module _ {a b : Phone} {ps : List Pair} (read : matching_of f g l ≡ matching a b ps) where
-    pub answers_yes : Matches a b ps → Answers f g l Yes
+    pub answers_yes : Matches a b ps → Answers f g l (said true)
     answers_yes m = only_answer read (λ r. (on r, λ e. inl (e, m)))
       where
-        on : (r : Matched) → MatchedAs (matching a b ps) r → r ≡ Yes
+        on : (r : MatchAnswer) → MatchedAs (matching a b ps) r → r ≡ said true
         on r (inl x) = x.0
         on r (inr x) = absurd (x.1 m)
 
-    pub answers_no : (Matches a b ps → ⊥) → Answers f g l No
+    pub answers_no : (Matches a b ps → ⊥) → Answers f g l (said false)
     answers_no none = only_answer read (λ r. (on r, λ e. inr (e, none)))
       where
-        on : (r : Matched) → MatchedAs (matching a b ps) r → r ≡ No
+        on : (r : MatchAnswer) → MatchedAs (matching a b ps) r → r ≡ said false
         on r (inl x) = absurd (none x.1)
         on r (inr x) = x.0
 
@@ -49,11 +47,11 @@ module _ (f g l : List ℕ) where
   -- ---- refused
 
   module _ (number place : ℕ) where
-    pub answers_first : matching_of f g l ≡ first_refused number place → Answers f g l (RefusedFirst number place)
+    pub answers_first : matching_of f g l ≡ first_refused number place → Answers f g l (refused_first number place)
     answers_first read = only_answer read (λ r. (λ e. e, λ e. e))
 
-    pub answers_second : matching_of f g l ≡ second_refused number place → Answers f g l (RefusedSecond number place)
+    pub answers_second : matching_of f g l ≡ second_refused number place → Answers f g l (refused_second number place)
     answers_second read = only_answer read (λ r. (λ e. e, λ e. e))
 
-    pub answers_pairs : matching_of f g l ≡ pairs_refused number place → Answers f g l (RefusedPairs number place)
+    pub answers_pairs : matching_of f g l ≡ pairs_refused number place → Answers f g l (refused_pairs number place)
     answers_pairs read = only_answer read (λ r. (λ e. e, λ e. e))

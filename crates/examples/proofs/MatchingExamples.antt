@@ -12,7 +12,6 @@ use Rattle.enforcement.specs.Model.{Label, silent, code, Bisimulation}
 use Rattle.models.specs.Phone.{Phone, label_of, StepIn, model_of, states_of, phone_of}
 use Rattle.models.specs.Pairs.{Pair, pairs_at, pairs_of, Listed, Matches, matching_of}
 use Rattle.models.specs.declared.Step.{Step}
-use Rattle.models.specs.declared.Matched.TheVariants.{Yes, RefusedPairs}
 use Rattle.examples.specs.ModelExamples.{step, still_phone}
 use Rattle.examples.specs.PatternMeaning.{repeating_phone}
 use Rattle.examples.specs.RefusalExamples.{times}
@@ -183,7 +182,7 @@ unfolding phone_of states_of records_at
 still = refl
 
 -- The number is a variable, so that no list of so many pairs is written out.
-full : (m : ℕ) → m ≡ 4096 → Answers still_file still_file (times m (0 ∷ 0 ∷ []) []) Yes
+full : (m : ℕ) → m ≡ 4096 → Answers still_file still_file (times m (0 ∷ 0 ∷ []) []) (said true)
 full m e = answers_yes _ _ _ (matching_by_pairs _ _ _ still still (pairs_4096 m e)) (matches_itself still_phone _ (has m (omega arith)) (only m) tt)
   where
     has : (m : ℕ) → 0 < m → Listed (replicate m (pair 0 0)) 0 0
@@ -195,7 +194,7 @@ full m e = answers_yes _ _ _ (matching_by_pairs _ _ _ still still (pairs_4096 m 
     only (suc m) = (refl, only m)
 
 -- A refusal of the list is the answer, since the files are accepted.
-over : (l : List ℕ) (number place : ℕ) → pairs_of l 1 1 ≡ refused number place → Answers still_file still_file l (RefusedPairs number place)
+over : (l : List ℕ) (number place : ℕ) → pairs_of l 1 1 ≡ refused number place → Answers still_file still_file l (refused_pairs number place)
 over l number place e = answers_pairs still_file still_file l number place (matching_by_pairs still_file still_file l still still e)
 
 refusals : MatchingRefusals

@@ -6,11 +6,9 @@ use mathlib.Core.List.{List}
 use Rattle.reading.specs.Rule.{Rule}
 use Rattle.reading.specs.File.{accepted, refused}
 use Rattle.synthesis.specs.Monitor.{most}
-use Rattle.synthesis.specs.declared.Counted.TheVariants.{Equations}
 use Rattle.enforcement.specs.Model.{Satisfies}
 use Rattle.models.specs.Phone.{Phone, model_of, phone_of}
 use Rattle.models.specs.Judging.{judging_of, JudgedAs}
-use Rattle.models.specs.declared.Judged.TheVariants.{Meets, Breaks, Refused}
 use Rattle.models.proofs.Phones.DecidedSets.{decided_satisfies}
 use Rattle.models.proofs.Judgments.JudgingOrder.{judging_accepts}
 use Rattle.examples.specs.Examples.{ReadAs}
@@ -19,22 +17,22 @@ use Rattle.examples.proofs.FileAnswers.{reads_filling}
 
 -- a refusal is the only answer
 pub judges_refused : (s : List ℕ) (capacity : ℕ) (f : List ℕ) (number place : ℕ) → judging_of most s capacity f ≡ refused number place
-    → JudgesIn s capacity f (Refused number place)
+    → JudgesIn s capacity f (refused number place)
 judges_refused s capacity f number place e r = rw e (λ h. h, λ h. h)
 
-module _ (s : List ℕ) (r : Rule) (n : ℕ) (file : ReadAs s r (Equations n)) (f : List ℕ) (y : Phone) (read : phone_of f ≡ accepted y) where
-  pub judges_met : Satisfies (model_of y) r → Judges s (256 * n) f Meets
+module _ (s : List ℕ) (r : Rule) (n : ℕ) (file : ReadAs s r (accepted n)) (f : List ℕ) (y : Phone) (read : phone_of f ≡ accepted y) where
+  pub judges_met : Satisfies (model_of y) r → Judges s (256 * n) f (accepted Meets)
   judges_met sat capacity room a =
       rw (judging_accepts most s capacity (reads_filling s r n file capacity room) f read) (on, λ e. inl (e, (decided_satisfies y r).1 sat))
     where
-      on : JudgedAs (accepted (record { rule = r; phone = y })) a → a ≡ Meets
+      on : JudgedAs (accepted (record { rule = r; phone = y })) a → a ≡ accepted Meets
       on (inl x) = x.0
       on (inr x) = absurd (x.1 ((decided_satisfies y r).1 sat))
 
-  pub judges_broken : (Satisfies (model_of y) r → ⊥) → Judges s (256 * n) f Breaks
+  pub judges_broken : (Satisfies (model_of y) r → ⊥) → Judges s (256 * n) f (accepted Breaks)
   judges_broken unsat capacity room a =
       rw (judging_accepts most s capacity (reads_filling s r n file capacity room) f read) (on, λ e. inr (e, λ d. unsat ((decided_satisfies y r).0 d)))
     where
-      on : JudgedAs (accepted (record { rule = r; phone = y })) a → a ≡ Breaks
+      on : JudgedAs (accepted (record { rule = r; phone = y })) a → a ≡ accepted Breaks
       on (inl x) = absurd (unsat ((decided_satisfies y r).0 x.1))
       on (inr x) = x.0

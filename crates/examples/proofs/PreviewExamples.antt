@@ -6,8 +6,6 @@ use mathlib.Core.List.{List, [], ◌∷◌}
 use native.Mathlib.Omega.{arith}
 use Rattle.synthesis.specs.Monitor.{most}
 use Rattle.synthesis.specs.Building.{synthesis_of, counted_of, preview_limit, preview_of}
-use Rattle.synthesis.specs.declared.Counted.{Counted}
-use Rattle.synthesis.specs.declared.Counted.TheVariants.{Equations, Refused}
 use Rattle.synthesis.proofs.Tables.SynthesisOutcomes.{fills_as_counted}
 use Rattle.synthesis.proofs.Tables.Previews.{preview_counts, preview_fills_as_counted, preview_agrees}
 use Rattle.synthesis.proofs.Tables.PreviewRefusals.{preview_refuses, desk_shows_more}
@@ -21,35 +19,35 @@ use Rattle.examples.proofs.TableExamples.{needs}
 use Rattle.examples.proofs.FamilyExamples.{family_examples}
 
 module _ (s : List ℕ) where
-  shown : (n : ℕ) → counted_of (synthesis_of most s) ≡ Equations n → n ≤ preview_limit → ShownOnPage s n
+  shown : (n : ℕ) → counted_of (synthesis_of most s) ≡ accepted n → n ≤ preview_limit → ShownOnPage s n
   shown n desk few =
       let page = (preview_counts s n).1 (desk, few) in
       record { page = page; filling = needs (preview_fills_as_counted s) n page; desk = desk }
 
   -- filling is refused as counting is
-  refused_on_page : (number place : ℕ) → counted_of (preview_of s) ≡ Refused number place → RefusedOnPage s number place
+  refused_on_page : (number place : ℕ) → counted_of (preview_of s) ≡ refused number place → RefusedOnPage s number place
   refused_on_page number place e =
       record { counting = e; filling = λ capacity. (preview_fills_as_counted s capacity).refused number place e }
 
-  as_at_desk : (number place : ℕ) → (number ≡ 9 → ⊥) → counted_of (synthesis_of most s) ≡ Refused number place → RefusedOnPage s number place
+  as_at_desk : (number place : ℕ) → (number ≡ 9 → ⊥) → counted_of (synthesis_of most s) ≡ refused number place → RefusedOnPage s number place
   as_at_desk number place other e = refused_on_page number place ((preview_refuses s).other_at_desk number place other e)
 
-  eighteen : (n : ℕ) → counted_of (synthesis_of most s) ≡ Equations n → preview_limit < n → counted_of (preview_of s) ≡ Refused 18 0
+  eighteen : (n : ℕ) → counted_of (synthesis_of most s) ≡ accepted n → preview_limit < n → counted_of (preview_of s) ≡ refused 18 0
   eighteen n desk over = on (counted_of (preview_of s)) refl
     where
-      on : (answer : Counted) → counted_of (preview_of s) ≡ answer → answer ≡ Refused 18 0
-      on (Equations k) e =
+      on : (answer : Outcome ℕ) → counted_of (preview_of s) ≡ answer → answer ≡ refused 18 0
+      on (accepted k) e =
           let (same, few) = (preview_counts s k).0 e in
-          let z : Equations n ≡ Equations k = sym desk ∙ same in
+          let z : accepted n ≡ accepted k = sym desk ∙ same in
           let w : n ≡ k = cc in
           absurd (omega arith)
-      on (Refused number place) e = let (is-18, is_0, many) = (desk_shows_more s).0 n number place desk e in rw (is-18, is_0)
+      on (refused number place) e = let (is-18, is_0, many) = (desk_shows_more s).0 n number place desk e in rw (is-18, is_0)
 
-  pub at_desk-only : (n : ℕ) → counted_of (synthesis_of most s) ≡ Equations n → preview_limit < n → ShownAtDeskOnly s n
+  pub at_desk-only : (n : ℕ) → counted_of (synthesis_of most s) ≡ accepted n → preview_limit < n → ShownAtDeskOnly s n
   at_desk-only n desk over =
       record { desk = desk; filling = needs (fills_as_counted most s) n desk; page = refused_on_page 18 0 (eighteen n desk over) }
 
-chain_counted : (n : ℕ) → n ≤ 63 → counted_of (synthesis_of most (chain_file n)) ≡ Equations (suc n)
+chain_counted : (n : ℕ) → n ≤ 63 → counted_of (synthesis_of most (chain_file n)) ≡ accepted (suc n)
 chain_counted n few = (family_examples.chains n few).answers.counting
 
 pub preview_examples : PreviewExamples

@@ -12,23 +12,22 @@ use Rattle.synthesis.specs.Search.{explored, found}
 use Rattle.synthesis.specs.Building.{equations_of, synthesis_of}
 use Rattle.synthesis.specs.Reason.{ViolatesAt, at_falsity, in_first, in_second, after_code_lem, in_body, in_variable_lem}
 use Rattle.synthesis.specs.Reason.{opened_falsities, opened_after, explanation_of, reason_of}
-use Rattle.synthesis.specs.declared.Counted.TheVariants.{Equations}
 use Rattle.synthesis.proofs.Reasons.Explained.{counted_explanation}
 use Rattle.examples.specs.Examples.{ReadAs, pool_rule}
 use Rattle.examples.specs.ReasonExamples.{reason, two_places_file, two_places_rule, either_file, either_rule, ReasonExamples}
 use Rattle.examples.proofs.FileAnswers.{reads}
 use Rattle.examples.proofs.NumberPool.{number_pool}
 
-two_file : ReadAs two_places_file two_places_rule (Equations 3)
+two_file : ReadAs two_places_file two_places_rule (accepted 3)
 unfolding rule_of records_at formula_of formula_at unsatisfiable equations_of found explored first_of answer_of bit covers
 two_file = reads two_places_file two_places_rule refl refl (20 ∷ 0 ∷ 84 ∷ []) refl (omega arith)
 
-either_file_lem : ReadAs either_file either_rule (Equations 2)
+either_file_lem : ReadAs either_file either_rule (accepted 2)
 unfolding rule_of records_at formula_of formula_at unsatisfiable equations_of found explored first_of answer_of bit covers
 either_file_lem = reads either_file either_rule refl refl (10 ∷ 0 ∷ []) refl (omega arith)
 
 -- of a file that is counted, by its rule
-pub by_rule : {s : List ℕ} {n : ℕ} (r : _) → ReadAs s r (Equations n) → (w : List ℕ) (c : ℕ) → reason s w c ≡ reason_of (opened_after r w c)
+pub by_rule : {s : List ℕ} {n : ℕ} (r : _) → ReadAs s r (accepted n) → (w : List ℕ) (c : ℕ) → reason s w c ≡ reason_of (opened_after r w c)
 by_rule {s} {n} r file w c = ap reason_of (counted_explanation most s r n file.reading file.answers.counting w c)
 
 met_first : ViolatesAt two_places_rule 0 (37 ∷ 5 ∷ []) 7

@@ -10,7 +10,6 @@ use Rattle.synthesis.specs.Monitor.{most}
 use Rattle.synthesis.specs.Answering.{first_of, answer_of, unsatisfiable}
 use Rattle.synthesis.specs.Search.{explored, found}
 use Rattle.synthesis.specs.Building.{equations_of}
-use Rattle.synthesis.specs.declared.Counted.TheVariants.{Equations}
 use Rattle.models.specs.Phone.{states_of, phone_of}
 use Rattle.models.proofs.Judgments.JudgingOrder.{judging_model_refused}
 use Rattle.examples.specs.Examples.{pattern, rule, ReadAs, pool_file, pool_rule}
@@ -26,7 +25,7 @@ below_both : Rule
 below_both = rule (pattern 255 0 31 ∷ []) (max (max (necessity 0 (variable 1))))
 
 -- node 2 alone, which every code leads back to
-guards_both : ReadAs (1 ∷ 255 ∷ 0 ∷ 31 ∷ 6 ∷ 6 ∷ 5 ∷ 0 ∷ 7 ∷ 1 ∷ []) below_both (Equations 1)
+guards_both : ReadAs (1 ∷ 255 ∷ 0 ∷ 31 ∷ 6 ∷ 6 ∷ 5 ∷ 0 ∷ 7 ∷ 1 ∷ []) below_both (accepted 1)
 unfolding below_both rule_of records_at formula_of formula_at unsatisfiable equations_of found explored first_of answer_of bit covers
 guards_both = reads _ _ refl refl (4 ∷ []) refl (omega arith)
 
@@ -34,7 +33,7 @@ between : Rule
 between = rule (pattern 255 0 31 ∷ []) (max (necessity 0 (max (variable 1))))
 
 -- node 1 alone, likewise
-guards_outer : ReadAs (1 ∷ 255 ∷ 0 ∷ 31 ∷ 6 ∷ 5 ∷ 0 ∷ 6 ∷ 7 ∷ 1 ∷ []) between (Equations 1)
+guards_outer : ReadAs (1 ∷ 255 ∷ 0 ∷ 31 ∷ 6 ∷ 5 ∷ 0 ∷ 6 ∷ 7 ∷ 1 ∷ []) between (accepted 1)
 unfolding between rule_of records_at formula_of formula_at unsatisfiable equations_of found explored first_of answer_of bit covers
 guards_outer = reads _ _ refl refl (2 ∷ []) refl (omega arith)
 

@@ -18,7 +18,6 @@ use Rattle.synthesis.specs.Merging.{tabulate, DropAlike, merged, together, refin
 use Rattle.synthesis.specs.Building.{equations_of, Synthesis, with_equations, counted_of, numbered_answer, classes_of, shortened, short_of}
 use Rattle.synthesis.specs.Reason.{opened_falsities}
 use Rattle.reading.proofs.Measures.BoundedTests.{every_is}
-use Rattle.synthesis.specs.declared.Counted.TheVariants.{Equations}
 use Rattle.synthesis.proofs.Tables.FilledTables.{filled_row}
 use Rattle.synthesis.proofs.Tables.SynthesisOutcomes.{accepts_with_equations, short_accepts, short_filling-by_count, filling_accepts}
 use Rattle.synthesis.proofs.Tables.SynthesisOutcomes.{short_fills_as_counted}
@@ -60,7 +59,7 @@ module _ {s : List ℕ} {r : Rule} {sets classes : List ℕ} (known : Classified
       let few : length (equations_of most r) ≤ most = rw known.equations known.few in
       short_accepts most s (accepts_with_equations most s r known.read known.satisfiable few ∙ ap accepted with_sets)
 
-  short_count : counted_of (short_of most s) ≡ Equations (length fs)
+  short_count : counted_of (short_of most s) ≡ accepted (length fs)
   unfolding shortened
   short_count = rw (outcome, known.classes_are)
 
@@ -75,7 +74,7 @@ module _ {s : List ℕ} {r : Rule} {sets classes : List ℕ} (known : Classified
 
   merges : (n : ℕ) (lines : List ℕ) → length fs ≡ n → listing_of r (short_answer r sets classes) fs ≡ lines → Merges s r sets classes n lines
   merges n lines count is =
-      let counting : counted_of (short_of most s) ≡ Equations n = short_count ∙ ap Equations count in
+      let counting : counted_of (short_of most s) ≡ accepted n = short_count ∙ ap accepted count in
       record {
         file = reads s r known.read known.satisfiable sets known.equations known.few;
         equations = known.equations;

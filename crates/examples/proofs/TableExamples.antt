@@ -7,10 +7,8 @@ use Rattle.reading.specs.File.{Outcome}
 use Rattle.synthesis.specs.Monitor.{most}
 use Rattle.synthesis.specs.Building.{Synthesis, synthesis_of, filling_of, counted_of}
 use Rattle.synthesis.specs.Promises.{FillsAsCounted}
-use Rattle.synthesis.specs.declared.Counted.TheVariants.{Equations, Refused}
 use Rattle.synthesis.proofs.Tables.SynthesisOutcomes.{counted_refuses, fills_as_counted, short_fills_as_counted}
 use Rattle.synthesis.proofs.Quotients.ShortFillings.{short_refuses_alike}
-use Rattle.models.specs.declared.Judged.TheVariants.{Refused as NotJudged}
 use Rattle.models.proofs.Judgments.JudgingOrder.{judging_refused}
 use Rattle.examples.specs.Examples.{pool_file}
 use Rattle.examples.specs.ShortExamples.{branches_file}
@@ -22,7 +20,7 @@ use Rattle.examples.proofs.ShortExamples.{short_examples}
 use Rattle.examples.proofs.ModelAnswers.{judges_refused}
 use Rattle.examples.proofs.RefusalExamples.{refusal_examples}
 
-refused_bare : (s : List ℕ) (number place : ℕ) → counted_of (synthesis_of most s) ≡ Refused number place → RefusedBare s number place
+refused_bare : (s : List ℕ) (number place : ℕ) → counted_of (synthesis_of most s) ≡ refused number place → RefusedBare s number place
 refused_bare s number place e = record {
   long = (fills_as_counted most s 0).refused number place e;
   short = (short_fills_as_counted most s 0).refused number place (((short_refuses_alike most s).refused number place).1 e);
@@ -30,12 +28,12 @@ refused_bare s number place e = record {
 
 -- what is counted as n equations needs 256 × n entries
 pub needs : {counting : Outcome Synthesis} {filling : ℕ → Outcome Synthesis} → ((capacity : ℕ) → FillsAsCounted counting (filling capacity) capacity)
-    → (n : ℕ) → counted_of counting ≡ Equations n → Needs filling (256 * n) n
+    → (n : ℕ) → counted_of counting ≡ accepted n → Needs filling (256 * n) n
 needs counts n e = record { fits = (counts (256 * n)).enough n e (omega arith); too_short = λ capacity. (counts capacity).too_short n e }
 
 -- where filling is refused, judging is, whatever the model file
-judges_unfilled : (s : List ℕ) (capacity number place : ℕ) → counted_of (filling_of most s capacity) ≡ Refused number place
-    → (f : List ℕ) → JudgesIn s capacity f (NotJudged number place)
+judges_unfilled : (s : List ℕ) (capacity number place : ℕ) → counted_of (filling_of most s capacity) ≡ refused number place
+    → (f : List ℕ) → JudgesIn s capacity f (refused number place)
 judges_unfilled s capacity number place e f =
     judges_refused s capacity f number place
     (judging_refused most s capacity (counted_refuses (filling_of most s capacity) number place e) f)

@@ -17,7 +17,6 @@ use Rattle.reading.proofs.Measures.BoundedTests.{every_is}
 use Rattle.synthesis.specs.Monitor.{next}
 use Rattle.synthesis.specs.Violation.{covered_by}
 use Rattle.synthesis.specs.Answering.{reached, first_of, answer_of, unsatisfiable}
-use Rattle.synthesis.specs.declared.Counted.TheVariants.{Equations, Refused}
 use Rattle.examples.specs.Examples.{pattern, ReadAs}
 use Rattle.examples.specs.RefusalExamples.{times}
 use Rattle.examples.specs.FamilyExamples.{chain, window_file, window_rule}
@@ -115,18 +114,18 @@ unfolding least bit chain
 shifts_10 true = refl
 shifts_10 false = refl
 
-pub window_7 : ReadAs (window_file 7) (window_rule 7) (Equations 128)
+pub window_7 : ReadAs (window_file 7) (window_rule 7) (accepted 128)
 unfolding times chain rule_of records_at formula_of formula_at
 window_7 = reads_enumerated (window_file 7) (window_rule 7) refl (satisfiable 7) 128 (enumerates 7 shifts_7) (omega arith)
 
-pub window_8 : ReadAs (window_file 8) (window_rule 8) (Equations 256)
+pub window_8 : ReadAs (window_file 8) (window_rule 8) (accepted 256)
 unfolding times chain rule_of records_at formula_of formula_at
 window_8 = reads_enumerated (window_file 8) (window_rule 8) refl (satisfiable 8) 256 (enumerates 8 shifts_8) (omega arith)
 
-pub window_9 : ReadAs (window_file 9) (window_rule 9) (Equations 512)
+pub window_9 : ReadAs (window_file 9) (window_rule 9) (accepted 512)
 unfolding times chain rule_of records_at formula_of formula_at
 window_9 = reads_enumerated (window_file 9) (window_rule 9) refl (satisfiable 9) 512 (enumerates 9 shifts_9) (omega arith)
 
-pub window_10 : ReadAs (window_file 10) (window_rule 10) (Refused 9 0)
+pub window_10 : ReadAs (window_file 10) (window_rule 10) (refused 9 0)
 unfolding times chain rule_of records_at formula_of formula_at
 window_10 = reads_over (window_file 10) (window_rule 10) refl (satisfiable 10) 1024 (enumerates 10 shifts_10) (omega arith)

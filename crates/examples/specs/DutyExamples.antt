@@ -13,8 +13,6 @@ use Rattle.running.specs.Spells.{Event, runs, comes, goes, Desk, new_desk, after
 use Rattle.running.specs.SpellPromises.{OrderlyDay}
 use Rattle.running.specs.declared.OnDuty.{OnDuty}
 use Rattle.running.specs.declared.Duty.{Duty}
-use Rattle.running.specs.declared.Checked.{Checked}
-use Rattle.running.specs.declared.Checked.TheVariants.{Fit, Refused}
 use Rattle.examples.specs.Examples.{pattern, rule}
 
 -- ---- the rules
@@ -137,36 +135,36 @@ counted n = record { rules = four; count = n }
 abbrev pub coming : (number base count : ℕ) → Event
 coming number base count = comes (record { number = number; tables = lent; base = base; count = count; rule = hold_rule })
 
-abbrev pub answer : List OnDuty → Event → Checked
+abbrev pub answer : List OnDuty → Event → Outcome Unit
 answer ds e = answered most mark (at_desk (duty_of ds)) e
 
 pub record DutyRefusals : Type 0 where
   -- four rules on one table; a fifth, also under a known number; five are an unsound state, whatever is asked
-  pub fourth : answer (hold_as 1 ∷ hold_as 2 ∷ hold_as 3 ∷ []) (coming 4 0 2) ≡ Fit
-  pub fifth : answer four (coming 5 0 2) ≡ Refused 19 0
-  pub fifth_known : answer four (coming 4 0 2) ≡ Refused 19 0
-  pub five : answered most mark (at_desk (counted 5)) (coming 6 0 2) ≡ Refused 16 0
-  pub five_go : answered most mark (at_desk (counted 5)) (goes 1) ≡ Refused 16 0
-  pub five_run : answered most mark (at_desk (counted 5)) (run_over morning) ≡ Refused 16 0
+  pub fourth : answer (hold_as 1 ∷ hold_as 2 ∷ hold_as 3 ∷ []) (coming 4 0 2) ≡ accepted unit
+  pub fifth : answer four (coming 5 0 2) ≡ refused 19 0
+  pub fifth_known : answer four (coming 4 0 2) ≡ refused 19 0
+  pub five : answered most mark (at_desk (counted 5)) (coming 6 0 2) ≡ refused 16 0
+  pub five_go : answered most mark (at_desk (counted 5)) (goes 1) ≡ refused 16 0
+  pub five_run : answered most mark (at_desk (counted 5)) (run_over morning) ≡ refused 16 0
   -- what stands behind the count doesn't count
-  pub three : answered most mark (at_desk (counted 3)) (coming 4 0 2) ≡ Fit
+  pub three : answered most mark (at_desk (counted 3)) (coming 4 0 2) ≡ accepted unit
   -- a number twice
-  pub known : answer (hold_as 1 ∷ []) (coming 1 0 2) ≡ Refused 20 0
-  pub twice : answer (hold_as 1 ∷ hold_as 1 ∷ []) (coming 2 0 2) ≡ Refused 16 0
-  pub twice_run : answer (hold_as 1 ∷ hold_as 1 ∷ []) (run_over []) ≡ Refused 16 0
+  pub known : answer (hold_as 1 ∷ []) (coming 1 0 2) ≡ refused 20 0
+  pub twice : answer (hold_as 1 ∷ hold_as 1 ∷ []) (coming 2 0 2) ≡ refused 16 0
+  pub twice_run : answer (hold_as 1 ∷ hold_as 1 ∷ []) (run_over []) ≡ refused 16 0
   -- 20 comes before 16 for the table: no equations, a row more than there are, the end of what is lent, and behind it
-  pub known_first : answer (hold_as 1 ∷ []) (coming 1 0 0) ≡ Refused 20 0
-  pub no_equations : answer [] (coming 1 0 0) ≡ Refused 16 0
-  pub no_second_row : answer [] (coming 1 1024 2) ≡ Refused 16 0
-  pub at_end : answer [] (coming 1 1280 1) ≡ Refused 16 0
-  pub behind_end : answer [] (coming 1 4096 1) ≡ Refused 16 0
+  pub known_first : answer (hold_as 1 ∷ []) (coming 1 0 0) ≡ refused 20 0
+  pub no_equations : answer [] (coming 1 0 0) ≡ refused 16 0
+  pub no_second_row : answer [] (coming 1 1024 2) ≡ refused 16 0
+  pub at_end : answer [] (coming 1 1280 1) ≡ refused 16 0
+  pub behind_end : answer [] (coming 1 4096 1) ≡ refused 16 0
   -- nobody to go off
-  pub absent : answer (hold_as 1 ∷ []) (goes 2) ≡ Refused 21 0
-  pub nobody_goes : answer [] (goes 0) ≡ Refused 21 0
+  pub absent : answer (hold_as 1 ∷ []) (goes 2) ≡ refused 21 0
+  pub nobody_goes : answer [] (goes 0) ≡ refused 21 0
   -- a run: 15 before 16; a rule that isn't the first is looked at, too
-  pub short_first : answer (hold_as 1 ∷ hold_as 1 ∷ []) (runs (record { tables = []; scans = 0 ∷ []; output = []; verdicts = [] })) ≡ Refused 15 0
-  pub second_unfit : answer (hold_as 1 ∷ moved_to (hold_as 2) 2 ∷ []) (run_over []) ≡ Refused 16 0
-  pub nobody_on_duty : answer [] (runs (record { tables = []; scans = 0 ∷ []; output = 9 ∷ []; verdicts = 9 ∷ [] })) ≡ Fit
+  pub short_first : answer (hold_as 1 ∷ hold_as 1 ∷ []) (runs (record { tables = []; scans = 0 ∷ []; output = []; verdicts = [] })) ≡ refused 15 0
+  pub second_unfit : answer (hold_as 1 ∷ moved_to (hold_as 2) 2 ∷ []) (run_over []) ≡ refused 16 0
+  pub nobody_on_duty : answer [] (runs (record { tables = []; scans = 0 ∷ []; output = 9 ∷ []; verdicts = 9 ∷ [] })) ≡ accepted unit
 
 pub record DutyExamples : Type 0 where
   pub day : DutyDay

@@ -7,7 +7,6 @@ use Rattle.reading.specs.File.{accepted, refused, rule_of}
 use Rattle.synthesis.specs.Monitor.{mark, most}
 use Rattle.synthesis.specs.Building.{table_left, Fills}
 use Rattle.synthesis.specs.Joined.{joined}
-use Rattle.synthesis.specs.declared.Counted.TheVariants.{Equations}
 use Rattle.running.specs.Running.{start, moved, run_from, run_of}
 use Rattle.running.specs.Duty.{on_duty}
 use Rattle.running.specs.Spells.{Event, goes, new_desk, after}
@@ -66,7 +65,7 @@ pub record Needed : Type 0 where
   -- Where a run lends other rows, it follows them: the issue that the hold rule forbids is kept.
   pub other_rows : (after most mark new_desk (hold_comes ∷ run_over (32 ∷ []) ∷ run_with (replicate 512 0) (0 ∷ []) ∷ [])).verdicts ≡ 0 ∷ 0 ∷ []
   -- Two rules of 41 nodes are accepted, and a file with their join has a 65th node.
-  pub chain_accepted : ReadAs (chain_file 40) (chain_rule 40) (Equations 41)
+  pub chain_accepted : ReadAs (chain_file 40) (chain_rule 40) (accepted 41)
   pub join_refused : rule_of (encode (joined (chain_rule 40) (chain_rule 40 ∷ []))) ≡ refused 4 134
 
 pub record DutyJoinExamples : Type 0 where

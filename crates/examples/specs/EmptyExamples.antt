@@ -10,8 +10,6 @@ use Rattle.synthesis.specs.Violation.{ViolatesRule}
 use Rattle.synthesis.specs.Alike.{RulesAlike, DifferAfterEmpty, AfterEmpty}
 use Rattle.synthesis.specs.Monitor.{mark, most}
 use Rattle.synthesis.specs.Building.{table_left}
-use Rattle.synthesis.specs.declared.Counted.TheVariants.{Equations, Refused}
-use Rattle.synthesis.specs.declared.Reason.TheVariants.{Node}
 use Rattle.running.specs.Running.{start, moved, Run, run_of}
 use Rattle.listing.specs.Text.{text}
 use Rattle.examples.specs.Examples.{pattern, rule, ReadAs}
@@ -54,7 +52,7 @@ pub record EmptyPatterns : Type 0 where
   -- a mask of 0: the lowest code is absent and the count 0, whatever the slots are
   pub measured : (first last : ℕ) → extent_of (pattern 0 first last) ≡ record { lowest = Absent; count = 0 }
   -- the slots are kept as written, also where first is over last
-  pub slots_kept : ReadAs (1 ∷ 0 ∷ 30 ∷ 2 ∷ 2 ∷ []) (rule (pattern 0 30 2 ∷ []) truth) (Equations 1)
+  pub slots_kept : ReadAs (1 ∷ 0 ∷ 30 ∷ 2 ∷ 2 ∷ []) (rule (pattern 0 30 2 ∷ []) truth) (accepted 1)
   -- 1 0 5 5 2: one equation, the empty set
   pub unused : Numbers unused_file unused_rule (0 ∷ []) unused_listing
   pub unused_extents : map extent_of unused_rule.patterns ≡ record { lowest = Absent; count = 0 } ∷ []
@@ -63,7 +61,7 @@ pub record EmptyPatterns : Type 0 where
   -- its ff stands after an empty pattern
   pub ff_after_none : AfterEmpty after_none_rule 1
   -- 1 0 0 0 6 5 0 7 0: no 7, for a necessity guards a variable also with an empty pattern; {1} and the empty set
-  pub guards : ReadAs (1 ∷ 0 ∷ 0 ∷ 0 ∷ 6 ∷ 5 ∷ 0 ∷ 7 ∷ 0 ∷ []) (rule (pattern 0 0 0 ∷ []) (max (necessity 0 (variable 0)))) (Equations 2)
+  pub guards : ReadAs (1 ∷ 0 ∷ 0 ∷ 0 ∷ 6 ∷ 5 ∷ 0 ∷ 7 ∷ 0 ∷ []) (rule (pattern 0 0 0 ∷ []) (max (necessity 0 (variable 0)))) (accepted 2)
 
 -- ---- at the limits
 
@@ -95,7 +93,7 @@ pub record EmptyCounts : Type 0 where
   pub chain_read : rule_of (empty_chain_file 31) ≡ accepted (empty_chain_rule 31)
   pub chain_31 : ShownAtDeskOnly (empty_chain_file 31) 33
   -- 1,024: 9
-  pub window_9 : ReadAs (empty_window_file 9) (empty_window_rule 9) (Refused 9 0)
+  pub window_9 : ReadAs (empty_window_file 9) (empty_window_rule 9) (refused 9 0)
 
 -- ---- two rules that differ only after an empty pattern
 
@@ -160,8 +158,8 @@ pub record AlikeRules : Type 0 where
   pub longer_run : HasAlikeRun longer_file
   -- The first scan is dropped by the ff of the second part, and the number of that node is what differs. Node 2 of the shorter rule is a lower ff, but stands
   -- after the empty pattern.
-  pub shorter_reason : reason shorter_file [] 5 ≡ Node 4
-  pub longer_reason : reason longer_file [] 5 ≡ Node 6
+  pub shorter_reason : reason shorter_file [] 5 ≡ accepted (Some 4)
+  pub longer_reason : reason longer_file [] 5 ≡ accepted (Some 6)
   pub skipped : AfterEmpty shorter_rule 2
   -- and so does all of the longer formula there, down to its variable
   pub deeper : AfterEmpty longer_rule 4

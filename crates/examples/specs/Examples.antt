@@ -11,10 +11,7 @@ use Rattle.reading.specs.declared.Lowest.TheVariants.{Code}
 use Rattle.reading.specs.declared.Extent.{Extent}
 use Rattle.synthesis.specs.Monitor.{mark, most, row_of}
 use Rattle.synthesis.specs.Building.{synthesis_of, filling_of, counted_of, table_left}
-use Rattle.synthesis.specs.declared.Counted.{Counted}
-use Rattle.synthesis.specs.declared.Counted.TheVariants.{Equations, Refused}
 use Rattle.running.specs.Running.{start, moved, Run, run_of, checked_of, result_of, output_after, verdicts_after}
-use Rattle.running.specs.declared.Checked.TheVariants.{Fit, Refused as Unfit}
 use Rattle.listing.specs.Text.{text, decimal}
 use Rattle.listing.specs.Lines.{refusal_line, judgment_line, listing}
 
@@ -59,22 +56,22 @@ pub record KindBytes : Type 0 where
 -- ---- what is said of a file
 
 -- the entries of a table that an answer needs: 256 for each equation, and none for a refusal
-abbrev pub entries_for : Counted → ℕ
-entries_for (Equations n) = 256 * n
-entries_for (Refused number place) = 0
+abbrev pub entries_for : Outcome ℕ → ℕ
+entries_for (accepted n) = 256 * n
+entries_for (refused number place) = 0
 
 -- Counting answers so, and filling too with every table that has the entries for it. So a refused file is refused by its own number with any table.
-pub record CountedAs (s : List ℕ) (answer : Counted) : Type 0 where
+pub record CountedAs (s : List ℕ) (answer : Outcome ℕ) : Type 0 where
   pub counting : counted_of (synthesis_of most s) ≡ answer
   pub filling : (capacity : ℕ) → entries_for answer ≤ capacity → counted_of (filling_of most s capacity) ≡ answer
 
 -- reading refuses the file, and so do counting and filling
 pub record Refuses (s : List ℕ) (number place : ℕ) : Type 0 where
   pub reading : rule_of s ≡ refused number place
-  pub answers : CountedAs s (Refused number place)
+  pub answers : CountedAs s (refused number place)
 
 -- reading accepts the file as this rule, and counting and filling answer so
-pub record ReadAs (s : List ℕ) (r : Rule) (answer : Counted) : Type 0 where
+pub record ReadAs (s : List ℕ) (r : Rule) (answer : Outcome ℕ) : Type 0 where
   pub reading : rule_of s ≡ accepted r
   pub answers : CountedAs s answer
 
@@ -90,7 +87,7 @@ pool_rule =
 
 -- its bytes say this rule, which has 3 equations; and the lowest code and the count of each of its patterns
 pub record NumberPool : Type 0 where
-  pub file : ReadAs pool_file pool_rule (Equations 3)
+  pub file : ReadAs pool_file pool_rule (accepted 3)
   pub extents : map extent_of pool_rule.patterns ≡ extent 37 1 ∷ extent 5 1 ∷ extent 128 32 ∷ []
 
 -- what `equations` prints
@@ -142,10 +139,10 @@ pub record SmallFiles : Type 0 where
   -- * empty: 1 at 0
   pub empty : Refuses [] 1 0
   -- * 2: one equation, every entry 0
-  pub truth_alone : ReadAs (2 ∷ []) (rule [] truth) (Equations 1)
+  pub truth_alone : ReadAs (2 ∷ []) (rule [] truth) (accepted 1)
   pub truth_entries : (table : List ℕ) → 256 ≤ length table → row_of 256 (table_left most mark (2 ∷ []) table) 0 ≡ replicate 256 0
   -- * 3: 8 at 0
-  pub falsity_alone : ReadAs (3 ∷ []) (rule [] falsity) (Refused 8 0)
+  pub falsity_alone : ReadAs (3 ∷ []) (rule [] falsity) (refused 8 0)
   -- * 2 2: 3 at 1
   pub byte_after : Refuses (2 ∷ 2 ∷ []) 3 1
   -- * 0: 2 at 0
@@ -159,10 +156,10 @@ pub record SmallFiles : Type 0 where
   -- * 1 1 5 5: 1 at 4
   pub no_formula : Refuses (1 ∷ 1 ∷ 5 ∷ 5 ∷ []) 1 4
   -- * 1 1 6 5 2: 5 at 0 in the paper. C-12 changed this row: it is accepted, and covers 32 codes from 0 on
-  pub first_over_last : ReadAs (1 ∷ 1 ∷ 6 ∷ 5 ∷ 2 ∷ []) (rule (pattern 1 6 5 ∷ []) truth) (Equations 1)
+  pub first_over_last : ReadAs (1 ∷ 1 ∷ 6 ∷ 5 ∷ 2 ∷ []) (rule (pattern 1 6 5 ∷ []) truth) (accepted 1)
   pub first_over_last_extent : extent_of (pattern 1 6 5) ≡ extent 0 32
   -- * 1 1 31 31 2: accepted, lowest 31
-  pub last_slot : ReadAs (1 ∷ 1 ∷ 31 ∷ 31 ∷ 2 ∷ []) (rule (pattern 1 31 31 ∷ []) truth) (Equations 1)
+  pub last_slot : ReadAs (1 ∷ 1 ∷ 31 ∷ 31 ∷ 2 ∷ []) (rule (pattern 1 31 31 ∷ []) truth) (accepted 1)
   pub last_slot_lowest : (extent_of (pattern 1 31 31)).lowest ≡ Code 31
 
 -- ---- a run
@@ -181,7 +178,7 @@ pool_run = record {
 -- The outcome is this run: what it hands back, and what it leaves in an output and in verdicts.
 pub record RunsPool (outcome : Outcome Run) : Type 0 where
   pub accepts : outcome ≡ accepted pool_run
-  pub handed_back_lem : result_of start outcome ≡ record { checked = Fit; state = moved start 1; kept = 5; dropped = 1 }
+  pub handed_back_lem : result_of start outcome ≡ record { checked = (accepted unit); state = moved start 1; kept = 5; dropped = 1 }
   pub ends_in : (result_of start outcome).state.equation ≡ 1
   pub output : (bytes : List ℕ) → output_after outcome bytes ≡ 37 ∷ 128 ∷ 5 ∷ 37 ∷ 5 ∷ drop 5 bytes
   pub verdicts : (bytes : List ℕ) → verdicts_after outcome bytes ≡ 0 ∷ 1 ∷ 0 ∷ 0 ∷ 0 ∷ 0 ∷ drop 6 bytes
@@ -190,7 +187,7 @@ pub record RunsPool (outcome : Outcome Run) : Type 0 where
 pub record PoolScans (table : List ℕ) : Type 0 where
   pub enough : (output verdicts : ℕ) → 6 ≤ output → 6 ≤ verdicts → RunsPool (run_of most mark table 3 start pool_scans output verdicts)
   pub short : (output verdicts : ℕ) → (output < 6) ⊎ (verdicts < 6)
-      → checked_of (run_of most mark table 3 start pool_scans output verdicts) ≡ Unfit 15 0
+      → checked_of (run_of most mark table 3 start pool_scans output verdicts) ≡ refused 15 0
 
 -- ---- all of them
 

@@ -5,7 +5,6 @@ use Rattle.std.specs.Prelude.{ℕ, zero, suc, ◌*◌, ◌≤◌, ◌<◌, ◌�
 use Rattle.reading.specs.Rule.{Formula, truth, both, necessity, max, variable, Rule}
 use Rattle.synthesis.specs.Monitor.{mark, most, dropped, next, row_of, lookup}
 use Rattle.synthesis.specs.Building.{synthesis_of, counted_of, table_left}
-use Rattle.synthesis.specs.declared.Counted.TheVariants.{Equations, Refused}
 use Rattle.examples.specs.Examples.{pattern, rule, ReadAs, pool_file}
 use Rattle.examples.specs.RefusalExamples.{times}
 
@@ -40,17 +39,17 @@ pub record Stands255 (table : List ℕ) : Type 0 where
 
 pub record FamilyExamples : Type 0 where
   -- n = 63 gives 64 equations, and every smaller n one more than n; n = 64 is `node_65` of specs/RefusalExamples.antt
-  pub chains : (n : ℕ) → n ≤ 63 → ReadAs (chain_file n) (chain_rule n) (Equations (suc n))
+  pub chains : (n : ℕ) → n ≤ 63 → ReadAs (chain_file n) (chain_rule n) (accepted (suc n))
   -- m = 7 gives 128 equations, and under a limit of 128 too
-  pub window_7 : ReadAs (window_file 7) (window_rule 7) (Equations 128)
-  pub window_7_within : counted_of (synthesis_of 128 (window_file 7)) ≡ Equations 128
+  pub window_7 : ReadAs (window_file 7) (window_rule 7) (accepted 128)
+  pub window_7_within : counted_of (synthesis_of 128 (window_file 7)) ≡ accepted 128
   -- m = 8 gives 256, and 9 under a limit of 128
-  pub window_8 : ReadAs (window_file 8) (window_rule 8) (Equations 256)
-  pub window_8_within : counted_of (synthesis_of 128 (window_file 8)) ≡ Refused 9 0
+  pub window_8 : ReadAs (window_file 8) (window_rule 8) (accepted 256)
+  pub window_8_within : counted_of (synthesis_of 128 (window_file 8)) ≡ refused 9 0
   -- an entry that is 255 means equation 255
   pub window_8_entry : (table : List ℕ) → 256 * 256 ≤ length table → Stands255 (table_left most mark (window_file 8) table)
   -- m = 9 gives 512, m = 10 gives 9
-  pub window_9 : ReadAs (window_file 9) (window_rule 9) (Equations 512)
-  pub window_10 : ReadAs (window_file 10) (window_rule 10) (Refused 9 0)
+  pub window_9 : ReadAs (window_file 9) (window_rule 9) (accepted 512)
+  pub window_10 : ReadAs (window_file 10) (window_rule 10) (refused 9 0)
   -- under a limit of 0 the number-pool rule is 9, as every rule is that isn't refused before
-  pub pool_within_0 : counted_of (synthesis_of 0 pool_file) ≡ Refused 9 0
+  pub pool_within_0 : counted_of (synthesis_of 0 pool_file) ≡ refused 9 0

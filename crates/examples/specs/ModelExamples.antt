@@ -6,13 +6,10 @@ use Rattle.reading.specs.File.{accepted}
 use Rattle.synthesis.specs.Violation.{ViolatesRule}
 use Rattle.synthesis.specs.Monitor.{mark, most, lookup}
 use Rattle.synthesis.specs.Building.{table_left}
-use Rattle.synthesis.specs.declared.Counted.TheVariants.{Equations}
 use Rattle.enforcement.specs.Model.{code, Model, Walk, Finite, Satisfies, Bisimilar, suppressing, monitored}
 use Rattle.models.specs.Phone.{Phone, model_of, phone_of}
 use Rattle.models.specs.Judging.{judging_of, JudgedAs}
 use Rattle.models.specs.declared.Step.{Step}
-use Rattle.models.specs.declared.Judged.{Judged}
-use Rattle.models.specs.declared.Judged.TheVariants.{Meets, Breaks}
 use Rattle.examples.specs.Examples.{pattern, rule, ReadAs, pool_file, pool_rule}
 
 -- label 256 is silent
@@ -24,14 +21,14 @@ abbrev pub behind : (s table : List ℕ) → Model → Model
 behind s table = monitored (suppressing (lookup 256 mark (table_left most mark s table))) 0
 
 -- With a table of so many entries this is an answer of judging a model under a rule, and it is the only one.
-abbrev pub JudgesIn : (s : List ℕ) → (capacity : ℕ) → (model : List ℕ) → Judged → Type 0
-JudgesIn s capacity f answer = (r : Judged) → JudgedAs (judging_of most s capacity f) r ↔ (r ≡ answer)
+abbrev pub JudgesIn : (s : List ℕ) → (capacity : ℕ) → (model : List ℕ) → Outcome Judgment → Type 0
+JudgesIn s capacity f answer = (r : Outcome Judgment) → JudgedAs (judging_of most s capacity f) r ↔ (r ≡ answer)
 
 -- the same with every table of at least so many entries
-abbrev pub Judges : (s : List ℕ) → (room : ℕ) → (model : List ℕ) → Judged → Type 0
+abbrev pub Judges : (s : List ℕ) → (room : ℕ) → (model : List ℕ) → Outcome Judgment → Type 0
 Judges s room f answer = (capacity : ℕ) → room ≤ capacity → JudgesIn s capacity f answer
 
-abbrev pub JudgesPool : (model : List ℕ) → Judged → Type 0
+abbrev pub JudgesPool : (model : List ℕ) → Outcome Judgment → Type 0
 JudgesPool = Judges pool_file 768
 
 -- ---- a model that breaks the rule
@@ -54,7 +51,7 @@ drawn_phone = record {
 pub record Breaking : Type 1 where
   pub file : phone_of breaking_file ≡ accepted breaking_phone
   pub unsatisfied : Satisfies (model_of breaking_phone) pool_rule → ⊥
-  pub judged : JudgesPool breaking_file Breaks
+  pub judged : JudgesPool breaking_file (accepted Breaks)
   pub changed : (table : List ℕ) → 768 ≤ length table → Bisimilar (model_of breaking_phone) (behind pool_file table (model_of breaking_phone)) → ⊥
   pub drawn : (table : List ℕ) → 768 ≤ length table → Bisimilar (behind pool_file table (model_of breaking_phone)) (model_of drawn_phone)
 
@@ -70,7 +67,7 @@ meeting_phone = record { states = 2; steps = step 0 37 1 ∷ step 1 128 0 ∷ []
 pub record Meeting : Type 1 where
   pub file : phone_of meeting_file ≡ accepted meeting_phone
   pub satisfied : Satisfies (model_of meeting_phone) pool_rule
-  pub judged : JudgesPool meeting_file Meets
+  pub judged : JudgesPool meeting_file (accepted Meets)
   pub unchanged : (table : List ℕ) → 768 ≤ length table → Bisimilar (model_of meeting_phone) (behind pool_file table (model_of meeting_phone))
 
 -- ---- a trace behind a monitor only
@@ -92,7 +89,7 @@ shortening_phone = record { states = 3; steps = step 0 5 1 ∷ step 1 6 2 ∷ []
 
 -- the bare phone's whole trace, which violates the rule, and what is left of it
 pub record Shortening : Type 0 where
-  pub rule_file : ReadAs never_file never_rule (Equations 2)
+  pub rule_file : ReadAs never_file never_rule (accepted 2)
   pub model_file : phone_of shortening_file ≡ accepted shortening_phone
   pub bare : Walk (model_of shortening_phone) 0 (5 ∷ 6 ∷ []) 2
   pub violating : ViolatesRule never_rule (5 ∷ 6 ∷ [])

@@ -4,7 +4,6 @@ use Rattle.std.specs.Prelude.{ℕ, ◌≤◌, ◌≡◌, List, [], ◌∷◌, �
 use Rattle.reading.specs.Rule.{truth, falsity, both, necessity, max, variable, Rule}
 use Rattle.synthesis.specs.Monitor.{mark, most, row_of}
 use Rattle.synthesis.specs.Building.{table_left}
-use Rattle.synthesis.specs.declared.Counted.TheVariants.{Equations}
 use Rattle.listing.specs.Text.{text}
 use Rattle.examples.specs.Examples.{pattern, rule, ReadAs, pool_listing}
 use Rattle.examples.specs.NumberingExamples.{Numbers}
@@ -60,7 +59,7 @@ pub record NodeExamples : Type 0 where
   -- depth 1: what is listed is what the number-pool rule has
   pub outer_max : Numbers (nested_file 1) (nested_rule 1) nested_sets pool_listing
   -- depth 0: in equation 2, a sync leads back to equation 2
-  pub inner_max : ReadAs (nested_file 0) (nested_rule 0) (Equations 3)
+  pub inner_max : ReadAs (nested_file 0) (nested_rule 0) (accepted 3)
   pub inner_row : (table : List ℕ) → 768 ≤ length table
       → row_of 256 (table_left most mark (nested_file 0) table) 2 ≡ replicate 5 1 ++ mark ∷ replicate 122 1 ++ replicate 32 2 ++ replicate 96 1
   pub twice : Numbers twice_file twice_rule twice_sets twice_listing

@@ -4,14 +4,13 @@ use Rattle.reading.specs.Pattern.{extent_of}
 use Rattle.reading.specs.Rule.{truth, both, necessity, Rule}
 use Rattle.synthesis.specs.Monitor.{mark, most}
 use Rattle.synthesis.specs.Building.{equations_of, table_left}
-use Rattle.synthesis.specs.declared.Counted.TheVariants.{Equations}
 use Rattle.listing.specs.Text.{text}
 use Rattle.listing.specs.Lines.{listing}
 use Rattle.examples.specs.Examples.{pattern, rule, ReadAs}
 
 -- a file's rule, its equations as sets of nodes in their order, and what is listed of every table that filling leaves
 pub record Numbers (s : List ℕ) (r : Rule) (sets lines : List ℕ) : Type 0 where
-  pub file : ReadAs s r (Equations (length sets))
+  pub file : ReadAs s r (accepted (length sets))
   pub equations : equations_of most r ≡ sets
   pub listed : (table : List ℕ) → 256 * length sets ≤ length table
       → listing (map extent_of r.patterns) (length sets) (table_left most mark s table) ≡ lines

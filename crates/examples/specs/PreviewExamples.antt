@@ -2,25 +2,24 @@
 use Rattle.std.specs.Prelude.{ℕ, ◌*◌, ◌≤◌, ◌≡◌, List, [], ◌∷◌, length}
 use Rattle.synthesis.specs.Monitor.{mark, most}
 use Rattle.synthesis.specs.Building.{synthesis_of, filling_of, counted_of, table_after, preview_of, preview_filling_of}
-use Rattle.synthesis.specs.declared.Counted.TheVariants.{Equations, Refused}
 use Rattle.examples.specs.Examples.{pool_file, PoolTable}
 use Rattle.examples.specs.TableExamples.{Needs}
 use Rattle.examples.specs.FamilyExamples.{chain_file, window_file}
 
 -- The page and the desk count n equations, and the page fills a table that has the entries for them. With fewer it is 10 at 0.
 pub record ShownOnPage (s : List ℕ) (n : ℕ) : Type 0 where
-  pub page : counted_of (preview_of s) ≡ Equations n
+  pub page : counted_of (preview_of s) ≡ accepted n
   pub filling : Needs (preview_filling_of s) (256 * n) n
-  pub desk : counted_of (synthesis_of most s) ≡ Equations n
+  pub desk : counted_of (synthesis_of most s) ≡ accepted n
 
 -- On the page the file is refused so, in counting, and in filling with any table, also an empty one.
 pub record RefusedOnPage (s : List ℕ) (number place : ℕ) : Type 0 where
-  pub counting : counted_of (preview_of s) ≡ Refused number place
-  pub filling : (capacity : ℕ) → counted_of (preview_filling_of s capacity) ≡ Refused number place
+  pub counting : counted_of (preview_of s) ≡ refused number place
+  pub filling : (capacity : ℕ) → counted_of (preview_filling_of s capacity) ≡ refused number place
 
 -- The desk counts n equations and fills a table that has the entries for them; on the page the file is 18 at 0.
 pub record ShownAtDeskOnly (s : List ℕ) (n : ℕ) : Type 0 where
-  pub desk : counted_of (synthesis_of most s) ≡ Equations n
+  pub desk : counted_of (synthesis_of most s) ≡ accepted n
   pub filling : Needs (filling_of most s) (256 * n) n
   pub page : RefusedOnPage s 18 0
 

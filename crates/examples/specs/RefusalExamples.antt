@@ -3,9 +3,7 @@
 use Rattle.std.specs.Prelude.{ℕ, zero, suc, ◌≡◌, List, [], ◌∷◌, ◌++◌}
 use Rattle.reading.specs.Rule.{necessity, max, variable}
 use Rattle.reading.specs.File.{refused}
-use Rattle.synthesis.specs.declared.Counted.TheVariants.{Equations}
 use Rattle.models.specs.Phone.{phone_of}
-use Rattle.models.specs.declared.Judged.TheVariants.{Refused}
 use Rattle.examples.specs.Examples.{pattern, rule, Refuses, ReadAs}
 use Rattle.examples.specs.ModelExamples.{JudgesPool}
 
@@ -62,15 +60,15 @@ pub record RuleRefusals : Type 0 where
   pub guard_outer : Refuses (1 ∷ 1 ∷ 5 ∷ 5 ∷ 6 ∷ 5 ∷ 0 ∷ 6 ∷ 7 ∷ 0 ∷ []) 7 8
   pub guard_beside : Refuses (1 ∷ 1 ∷ 5 ∷ 5 ∷ 6 ∷ 4 ∷ 5 ∷ 0 ∷ 7 ∷ 0 ∷ 7 ∷ 0 ∷ []) 7 10
   -- no 7: a necessity below two maxes guards the outer one too, and one between them guards the outer one alone
-  pub guards_both : ReadAs (1 ∷ 255 ∷ 0 ∷ 31 ∷ 6 ∷ 6 ∷ 5 ∷ 0 ∷ 7 ∷ 1 ∷ []) (rule (pattern 255 0 31 ∷ []) (max (max (necessity 0 (variable 1))))) (Equations 1)
-  pub guards_outer : ReadAs (1 ∷ 255 ∷ 0 ∷ 31 ∷ 6 ∷ 5 ∷ 0 ∷ 6 ∷ 7 ∷ 1 ∷ []) (rule (pattern 255 0 31 ∷ []) (max (necessity 0 (max (variable 1))))) (Equations 1)
+  pub guards_both : ReadAs (1 ∷ 255 ∷ 0 ∷ 31 ∷ 6 ∷ 6 ∷ 5 ∷ 0 ∷ 7 ∷ 1 ∷ []) (rule (pattern 255 0 31 ∷ []) (max (max (necessity 0 (variable 1))))) (accepted 1)
+  pub guards_outer : ReadAs (1 ∷ 255 ∷ 0 ∷ 31 ∷ 6 ∷ 5 ∷ 0 ∷ 6 ∷ 7 ∷ 1 ∷ []) (rule (pattern 255 0 31 ∷ []) (max (necessity 0 (max (variable 1))))) (accepted 1)
 
 -- ---- model files
 
 -- reading refuses the file, and so does judging under the number-pool rule
 pub record RefusesModel (f : List ℕ) (number place : ℕ) : Type 0 where
   pub reading : phone_of f ≡ refused number place
-  pub judged : JudgesPool f (Refused number place)
+  pub judged : JudgesPool f (refused number place)
 
 pub record ModelRefusals : Type 0 where
   -- 11: empty

@@ -7,13 +7,10 @@ use Rattle.reading.specs.File.{accepted}
 use Rattle.synthesis.specs.Monitor.{mark, most}
 use Rattle.synthesis.specs.Violation.{ViolatesRule}
 use Rattle.synthesis.specs.Building.{table_left}
-use Rattle.synthesis.specs.declared.Reason.TheVariants.{Kept, Node}
 use Rattle.running.specs.Running.{start, moved, Run, run_of}
 use Rattle.listing.specs.Text.{text}
 use Rattle.enforcement.specs.Model.{Satisfies}
 use Rattle.models.specs.Phone.{model_of, phone_of}
-use Rattle.models.specs.declared.Judged.{Judged}
-use Rattle.models.specs.declared.Judged.TheVariants.{Meets, Breaks}
 use Rattle.examples.specs.Examples.{pattern, extent}
 use Rattle.examples.specs.NumberingExamples.{Numbers}
 use Rattle.examples.specs.PatternMeaning.{never, repeating_phone}
@@ -70,7 +67,7 @@ abbrev pub repeating_file : (code : ℕ) → List ℕ
 repeating_file c = 16 ∷ 1 ∷ 17 ∷ 0 ∷ c ∷ 0 ∷ []
 
 -- judging has one answer to it under the rule
-pub record JudgedRound (code : ℕ) (answer : Judged) : Type 0 where
+pub record JudgedRound (code : ℕ) (answer : Outcome Judgment) : Type 0 where
   pub file : phone_of (repeating_file code) ≡ accepted (repeating_phone code)
   pub judged : Judges round_file 512 (repeating_file code) answer
 
@@ -83,12 +80,12 @@ pub record RoundExample : Type 1 where
   pub run : (table : List ℕ) → 512 ≤ length table → (output verdicts : ℕ) → 4 ≤ output → 4 ≤ verdicts
       → run_of most mark (table_left most mark round_file table) 2 start round_scans output verdicts ≡ accepted round_run
   -- node 1 is the ff
-  pub dropped_31 : reason round_file [] 31 ≡ Node 1
-  pub dropped_2 : reason round_file [] 2 ≡ Node 1
-  pub kept_29 : reason round_file [] 29 ≡ Kept
+  pub dropped_31 : reason round_file [] 31 ≡ accepted (Some 1)
+  pub dropped_2 : reason round_file [] 2 ≡ accepted (Some 1)
+  pub kept_29 : reason round_file [] 29 ≡ accepted None
   pub unsatisfied_31 : Satisfies (model_of (repeating_phone 31)) round_rule → ⊥
   pub unsatisfied_2 : Satisfies (model_of (repeating_phone 2)) round_rule → ⊥
-  pub breaks_31 : JudgedRound 31 Breaks
-  pub breaks_2 : JudgedRound 2 Breaks
+  pub breaks_31 : JudgedRound 31 (accepted Breaks)
+  pub breaks_2 : JudgedRound 2 (accepted Breaks)
   pub satisfied : Satisfies (model_of (repeating_phone 29)) round_rule
-  pub meets : JudgedRound 29 Meets
+  pub meets : JudgedRound 29 (accepted Meets)

@@ -6,8 +6,6 @@ use Rattle.synthesis.specs.Violation.{ViolatesRule}
 use Rattle.synthesis.specs.Monitor.{mark, most, ended, lookup}
 use Rattle.synthesis.specs.Merging.{DropAlike}
 use Rattle.synthesis.specs.Building.{equations_of, with_equations, counted_of, table_after, classes_of, short_of, short_filling_of}
-use Rattle.synthesis.specs.declared.Counted.TheVariants.{Equations}
-use Rattle.synthesis.specs.declared.Reason.TheVariants.{Node}
 use Rattle.listing.specs.Text.{text}
 use Rattle.listing.specs.Lines.{listing}
 use Rattle.examples.specs.Examples.{pattern, rule, ReadAs, pool_file, pool_rule, pool_listing}
@@ -19,11 +17,11 @@ short_table s table = table_after mark (short_filling_of most s (length table)) 
 
 -- a file's rule, its equations as sets of nodes, their classes, and for the short table what counting and filling answer and what is listed of it
 pub record Merges (s : List ℕ) (r : Rule) (sets classes : List ℕ) (n : ℕ) (lines : List ℕ) : Type 0 where
-  pub file : ReadAs s r (Equations (length sets))
+  pub file : ReadAs s r (accepted (length sets))
   pub equations : equations_of most r ≡ sets
   pub classes_are : classes_of (with_equations most r) ≡ classes
-  pub counting : counted_of (short_of most s) ≡ Equations n
-  pub filling : (capacity : ℕ) → 256 * n ≤ capacity → counted_of (short_filling_of most s capacity) ≡ Equations n
+  pub counting : counted_of (short_of most s) ≡ accepted n
+  pub filling : (capacity : ℕ) → 256 * n ≤ capacity → counted_of (short_filling_of most s capacity) ≡ accepted n
   pub listed : (table : List ℕ) → 256 * n ≤ length table → listing (map extent_of r.patterns) n (short_table s table) ≡ lines
 
 -- ---- two branches that drop alike
@@ -65,8 +63,8 @@ pub record MergedReasons : Type 0 where
       → ended (lookup 256 mark (short_table branches_file table)) 0 (5 ∷ []) ≡ ended (lookup 256 mark (short_table branches_file table)) 0 (7 ∷ [])
   pub safe_5 : ViolatesRule branches_rule (5 ∷ []) → ⊥
   pub safe_7 : ViolatesRule branches_rule (7 ∷ []) → ⊥
-  pub after_5 : reason branches_file (5 ∷ []) 6 ≡ Node 3
-  pub after_7 : reason branches_file (7 ∷ []) 6 ≡ Node 6
+  pub after_5 : reason branches_file (5 ∷ []) 6 ≡ accepted (Some 3)
+  pub after_7 : reason branches_file (7 ∷ []) 6 ≡ accepted (Some 6)
 
 -- ---- one class
 

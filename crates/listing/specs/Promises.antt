@@ -9,7 +9,6 @@ use Rattle.reading.specs.declared.NumberedRule.{NumberedRule}
 use Rattle.synthesis.specs.Monitor.{mark, most, row_of, meaning, lookup}
 use Rattle.synthesis.specs.Alike.{RulesAlike}
 use Rattle.synthesis.specs.Building.{counted_of, table_after, table_left, preview_of, preview_filling_of, Fills}
-use Rattle.synthesis.specs.declared.Counted.TheVariants.{Equations}
 use Rattle.listing.specs.Text.{text, digit, decimal}
 use Rattle.listing.specs.Runs.{CodeRun, runs, RunTo}
 use Rattle.listing.specs.Lines.{line, pattern_line, listing}
@@ -60,7 +59,7 @@ ListsByRows =
 -- and whatever they held.
 abbrev pub PreviewListed : Type 0
 PreviewListed =
-    (s : List ℕ) (n : ℕ) → counted_of (preview_of s) ≡ Equations n → (table table' : List ℕ) → 256 * n ≤ length table → 256 * n ≤ length table'
+    (s : List ℕ) (n : ℕ) → counted_of (preview_of s) ≡ accepted n → (table table' : List ℕ) → 256 * n ≤ length table → 256 * n ≤ length table'
     → (rule : NumberedRule) (at : ℕ)
     → listing_line_at rule (table_after mark (preview_filling_of s (length table)) table) n at ≡ listing_line_at rule (table_left most mark s table') n at
 

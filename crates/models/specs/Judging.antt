@@ -4,14 +4,10 @@ use Rattle.std.specs.Prelude.{ℕ, ◌≡◌, ◌⊎◌, List, [], length}
 use Rattle.reading.specs.Rule.{Rule}
 use Rattle.reading.specs.File.{Outcome, accepted, refused, and_then}
 use Rattle.reading.specs.Numbered.{padded}
-use Rattle.reading.specs.declared.FileRead.TheVariants.{Accepted, Refused}
 use Rattle.synthesis.specs.Building.{Synthesis, filling_of}
 use Rattle.enforcement.specs.Model.{SatisfiesDecided}
 use Rattle.models.specs.Phone.{Phone, no_step, model_of, phone_of}
 use Rattle.models.specs.declared.PhoneModel.{PhoneModel}
-use Rattle.models.specs.declared.ModelReading.{ModelReading}
-use Rattle.models.specs.declared.Judged.{Judged}
-use Rattle.models.specs.declared.Judged as Judged'
 
 -- ---- reading
 
@@ -19,14 +15,10 @@ use Rattle.models.specs.declared.Judged as Judged'
 abbrev pub stored : Phone → PhoneModel
 stored y = record { states = y.states; steps = padded 512 no_step y.steps; nsteps = length y.steps }
 
--- what is handed up of a refused file
-abbrev pub blank : PhoneModel
-blank = stored (record { states = 0; steps = [] })
-
--- The answer of each outcome, with the model: accepted, or the refusal with the paper's number and place.
-abbrev pub model_reading_of : Outcome Phone → ModelReading
-model_reading_of (accepted y) = record { answer = Accepted; model = stored y }
-model_reading_of (refused number place) = record { answer = Refused number place; model = blank }
+-- The answer of each outcome: the model, or the refusal with the paper's number and place.
+abbrev pub model_reading_of : Outcome Phone → Outcome PhoneModel
+model_reading_of (accepted y) = accepted (stored y)
+model_reading_of (refused number place) = refused number place
 
 -- ---- judging
 
@@ -45,11 +37,11 @@ judging_of limit s capacity f = and_then (filling_of limit s capacity) (with_mod
 
 -- The answer of each outcome: meets where the model satisfies the rule, breaks where it doesn't, or the refusal with the paper's number
 -- and place.
-abbrev pub JudgedAs : Outcome RuleAndModel → Judged → Type 0
+abbrev pub JudgedAs : Outcome RuleAndModel → Outcome Judgment → Type 0
 JudgedAs (accepted x) answer =
-    ((answer ≡ Judged'.TheVariants.Meets) × SatisfiesDecided (model_of x.phone) x.rule)
-    ⊎ ((answer ≡ Judged'.TheVariants.Breaks) × (SatisfiesDecided (model_of x.phone) x.rule → ⊥))
-JudgedAs (refused number place) answer = answer ≡ Judged'.TheVariants.Refused number place
+    ((answer ≡ accepted Meets) × SatisfiesDecided (model_of x.phone) x.rule)
+    ⊎ ((answer ≡ accepted Breaks) × (SatisfiesDecided (model_of x.phone) x.rule → ⊥))
+JudgedAs (refused number place) answer = answer ≡ refused number place
 
 -- what is left in the table: what filling leaves, or no change where judging is refused
 abbrev pub table_judged : Outcome RuleAndModel → (left before : List ℕ) → List ℕ

@@ -7,8 +7,6 @@ use Rattle.reading.specs.File.{Outcome, accepted, refused, refuse, and_then, by_
 use Rattle.synthesis.specs.Joined.{Some}
 use Rattle.enforcement.specs.Model.{Bisimulation}
 use Rattle.models.specs.Phone.{Phone, model_of, phone_of}
-use Rattle.models.specs.declared.Matched.{Matched}
-use Rattle.models.specs.declared.Matched as Matched'
 
 -- ---- pairs and their bytes
 
@@ -90,19 +88,36 @@ matching_of f g l =
     second_refused (phone_of g))
     first_refused (phone_of f)
 
+-- What is said: yes or no, or which of the three was refused, with the paper's number and place.
+pub data MatchAnswer : Type 0 where
+  said : Bool → MatchAnswer
+  refused_first : (number place : ℕ) → MatchAnswer
+  refused_second : (number place : ℕ) → MatchAnswer
+  refused_pairs : (number place : ℕ) → MatchAnswer
+
+abbrev pub error_answer : MatchError → MatchAnswer
+error_answer (First r) = refused_first (number r.fault) r.place
+error_answer (Second r) = refused_second (number r.fault) r.place
+error_answer (Pairs r) = refused_pairs (number r.fault) r.place
+
+-- what a result says
+abbrev pub match_answer : Result Bool MatchError → MatchAnswer
+match_answer (Ok yes) = said yes
+match_answer (Err e) = error_answer e
+
 -- The answer to each: yes where the list matches the models, no where it doesn't, or the refusal.
-abbrev pub MatchedAs : Matching → Matched → Type 0
+abbrev pub MatchedAs : Matching → MatchAnswer → Type 0
 MatchedAs (matching a b ps) answer =
-    ((answer ≡ Matched'.TheVariants.Yes) × Matches a b ps)
-    ⊎ ((answer ≡ Matched'.TheVariants.No) × (Matches a b ps → ⊥))
-MatchedAs (first_refused number place) answer = answer ≡ Matched'.TheVariants.RefusedFirst number place
-MatchedAs (second_refused number place) answer = answer ≡ Matched'.TheVariants.RefusedSecond number place
-MatchedAs (pairs_refused number place) answer = answer ≡ Matched'.TheVariants.RefusedPairs number place
+    ((answer ≡ said true) × Matches a b ps)
+    ⊎ ((answer ≡ said false) × (Matches a b ps → ⊥))
+MatchedAs (first_refused number place) answer = answer ≡ refused_first number place
+MatchedAs (second_refused number place) answer = answer ≡ refused_second number place
+MatchedAs (pairs_refused number place) answer = answer ≡ refused_pairs number place
 
 -- The answer in the request's terms: yes or no, or the number and place of a refusal, whichever input it is about.
-abbrev pub paper_answer : Matched → Outcome Bool
-paper_answer Matched'.TheVariants.Yes = accepted true
-paper_answer Matched'.TheVariants.No = accepted false
-paper_answer (Matched'.TheVariants.RefusedFirst number place) = refused number place
-paper_answer (Matched'.TheVariants.RefusedSecond number place) = refused number place
-paper_answer (Matched'.TheVariants.RefusedPairs number place) = refused number place
+abbrev pub paper_answer : MatchAnswer → Outcome Bool
+paper_answer (said true) = accepted true
+paper_answer (said false) = accepted false
+paper_answer (refused_first number place) = refused number place
+paper_answer (refused_second number place) = refused number place
+paper_answer (refused_pairs number place) = refused number place

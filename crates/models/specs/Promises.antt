@@ -4,20 +4,16 @@ use Rattle.std.specs.Prelude.{ℕ, ◌*◌, ◌≤◌, ◌<◌, ◌≡◌, ◌�
 use Rattle.reading.specs.Rule.{Rule, RuleWithinLimits, encode, Bytes}
 use Rattle.reading.specs.File.{Outcome, accepted, refused, rule_of}
 use Rattle.reading.specs.Promises.{OneFault}
-use Rattle.reading.specs.declared.FileRead.TheVariants.{Accepted, Refused as NotAccepted}
 use Rattle.synthesis.specs.Alike.{RulesAlike}
 use Rattle.synthesis.specs.Monitor.{Monitors, lookup}
 use Rattle.synthesis.specs.Building.{Synthesis, synthesis_of, filling_of, counted_of, table_left, short_of, short_filling_of, Fills, FillsShort}
 use Rattle.synthesis.specs.Building.{preview_limit, preview_of, preview_filling_of}
 use Rattle.synthesis.specs.Promises.{Closed}
-use Rattle.synthesis.specs.declared.Counted.TheVariants.{Equations, Refused}
 use Rattle.enforcement.specs.Model.{Model, Finite, ByteCodes, Satisfies, SatisfiesDecided, Bisimilar, suppressing, monitored}
 use Rattle.enforcement.specs.Promises.{Enforces, WalksBehind}
 use Rattle.models.specs.Phone.{Phone, no_step, model_of, PhoneWithinLimits, encode_phone, phone_of}
 use Rattle.models.specs.Faults.{Fault}
 use Rattle.models.specs.Judging.{stored, model_reading_of, judging_of, JudgedAs, table_judged}
-use Rattle.models.specs.declared.Judged.{Judged}
-use Rattle.models.specs.declared.Judged.TheVariants.{Meets, Breaks, Refused as NotJudged}
 
 -- ---- enforcing
 
@@ -54,14 +50,14 @@ abbrev pub DecidedSatisfies : Type 1
 DecidedSatisfies = (y : Phone) (r : Rule) → SatisfiesDecided (model_of y) r ↔ Satisfies (model_of y) r
 
 -- so the answer to an accepted rule and model is "meets" exactly when the model satisfies the rule, and else "breaks".
-pub record JudgedExactly (r : Rule) (y : Phone) (answer : Judged) : Type 1 where
-  pub meets : (answer ≡ Meets) ↔ Satisfies (model_of y) r
-  pub breaks : (answer ≡ Breaks) ↔ (Satisfies (model_of y) r → ⊥)
+pub record JudgedExactly (r : Rule) (y : Phone) (answer : Outcome Judgment) : Type 1 where
+  pub meets : (answer ≡ accepted Meets) ↔ Satisfies (model_of y) r
+  pub breaks : (answer ≡ accepted Breaks) ↔ (Satisfies (model_of y) r → ⊥)
 
 abbrev pub JudgesExactly : Type 1
 JudgesExactly =
     (limit mark : ℕ) (s table : List ℕ) (r : Rule) (n : ℕ) (left : List ℕ) → Fills limit mark s table r n left
-    → (f : List ℕ) (y : Phone) (answer : Judged) → phone_of f ≡ accepted y → JudgedAs (judging_of limit s (length table) f) answer
+    → (f : List ℕ) (y : Phone) (answer : Outcome Judgment) → phone_of f ≡ accepted y → JudgedAs (judging_of limit s (length table) f) answer
     → JudgedExactly r y answer
 
 -- Two rules that differ only in formulas after empty patterns are satisfied by the same models. So judging answers the same of every model file under two
@@ -72,34 +68,34 @@ MeetAlike = (r r' : Rule) → RulesAlike r r' → (m : Model) → Satisfies m r 
 abbrev pub JudgedAlike : Type 0
 JudgedAlike =
     (limit : ℕ) (s s' : List ℕ) → Bytes s → Bytes s' → (r r' : Rule) → rule_of s ≡ accepted r → rule_of s' ≡ accepted r' → RulesAlike r r'
-    → (table table' : List ℕ) → length table ≡ length table' → (f : List ℕ) (answer answer' : Judged)
+    → (table table' : List ℕ) → length table ≡ length table' → (f : List ℕ) (answer answer' : Outcome Judgment)
     → JudgedAs (judging_of limit s (length table) f) answer → JudgedAs (judging_of limit s' (length table') f) answer' → answer ≡ answer'
 
 -- What judging leaves in the table, in the terms of its contract: where the answer is a refusal, of the rule or of the model, all entries as they were,
 -- and else exactly what filling leaves.
-pub record JudgingLeaves (answer : Judged) (before left after : List ℕ) : Type 0 where
-  pub refused : {number place : ℕ} → answer ≡ NotJudged number place → after ≡ before
-  pub judged : (answer ≡ Meets) ⊎ (answer ≡ Breaks) → after ≡ left
+pub record JudgingLeaves (answer : Outcome Judgment) (before left after : List ℕ) : Type 0 where
+  pub refused : {number place : ℕ} → answer ≡ refused number place → after ≡ before
+  pub judged : (answer ≡ accepted Meets) ⊎ (answer ≡ accepted Breaks) → after ≡ left
 
 abbrev pub RefusedUnchanged : Type 0
 RefusedUnchanged =
-    (limit mark : ℕ) (s f table : List ℕ) (answer : Judged) → JudgedAs (judging_of limit s (length table) f) answer →
+    (limit mark : ℕ) (s f table : List ℕ) (answer : Outcome Judgment) → JudgedAs (judging_of limit s (length table) f) answer →
     let left = table_left limit mark s table in
     JudgingLeaves answer table left (table_judged (judging_of limit s (length table) f) left table)
 
 -- The order of refusals: that of the rule, if it has one; else 10, if the table has under 256 entries for each equation counted; else that of the model. Where
 -- there is none, the model is judged.
-pub record InOrder (limit : ℕ) (s : List ℕ) (capacity : ℕ) (f : List ℕ) (answer : Judged) : Type 0 where
-  pub rule : (number place : ℕ) → counted_of (synthesis_of limit s) ≡ Refused number place → answer ≡ NotJudged number place
-  pub table : (n : ℕ) → counted_of (synthesis_of limit s) ≡ Equations n → capacity < 256 * n → answer ≡ NotJudged 10 0
-  pub model : (n : ℕ) → counted_of (synthesis_of limit s) ≡ Equations n → 256 * n ≤ capacity
-      → (number place : ℕ) → (model_reading_of (phone_of f)).answer ≡ NotAccepted number place → answer ≡ NotJudged number place
-  pub judged : (n : ℕ) → counted_of (synthesis_of limit s) ≡ Equations n → 256 * n ≤ capacity → (model_reading_of (phone_of f)).answer ≡ Accepted
-      → (answer ≡ Meets) ⊎ (answer ≡ Breaks)
+pub record InOrder (limit : ℕ) (s : List ℕ) (capacity : ℕ) (f : List ℕ) (answer : Outcome Judgment) : Type 0 where
+  pub rule : (number place : ℕ) → counted_of (synthesis_of limit s) ≡ refused number place → answer ≡ refused number place
+  pub table : (n : ℕ) → counted_of (synthesis_of limit s) ≡ accepted n → capacity < 256 * n → answer ≡ refused 10 0
+  pub model : (n : ℕ) → counted_of (synthesis_of limit s) ≡ accepted n → 256 * n ≤ capacity
+      → (number place : ℕ) → model_reading_of (phone_of f) ≡ refused number place → answer ≡ refused number place
+  pub judged : (n : ℕ) → counted_of (synthesis_of limit s) ≡ accepted n → 256 * n ≤ capacity → IsAccepted (model_reading_of (phone_of f))
+      → (answer ≡ accepted Meets) ⊎ (answer ≡ accepted Breaks)
 
 abbrev pub JudgesInOrder : Type 0
 JudgesInOrder =
-    (limit : ℕ) (s : List ℕ) (capacity : ℕ) (f : List ℕ) (answer : Judged) → JudgedAs (judging_of limit s capacity f) answer
+    (limit : ℕ) (s : List ℕ) (capacity : ℕ) (f : List ℕ) (answer : Outcome Judgment) → JudgedAs (judging_of limit s capacity f) answer
     → InOrder limit s capacity f answer
 
 -- ---- which rules are accepted
@@ -119,16 +115,16 @@ pub record Acceptable (limit : ℕ) (s : List ℕ) : Type 1 where
   pub satisfied : Satisfies model rule
 
 abbrev pub AcceptsExactly : Type 1
-AcceptsExactly = (limit : ℕ) (s : List ℕ) → Bytes s → ((n : ℕ) × (counted_of (synthesis_of limit s) ≡ Equations n)) ↔ Acceptable limit s
+AcceptsExactly = (limit : ℕ) (s : List ℕ) → Bytes s → ((n : ℕ) × (counted_of (synthesis_of limit s) ≡ accepted n)) ↔ Acceptable limit s
 
 -- So it is with counting for the short table.
 abbrev pub ShortAcceptsExactly : Type 1
-ShortAcceptsExactly = (limit : ℕ) (s : List ℕ) → Bytes s → ((n : ℕ) × (counted_of (short_of limit s) ≡ Equations n)) ↔ Acceptable limit s
+ShortAcceptsExactly = (limit : ℕ) (s : List ℕ) → Bytes s → ((n : ℕ) × (counted_of (short_of limit s) ≡ accepted n)) ↔ Acceptable limit s
 
 -- Filling isn't refused exactly when besides the table has 256 entries for each equation counted.
 abbrev pub FillsWithRoom : (limit : ℕ) → (s : List ℕ) → (counting filling : Outcome Synthesis) → (capacity : ℕ) → Type 1
 FillsWithRoom limit s counting filling capacity =
-    ((n : ℕ) × (counted_of filling ≡ Equations n)) ↔ (Acceptable limit s × ((n : ℕ) → counted_of counting ≡ Equations n → 256 * n ≤ capacity))
+    ((n : ℕ) × (counted_of filling ≡ accepted n)) ↔ (Acceptable limit s × ((n : ℕ) → counted_of counting ≡ accepted n → 256 * n ≤ capacity))
 
 abbrev pub FillsExactly : Type 1
 FillsExactly = (limit : ℕ) (s : List ℕ) (capacity : ℕ) → Bytes s → FillsWithRoom limit s (synthesis_of limit s) (filling_of limit s capacity) capacity
@@ -138,16 +134,16 @@ ShortFillsExactly = (limit : ℕ) (s : List ℕ) (capacity : ℕ) → Bytes s �
 
 -- So it is with counting and filling on the rule page, under its own limit.
 abbrev pub PreviewAcceptsExactly : Type 1
-PreviewAcceptsExactly = (s : List ℕ) → Bytes s → ((n : ℕ) × (counted_of (preview_of s) ≡ Equations n)) ↔ Acceptable preview_limit s
+PreviewAcceptsExactly = (s : List ℕ) → Bytes s → ((n : ℕ) × (counted_of (preview_of s) ≡ accepted n)) ↔ Acceptable preview_limit s
 
 abbrev pub PreviewFillsExactly : Type 1
 PreviewFillsExactly = (s : List ℕ) (capacity : ℕ) → Bytes s → FillsWithRoom preview_limit s (preview_of s) (preview_filling_of s capacity) capacity
 
 -- A rule that was read is refused with 8 exactly when no model satisfies it, exactly when no finite one does, and exactly when no phone model does.
 pub record RefusedAsUnsatisfiable (limit : ℕ) (s : List ℕ) (r : Rule) : Type 1 where
-  pub no_model : (counted_of (synthesis_of limit s) ≡ Refused 8 0) ↔ ((m : Model) → Satisfies m r → ⊥)
-  pub no_finite : (counted_of (synthesis_of limit s) ≡ Refused 8 0) ↔ ((m : Model) → Finite m → Satisfies m r → ⊥)
-  pub no_phone : (counted_of (synthesis_of limit s) ≡ Refused 8 0) ↔ ((y : Phone) → PhoneWithinLimits y → Satisfies (model_of y) r → ⊥)
+  pub no_model : (counted_of (synthesis_of limit s) ≡ refused 8 0) ↔ ((m : Model) → Satisfies m r → ⊥)
+  pub no_finite : (counted_of (synthesis_of limit s) ≡ refused 8 0) ↔ ((m : Model) → Finite m → Satisfies m r → ⊥)
+  pub no_phone : (counted_of (synthesis_of limit s) ≡ refused 8 0) ↔ ((y : Phone) → PhoneWithinLimits y → Satisfies (model_of y) r → ⊥)
 
 abbrev pub RefusesUnsatisfiable : Type 1
 RefusesUnsatisfiable = (limit : ℕ) (s : List ℕ) (r : Rule) → Bytes s → rule_of s ≡ accepted r → RefusedAsUnsatisfiable limit s r
@@ -171,17 +167,17 @@ pub record StoresModel (y : Phone) : Type 0 where
 -- In terms of what `read_model` ensures: it answers "accepted" exactly for such files, and hands up that model.
 abbrev pub AnswersAccepted : Type 0
 AnswersAccepted =
-    (f : List ℕ) → Bytes f → ((model_reading_of (phone_of f)).answer ≡ Accepted)
-    ↔ ((y : Phone) × PhoneWithinLimits y × (f ≡ encode_phone y) × ((model_reading_of (phone_of f)).model ≡ stored y))
+    (f : List ℕ) → Bytes f → IsAccepted (model_reading_of (phone_of f))
+    ↔ ((y : Phone) × PhoneWithinLimits y × (f ≡ encode_phone y) × (model_reading_of (phone_of f) ≡ accepted (stored y)))
 
 -- A file is refused with a number at a place exactly where a clause of `Fault` has it so.
 abbrev pub RefusesAtTheFault : Type 0
 RefusesAtTheFault =
-    (f : List ℕ) → Bytes f → (number place : ℕ) → ((model_reading_of (phone_of f)).answer ≡ NotAccepted number place) ↔ Fault f number place
+    (f : List ℕ) → Bytes f → (number place : ℕ) → (model_reading_of (phone_of f) ≡ refused number place) ↔ Fault f number place
 
 -- So no two of its clauses differ in number or place, and none holds exactly where the file is accepted.
 abbrev pub HasOneFault : Type 0
-HasOneFault = (f : List ℕ) → Bytes f → OneFault (model_reading_of (phone_of f)).answer (Fault f)
+HasOneFault = (f : List ℕ) → Bytes f → OneFault (model_reading_of (phone_of f)) (Fault f)
 
 -- What a file says is settled by its first 2,051 bytes, and not by 2,050.
 abbrev pub SettledByFirstBytes : Type 0

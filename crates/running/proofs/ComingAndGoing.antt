@@ -16,15 +16,13 @@ use Rattle.running.specs.Duty.{vacant, on_duty, duty_of, is_on, are_distinct, is
 use Rattle.running.specs.DutyPromises.{rule_in, SoundDuty, OnDutyUnder, ComesLast, LeavesPlace, Comes, Goes, MakesRoom}
 use Rattle.running.specs.declared.OnDuty.{OnDuty}
 use Rattle.running.specs.declared.Duty.{Duty}
-use Rattle.running.specs.declared.Checked.{Checked}
-use Rattle.running.specs.declared.Checked.TheVariants.{Fit, Refused}
 use Rattle.running.proofs.DutyCases.{coming_cases, going_cases}
 use Rattle.running.proofs.ListTests.{filter_one, filter_none, none_left, removed_length, removed_before, removed_behind}
 use Rattle.running.proofs.SoundStates.{fails, distinct_filter, duty_of-rules, duty_of-at, rest_vacant, duty_length, duty_at, listed}
 use Rattle.running.proofs.SoundStates.{on_duty_lem, off_duty, sound, unsound, fit_rule}
 
 -- a refusal hands back what it was given
-changed_refused : (d : Duty) (o : Outcome (List OnDuty)) (n place : ℕ) → (changed_of d o).checked ≡ Refused n place → (changed_of d o).duty ≡ d
+changed_refused : (d : Duty) (o : Outcome (List OnDuty)) (n place : ℕ) → (changed_of d o).checked ≡ refused n place → (changed_of d o).duty ≡ d
 changed_refused d (accepted ds) n place e = let z : ◌≡◌ {A = ℕ} 0 1 = cc in absurd (omega arith)
 changed_refused d (refused m at) n place e = refl
 
@@ -54,12 +52,12 @@ module _ (limit mark : ℕ) (d : Duty) (number : ℕ) (tables : List ℕ) (base 
   table_unfit = fails (fits_at limit mark tables (at_start number base count)) table_fit
 
   -- the ways, by their answers
-  data Coming : Checked → Type 0 where
-    no_state : (SoundDuty d → ⊥) → Coming (Refused 16 0)
-    full : SoundDuty d × (d.count ≡ 4) → Coming (Refused 19 0)
-    known : SoundDuty d × (d.count < 4) × OnDutyUnder number d → Coming (Refused 20 0)
-    no_table : SoundDuty d × (d.count < 4) × (OnDutyUnder number d → ⊥) × (Table → ⊥) → Coming (Refused 16 0)
-    on : SoundDuty d × (d.count < 4) × (OnDutyUnder number d → ⊥) × Table → Coming Fit
+  data Coming : Outcome Unit → Type 0 where
+    no_state : (SoundDuty d → ⊥) → Coming (refused 16 0)
+    full : SoundDuty d × (d.count ≡ 4) → Coming (refused 19 0)
+    known : SoundDuty d × (d.count < 4) × OnDutyUnder number d → Coming (refused 20 0)
+    no_table : SoundDuty d × (d.count < 4) × (OnDutyUnder number d → ⊥) × (Table → ⊥) → Coming (refused 16 0)
+    on : SoundDuty d × (d.count < 4) × (OnDutyUnder number d → ⊥) × Table → Coming (accepted unit)
 
   coming : Coming (changed_of d (coming_of limit mark d number tables base count)).checked
   coming =
@@ -83,7 +81,7 @@ module _ (limit mark : ℕ) (d : Duty) (number : ℕ) (tables : List ℕ) (base 
       coming_by true false false true ((sound d).1 s) (lt-leb 4 d.count few) ((off_duty d number).1 free) (table_fit.1 t)
 
   -- each way has its answer
-  coming_answer : {c : Checked} → Coming c → (changed_of d (coming_of limit mark d number tables base count)).checked ≡ c
+  coming_answer : {c : Outcome Unit} → Coming c → (changed_of d (coming_of limit mark d number tables base count)).checked ≡ c
   coming_answer (no_state n) = rw (coming_by false _ _ _ ((unsound d).1 n) refl refl refl)
   coming_answer (full (s, four)) = rw (coming_by true true _ _ ((sound d).1 s) (le-leb 4 d.count (omega arith)) refl refl)
   coming_answer (known (s, few, k)) = rw (coming_by true false true _ ((sound d).1 s) (lt-leb 4 d.count few) ((on_duty_lem d number).1 k) refl)
@@ -101,17 +99,17 @@ module _ (limit mark : ℕ) (d : Duty) (number : ℕ) (tables : List ℕ) (base 
     refused = changed_refused d (coming_of limit mark d number tables base count);
   }
     where
-      with_16 : Coming (Refused 16 0) → (SoundDuty d → ⊥) ⊎ (SoundDuty d × (d.count < 4) × (OnDutyUnder number d → ⊥) × (Table → ⊥))
+      with_16 : Coming (refused 16 0) → (SoundDuty d → ⊥) ⊎ (SoundDuty d × (d.count < 4) × (OnDutyUnder number d → ⊥) × (Table → ⊥))
       with_16 (no_state n) = inl n
       with_16 (no_table h) = inr h
 
-      with_19 : Coming (Refused 19 0) → SoundDuty d × (d.count ≡ 4)
+      with_19 : Coming (refused 19 0) → SoundDuty d × (d.count ≡ 4)
       with_19 (full h) = h
 
-      with_20 : Coming (Refused 20 0) → SoundDuty d × (d.count < 4) × OnDutyUnder number d
+      with_20 : Coming (refused 20 0) → SoundDuty d × (d.count < 4) × OnDutyUnder number d
       with_20 (known h) = h
 
-      with_none : Coming Fit → SoundDuty d × (d.count < 4) × (OnDutyUnder number d → ⊥) × Table
+      with_none : Coming (accepted unit) → SoundDuty d × (d.count < 4) × (OnDutyUnder number d → ⊥) × Table
       with_none (on h) = h
 
 -- ---- a going
@@ -157,10 +155,10 @@ module _ (d : Duty) (number : ℕ) where
       on (inr n) = filter_none (λ x. not (eqb x.number number)) (λ x. eqb x.number other) (on_duty d) ((off_duty d other).1 n)
 
   -- the ways, by their answers
-  data Going : Checked → Type 0 where
-    no_state : (SoundDuty d → ⊥) → Going (Refused 16 0)
-    absent : SoundDuty d × (OnDutyUnder number d → ⊥) → Going (Refused 21 0)
-    off : SoundDuty d × OnDutyUnder number d → Going Fit
+  data Going : Outcome Unit → Type 0 where
+    no_state : (SoundDuty d → ⊥) → Going (refused 16 0)
+    absent : SoundDuty d × (OnDutyUnder number d → ⊥) → Going (refused 21 0)
+    off : SoundDuty d × OnDutyUnder number d → Going (accepted unit)
 
   going : Going (changed_of d (going_of d number)).checked
   going =
@@ -175,15 +173,15 @@ module _ (d : Duty) (number : ℕ) where
   taken_off : SoundDuty d × OnDutyUnder number d → going_of d number ≡ accepted (without number (on_duty d))
   taken_off (s, k) = going_by true true ((sound d).1 s) ((on_duty_lem d number).1 k)
 
-  going_answer : {c : Checked} → Going c → (changed_of d (going_of d number)).checked ≡ c
+  going_answer : {c : Outcome Unit} → Going c → (changed_of d (going_of d number)).checked ≡ c
   going_answer (no_state n) = rw (going_by false _ ((unsound d).1 n) refl)
   going_answer (absent (s, k)) = rw (going_by true false ((sound d).1 s) ((off_duty d number).1 k))
   going_answer (off h) = rw (taken_off h)
 
-  went_off_lem : (changed_of d (going_of d number)).checked ≡ Fit → SoundDuty d × OnDutyUnder number d
+  went_off_lem : (changed_of d (going_of d number)).checked ≡ accepted unit → SoundDuty d × OnDutyUnder number d
   went_off_lem e = on (rw e at going)
     where
-      on : Going Fit → SoundDuty d × OnDutyUnder number d
+      on : Going (accepted unit) → SoundDuty d × OnDutyUnder number d
       on (off h) = h
 
   pub goes : Goes d number (changed_of d (going_of d number))
@@ -196,10 +194,10 @@ module _ (d : Duty) (number : ℕ) where
     refused = changed_refused d (going_of d number);
   }
     where
-      with_16 : Going (Refused 16 0) → SoundDuty d → ⊥
+      with_16 : Going (refused 16 0) → SoundDuty d → ⊥
       with_16 (no_state n) = n
 
-      with_21 : Going (Refused 21 0) → SoundDuty d × (OnDutyUnder number d → ⊥)
+      with_21 : Going (refused 21 0) → SoundDuty d × (OnDutyUnder number d → ⊥)
       with_21 (absent h) = h
 
 -- ---- a coming after a going

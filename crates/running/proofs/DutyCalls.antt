@@ -9,7 +9,6 @@ use Rattle.synthesis.specs.Monitor.{ended}
 use Rattle.running.specs.Duty.{on_duty, duty_of, together, duty_run_of, duty_ran_of}
 use Rattle.running.specs.Promises.{Conserved, Fronts}
 use Rattle.running.specs.DutyPromises.{DutyTogether, DutyTwoCalls, DutyConserves, DutyUnchanged, DutyRefusedUnchanged, DutyRestUnchanged}
-use Rattle.running.specs.declared.Checked.TheVariants.{Fit, Refused}
 use Rattle.running.proofs.Refusals.{has_room-lengths}
 use Rattle.running.proofs.Joining.{joined_runs}
 use Rattle.running.proofs.Conservation.{run_conserved, refused_conserved}
@@ -27,7 +26,7 @@ duty_two_calls limit mark tables d v w o₁ v₁ o₂ v₂ o₃ v₃ r₁ r₂ r
     let (h₂, k₂) = has_room-lengths w o₂ v₂ r₂ in
     let (h₃, k₃) = has_room-lengths (v ++ w) o₃ v₃ r₃ in
     duty_run_ways limit mark tables d v o₁ v₁
-    (λ one. DutyTogether d one (duty_run_of limit mark tables (duty_ran_of d one).duty w o₂ v₂) (duty_run_of limit mark tables d (v ++ w) o₃ v₃))
+    (λ one. DutyTogether d one (duty_run_of limit mark tables (duty_ran_of d one).state w o₂ v₂) (duty_run_of limit mark tables d (v ++ w) o₃ v₃))
     (λ short. absurd (no_short v o₁ v₁ h₁ k₁ short))
     (λ h k n. rw (duty_run_unfit limit mark tables d w o₂ v₂ h₂ k₂ n, duty_run_unfit limit mark tables d (v ++ w) o₃ v₃ h₃ k₃ n)
     (record { checked = refl; handed_back_lem = refl; kept = refl; verdicts = refl }))
@@ -49,7 +48,7 @@ duty_conserves limit mark tables d scans output verdicts =
 pub duty_refused_unchanged : DutyRefusedUnchanged
 duty_refused_unchanged limit mark tables d scans output verdicts number place =
     duty_run_ways limit mark tables d scans (length output) (length verdicts)
-    (λ o. (duty_ran_of d o).checked ≡ Refused number place → DutyUnchanged d output verdicts o)
+    (λ o. (duty_ran_of d o).checked ≡ refused number place → DutyUnchanged d output verdicts o)
     (λ short e. record { handed_back_lem = refl; output_same = refl; verdicts_same = refl })
     (λ h k n e. record { handed_back_lem = refl; output_same = refl; verdicts_same = refl })
     (λ h k is e. let z : ◌≡◌ {A = ℕ} 0 1 = cc in absurd (omega arith))
@@ -57,6 +56,6 @@ duty_refused_unchanged limit mark tables d scans output verdicts number place =
 pub duty_rest_unchanged : DutyRestUnchanged
 duty_rest_unchanged limit mark tables d scans output verdicts =
     duty_run_ways limit mark tables d scans (length output) (length verdicts)
-    (λ o. (duty_ran_of d o).checked ≡ Fit → Fronts scans output verdicts o (duty_ran_of d o).kept)
+    (λ o. (duty_ran_of d o).checked ≡ accepted unit → Fronts scans output verdicts o (duty_ran_of d o).kept)
     (λ short e. let z : ◌≡◌ {A = ℕ} 0 1 = cc in absurd (omega arith)) (λ h k n e. let z : ◌≡◌ {A = ℕ} 0 1 = cc in absurd (omega arith))
     (λ h k is e. run_fronts (together mark tables) (on_duty d) scans output verdicts h k)

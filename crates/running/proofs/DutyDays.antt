@@ -17,8 +17,6 @@ use Rattle.running.specs.SpellPromises.{SpellsOnDuty}
 use Rattle.running.specs.declared.OnDuty.{OnDuty}
 use Rattle.running.specs.declared.Duty.{Duty}
 use Rattle.running.specs.declared.Changed.{Changed}
-use Rattle.running.specs.declared.Checked.{Checked}
-use Rattle.running.specs.declared.Checked.TheVariants.{Fit, Refused}
 use Rattle.running.proofs.SoundStates.{duty_of-rules, rest_vacant}
 use Rattle.running.proofs.ComingAndGoing as Ways
 use Rattle.running.proofs.DutyRuns.{duty_run_ways, fit_after}
@@ -84,20 +82,20 @@ sound_last d x d' s few free came = record { few = omega (arith, came.count); di
     on i j h k (no a) (no b) same = omega (arith, came.count)
 
 -- a coming or a going that leaves a sound state, or is refused
-sound_changed : (d : Duty) (changed : Changed) → SoundState d → (changed.checked ≡ Fit → SoundState changed.duty)
-    → ((n place : ℕ) → changed.checked ≡ Refused n place → changed.duty ≡ d) → SoundState changed.duty
+sound_changed : (d : Duty) (changed : Changed) → SoundState d → (changed.checked ≡ accepted unit → SoundState changed.duty)
+    → ((n place : ℕ) → changed.checked ≡ refused n place → changed.duty ≡ d) → SoundState changed.duty
 sound_changed d changed h fit refusal = on changed.checked refl
   where
-    on : (c : Checked) → changed.checked ≡ c → SoundState changed.duty
-    on Fit e = fit e
-    on (Refused n place) e = rw (refusal n place e) h
+    on : (c : Outcome Unit) → changed.checked ≡ c → SoundState changed.duty
+    on (accepted unit) e = fit e
+    on (refused n place) e = rw (refusal n place e) h
 
 sound_event : (limit mark : ℕ) (desk : Desk) (e : Event) → SoundState desk.duty → SoundState (with_event limit mark desk e).duty
 sound_event limit mark desk (runs call) h =
     let d = desk.duty in
     let o = length call.output in
     let v = length call.verdicts in
-    duty_run_ways limit mark call.tables d call.scans o v (λ o. SoundState (duty_ran_of d o).duty) (λ short. h) (λ a b n. h)
+    duty_run_ways limit mark call.tables d call.scans o v (λ o. SoundState (duty_ran_of d o).state) (λ short. h) (λ a b n. h)
     (λ a b fit. record {
       sound = (fit_after limit mark call.tables d call.scans fit).sound;
       rest = rest_vacant (ended (together mark call.tables) (on_duty d) call.scans) (fit_after limit mark call.tables d call.scans fit).sound.few;

@@ -17,7 +17,6 @@ use Rattle.running.specs.Duty.{on_duty, duty_of, moved_to, together, fits_at, du
 use Rattle.running.specs.DutyPromises.{rule_in, FitRule, FitDuty, RunsOnDuty}
 use Rattle.running.specs.declared.OnDuty.{OnDuty}
 use Rattle.running.specs.declared.Duty.{Duty}
-use Rattle.running.specs.declared.Checked.TheVariants.{Refused}
 use Rattle.running.proofs.DutyCases.{duty_run_cases}
 use Rattle.running.proofs.Refusals.{has_room-lengths, no_room_short}
 use Rattle.running.proofs.SoundStates.{fails, duty_of-rules, duty_of-at, rest_vacant, duty_length, duty_at, listed, sound, unsound, fit_rules}
@@ -96,14 +95,14 @@ pub runs : (limit mark : ℕ) (tables : List ℕ) (d : Duty) (scans : List ℕ) 
     → RunsOnDuty limit mark tables d scans output verdicts
 runs limit mark tables d scans output verdicts = record {
   short = (
-    duty_run_ways limit mark tables d scans output verdicts (λ o. checked_of o ≡ Refused 15 0 → Short scans output verdicts)
+    duty_run_ways limit mark tables d scans output verdicts (λ o. checked_of o ≡ refused 15 0 → Short scans output verdicts)
         (λ short e. short) (λ h k n e. let z : ◌≡◌ {A = ℕ} 16 15 = cc in absurd (omega arith))
         (λ h k is e. let z : ◌≡◌ {A = ℕ} 0 1 = cc in absurd (omega arith)),
     λ short. ap checked_of (duty_run_short limit mark tables d scans output verdicts short),
   );
   unfit = (
     duty_run_ways limit mark tables d scans output verdicts
-        (λ o. checked_of o ≡ Refused 16 0 → (length scans ≤ output) × (length scans ≤ verdicts) × (FitDuty limit mark tables d → ⊥))
+        (λ o. checked_of o ≡ refused 16 0 → (length scans ≤ output) × (length scans ≤ verdicts) × (FitDuty limit mark tables d → ⊥))
         (λ short e. let z : ◌≡◌ {A = ℕ} 15 16 = cc in absurd (omega arith)) (λ h k n e. (h, k, n))
         (λ h k is e. let z : ◌≡◌ {A = ℕ} 0 1 = cc in absurd (omega arith)),
     λ (h, k, n). ap checked_of (duty_run_unfit limit mark tables d scans output verdicts h k n),

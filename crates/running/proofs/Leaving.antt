@@ -14,7 +14,6 @@ use Rattle.synthesis.proofs.Monitors.Runs.{verdicts_length}
 use Rattle.synthesis.proofs.Monitors.Verdicts.{verdicts_range}
 use Rattle.running.specs.Running.{answer_in, run_by, result_of, overlay}
 use Rattle.running.specs.Promises.{RunUnchanged, RefusedUnchanged, OnlyFront, Fronts, OnlyFronts, RestUnchanged}
-use Rattle.running.specs.declared.Checked.TheVariants.{Fit, Refused}
 use Rattle.running.proofs.Counting.{kept_dropped}
 use Rattle.running.proofs.WithVerdicts.{kept_with}
 use Rattle.running.proofs.RunCases.{run_cases}
@@ -25,7 +24,7 @@ use Rattle.running.proofs.Refusals.{has_room-lengths}
 pub refused_unchanged : RefusedUnchanged
 refused_unchanged limit mark s c number place =
     run_cases limit mark c.table c.count s c.scans (length c.output) (length c.verdicts)
-    (λ o. (result_of s o).checked ≡ Refused number place → RunUnchanged s c o)
+    (λ o. (result_of s o).checked ≡ refused number place → RunUnchanged s c o)
     (λ r e. record { handed_back_lem = refl; output = refl; verdicts = refl })
     (λ r f e. record { handed_back_lem = refl; output = refl; verdicts = refl })
     (λ r f e. let z : ◌≡◌ {A = ℕ} 0 1 = cc in absurd (omega arith))
@@ -57,7 +56,7 @@ run_fronts answer e scans output judged ro rv =
 pub rest_unchanged : RestUnchanged
 rest_unchanged limit mark s c =
     run_cases limit mark c.table c.count s c.scans (length c.output) (length c.verdicts)
-    (λ o. (result_of s o).checked ≡ Fit → OnlyFronts s c o)
+    (λ o. (result_of s o).checked ≡ accepted unit → OnlyFronts s c o)
     (λ r e. let z : ◌≡◌ {A = ℕ} 0 1 = cc in absurd (omega arith))
     (λ r f e. let z : ◌≡◌ {A = ℕ} 0 1 = cc in absurd (omega arith))
     (λ r f e. let room = has_room-lengths c.scans (length c.output) (length c.verdicts) r in

@@ -13,8 +13,6 @@ use Rattle.running.specs.Running.{answer_in, fits, has_room, RunOver, run_by, ru
 use Rattle.running.specs.Running.{checked_of, result_of, overlay, output_after, verdicts_after}
 use Rattle.running.specs.Duty.{on_duty, is_sound, together, fits_at, duty_run_of}
 use Rattle.running.specs.declared.State.{State}
-use Rattle.running.specs.declared.Checked.{Checked}
-use Rattle.running.specs.declared.Checked.TheVariants.{Fit, Refused}
 use Rattle.running.specs.declared.RunResult.{RunResult}
 use Rattle.running.specs.declared.Duty.{Duty}
 use Rattle.running.proofs.Counting.{kept_dropped}
@@ -25,7 +23,7 @@ use Rattle.running.proofs.RosterLaws.{sound_count}
 
 -- ---- what a run that isn't refused has passed
 
-fit_accepted : {A : Type 0} (o : Outcome A) {checked : Checked} → checked ≡ checked_of o → checked ≡ Fit → (y : A) × (o ≡ accepted y)
+fit_accepted : {A : Type 0} (o : Outcome A) {checked : Outcome Unit} → checked ≡ checked_of o → checked ≡ accepted unit → (y : A) × (o ≡ accepted y)
 fit_accepted (accepted y) e f = (y, refl)
 fit_accepted (refused number place) e f = let z : ◌≡◌ {A = ℕ} 0 1 = cc in absurd (omega arith)
 
@@ -36,7 +34,7 @@ module _ (limit mark : ℕ) (table : List ℕ) (count : ℕ) (s : State) (scans 
     pub below : s.equation < limit
     pub is : run_of limit mark table count s scans output verdicts ≡ accepted (run_from mark table s scans)
 
-  pub passed : {checked : Checked} → checked ≡ checked_of (run_of limit mark table count s scans output verdicts) → checked ≡ Fit → Passed
+  pub passed : {checked : Outcome Unit} → checked ≡ checked_of (run_of limit mark table count s scans output verdicts) → checked ≡ accepted unit → Passed
   unfolding run_of
   passed e f =
       let accepted-so = (fit_accepted (run_of limit mark table count s scans output verdicts) e f).1 in
@@ -66,7 +64,7 @@ module _ (limit mark : ℕ) (tables : List ℕ) (d : Duty) (scans : List ℕ) (o
     pub few : d.count ≤ 4
     pub is : duty_run_of limit mark tables d scans output verdicts ≡ accepted (run_by (together mark tables) (on_duty d) scans)
 
-  pub duty_passed : {checked : Checked} → checked ≡ checked_of (duty_run_of limit mark tables d scans output verdicts) → checked ≡ Fit → DutyPassed
+  pub duty_passed : {checked : Outcome Unit} → checked ≡ checked_of (duty_run_of limit mark tables d scans output verdicts) → checked ≡ accepted unit → DutyPassed
   unfolding duty_run_of
   duty_passed e f =
       let accepted-so = (fit_accepted (duty_run_of limit mark tables d scans output verdicts) e f).1 in
@@ -88,7 +86,7 @@ module _ {S R : Type 0} (handed_back : Outcome (RunOver S) → R) (output verdic
   abbrev Leaves : Outcome (RunOver S) → R → (output' verdicts' : List ℕ) → Type 0
   Leaves o ran output' verdicts' = (ran ≡ handed_back o) × ((output' ≡ output_after o output) × (verdicts' ≡ verdicts_after o verdicts))
 
-  pub refused_leaves : (o : Outcome (RunOver S)) {checked : Checked} {number place : ℕ} → checked ≡ checked_of o → checked ≡ Refused number place
+  pub refused_leaves : (o : Outcome (RunOver S)) {checked : Outcome Unit} {number place : ℕ} → checked ≡ checked_of o → checked ≡ refused number place
       → {ran : R} → ran ≡ handed_back (refused number place) → Leaves o ran output verdicts
   refused_leaves (accepted y) e r is = let z : ◌≡◌ {A = ℕ} 0 1 = cc in absurd (omega arith)
   refused_leaves (refused number' place') {number = number} {place} e r is =

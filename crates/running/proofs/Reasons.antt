@@ -12,9 +12,6 @@ use Rattle.synthesis.specs.Violation.{ViolatesRule}
 use Rattle.synthesis.specs.Monitor.{ended, lookup}
 use Rattle.synthesis.specs.Building.{synthesis_of, counted_of}
 use Rattle.synthesis.specs.ReasonPromises.{Placed, Explained}
-use Rattle.synthesis.specs.declared.Counted.TheVariants.{Equations}
-use Rattle.synthesis.specs.declared.Reason.{Reason}
-use Rattle.synthesis.specs.declared.Reason.TheVariants.{Kept, Node, Refused}
 use Rattle.synthesis.proofs.Tables.Equations.{file_well_formed}
 use Rattle.synthesis.proofs.Monitors.Runs.{kept_all, ended_kept}
 use Rattle.synthesis.proofs.Monitors.Renaming.{renamed_runs}
@@ -51,29 +48,29 @@ module _ {r : Rule} {h : History} (sifted : Sifted r h) where
 -- ---- what is said of a scan after a list that doesn't violate the rule
 
 -- no reason, or a node
-abbrev KeptOrNode : Reason → Type 0
-KeptOrNode reason = (reason ≡ Kept) ⊎ ((m : ℕ) × (reason ≡ Node m))
+abbrev KeptOrNode : Outcome (Option ℕ) → Type 0
+KeptOrNode reason = (reason ≡ accepted None) ⊎ ((m : ℕ) × (reason ≡ accepted (Some m)))
 
-module _ {r : Rule} {w : List ℕ} {c : ℕ} {reason : Reason} (explained : Explained r w c reason) (safe : ViolatesRule r w → ⊥) where
+module _ {r : Rule} {w : List ℕ} {c : ℕ} {reason : Outcome (Option ℕ)} (explained : Explained r w c reason) (safe : ViolatesRule r w → ⊥) where
   kept_or_node : KeptOrNode reason
   kept_or_node = on explained.only
     where
-      on : (reason ≡ Kept) ⊎ (((m : ℕ) × (reason ≡ Node m)) ⊎ ((i : ℕ) × (reason ≡ Refused 17 i))) → KeptOrNode reason
+      on : (reason ≡ accepted None) ⊎ (((m : ℕ) × (reason ≡ accepted (Some m))) ⊎ ((i : ℕ) × (reason ≡ refused 17 i))) → KeptOrNode reason
       on (inl q) = inl q
       on (inr (inl q)) = inr q
       on (inr (inr (i, q))) = absurd (safe (first_violates r w i ((explained.unfit i).0 q)))
 
-  said_fit : (number place : ℕ) → reason ≡ Refused number place → ⊥
+  said_fit : (number place : ℕ) → reason ≡ refused number place → ⊥
   said_fit number place e = on kept_or_node
     where
       on : KeptOrNode reason → ⊥
       on (inl q) = let z : ◌≡◌ {A = ℕ} 0 1 = cc in omega arith
       on (inr (m, q)) = let z : ◌≡◌ {A = ℕ} 0 1 = cc in omega arith
 
-  node_iff_violated : Placed r → ((m : ℕ) × (reason ≡ Node m)) ↔ ViolatesRule r (w ++ (c ∷ []))
+  node_iff_violated : Placed r → ((m : ℕ) × (reason ≡ accepted (Some m))) ↔ ViolatesRule r (w ++ (c ∷ []))
   node_iff_violated placed = (λ (m, q). (placed.somewhere (w ++ (c ∷ []))).1 (m, ((explained.node m).0 q).1.holds), λ v. on v kept_or_node)
     where
-      on : ViolatesRule r (w ++ (c ∷ [])) → KeptOrNode reason → (m : ℕ) × (reason ≡ Node m)
+      on : ViolatesRule r (w ++ (c ∷ [])) → KeptOrNode reason → (m : ℕ) × (reason ≡ accepted (Some m))
       on v (inl q) = absurd (explained.kept.0 q v)
       on v (inr q) = q
 
@@ -85,7 +82,7 @@ verdict_zero (inl q) iff = (λ e a. omega (arith, q, iff.1 a), λ none. q)
 verdict_zero (inr q) iff = (λ e. absurd (omega (arith, q, e)), λ none. absurd (none (iff.0 q)))
 
 -- after calls that sift by the rule of a file that is counted
-sifted_reasoned : {limit : ℕ} {s : List ℕ} {r : Rule} {n : ℕ} → Bytes s → rule_of s ≡ accepted r → counted_of (synthesis_of limit s) ≡ Equations n
+sifted_reasoned : {limit : ℕ} {s : List ℕ} {r : Rule} {n : ℕ} → Bytes s → rule_of s ≡ accepted r → counted_of (synthesis_of limit s) ≡ accepted n
     → (h : History) → Sifted r h → Reasoned limit s h
 sifted_reasoned {limit} {s} {r} {n} bytes read counted h sifted = record {
   dropped = λ i inside.

@@ -13,7 +13,6 @@ use Rattle.reading.specs.File.{refused}
 use Rattle.synthesis.specs.Table.{WellFormedTable}
 use Rattle.running.specs.Running.{has_room, fits, run_of, checked_of}
 use Rattle.running.specs.Promises.{RunsOnTables}
-use Rattle.running.specs.declared.Checked.TheVariants.{Refused}
 use Rattle.running.proofs.RunCases.{run_short, run_unfit, run_fit, run_cases}
 use Rattle.running.proofs.Tables.{fits_well_formed, well_formed_fits, answer_in-is, ends_inside}
 
@@ -55,19 +54,19 @@ runs_on_tables limit mark table count s scans output verdicts = record {
   ends = λ wf i. ends_inside limit mark count table wf s scans i;
 }
   where
-    refused_15_short : checked_of (run_of limit mark table count s scans output verdicts) ≡ Refused 15 0 → (output < length scans) ⊎ (verdicts < length scans)
+    refused_15_short : checked_of (run_of limit mark table count s scans output verdicts) ≡ refused 15 0 → (output < length scans) ⊎ (verdicts < length scans)
     refused_15_short =
         run_cases limit mark table count s scans output verdicts
-        (λ o. checked_of o ≡ Refused 15 0 → (output < length scans) ⊎ (verdicts < length scans))
+        (λ o. checked_of o ≡ refused 15 0 → (output < length scans) ⊎ (verdicts < length scans))
         (λ r e. no_room_short scans output verdicts r)
         (λ r f e. let z : ◌≡◌ {A = ℕ} 16 15 = cc in absurd (omega arith))
         (λ r f e. let z : ◌≡◌ {A = ℕ} 0 1 = cc in absurd (omega arith))
 
-    refused_16_unfit : checked_of (run_of limit mark table count s scans output verdicts) ≡ Refused 16 0
+    refused_16_unfit : checked_of (run_of limit mark table count s scans output verdicts) ≡ refused 16 0
         → (length scans ≤ output) × (length scans ≤ verdicts) × (WellFormedTable limit mark count table × (s.equation < count) → ⊥)
     refused_16_unfit =
         run_cases limit mark table count s scans output verdicts
-        (λ o. checked_of o ≡ Refused 16 0
+        (λ o. checked_of o ≡ refused 16 0
         → (length scans ≤ output) × (length scans ≤ verdicts) × (WellFormedTable limit mark count table × (s.equation < count) → ⊥))
         (λ r e. let z : ◌≡◌ {A = ℕ} 15 16 = cc in absurd (omega arith))
         (λ r f e. let room = has_room-lengths scans output verdicts r in

@@ -15,7 +15,6 @@ use Rattle.running.specs.Duty.{on_duty, fits_at, duty_ran_of}
 use Rattle.running.specs.Spells.{DutyCall, Event, Spell, Desk, new_desk, after, LendsRows, OrderlyOrRefused}
 use Rattle.running.specs.DutyPromises.{FitDuty}
 use Rattle.running.specs.SpellPromises.{OrderlyDay, StandsBySpell, DropsBySpells, DutyDropsExactly, OnDutyNeverUnfit, SpellsSafe}
-use Rattle.running.specs.declared.Checked.TheVariants.{Fit, Refused}
 use Rattle.running.proofs.ListTests.{all_passes, filter_keeps}
 use Rattle.running.proofs.SoundStates.{fit_rules}
 use Rattle.running.proofs.DutyRuns.{duty_run_ways}
@@ -89,7 +88,7 @@ pub duty_drops_exactly : (limit mark : ℕ) → DutyDropsExactly limit mark
 duty_drops_exactly limit mark es day call bytes lends =
     let desk = after limit mark new_desk es in
     duty_run_ways limit mark call.tables desk.duty call.scans (length call.output) (length call.verdicts)
-    (λ o. (duty_ran_of desk.duty o).checked ≡ Fit → DropsBySpells desk call o)
+    (λ o. (duty_ran_of desk.duty o).checked ≡ accepted unit → DropsBySpells desk call o)
     (λ short e. fit_not_refused e (inr (15, 0, refl)))
     (λ a b n e. absurd (n (fit_duty limit mark es day call lends)))
     (λ a b fit e. run_drops_by_spells desk call bytes (lent limit mark es day call lends))
@@ -98,7 +97,7 @@ pub on_duty-never_unfit : (limit mark : ℕ) → OnDutyNeverUnfit limit mark
 on_duty-never_unfit limit mark es day call lends =
     let d = (after limit mark new_desk es).duty in
     duty_run_ways limit mark call.tables d call.scans (length call.output) (length call.verdicts)
-    (λ o. (duty_ran_of d o).checked ≡ Refused 16 0 → ⊥)
+    (λ o. (duty_ran_of d o).checked ≡ refused 16 0 → ⊥)
     (λ short e. let z : ◌≡◌ {A = ℕ} 15 16 = cc in omega arith)
     (λ a b n e. n (fit_duty limit mark es day call lends))
     (λ a b fit e. let z : ◌≡◌ {A = ℕ} 0 1 = cc in omega arith)

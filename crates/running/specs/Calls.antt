@@ -4,8 +4,6 @@ use Rattle.reading.specs.Rule.{Bytes}
 use Rattle.reading.specs.File.{Outcome, refused}
 use Rattle.running.specs.Running.{start, Run, run_of, result_of, output_after, verdicts_after}
 use Rattle.running.specs.declared.State.{State}
-use Rattle.running.specs.declared.Checked.{Checked}
-use Rattle.running.specs.declared.Checked.TheVariants.{Fit, Refused}
 
 -- ---- one call, and what its caller has
 
@@ -29,9 +27,9 @@ abbrev pub no_calls : History
 no_calls = record { state = start; scans = []; kept = []; verdicts = [] }
 
 -- the scans that a call with this answer has taken
-abbrev pub taken : Checked → (scans : List ℕ) → List ℕ
-taken Fit scans = scans
-taken (Refused number place) scans = []
+abbrev pub taken : Outcome Unit → (scans : List ℕ) → List ℕ
+taken (accepted unit) scans = scans
+taken (refused number place) scans = []
 
 -- the outcome of a call with this state
 abbrev pub outcome_of : (limit mark : ℕ) → State → Call → Outcome Run

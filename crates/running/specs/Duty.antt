@@ -9,7 +9,6 @@ use Rattle.running.specs.Running.{start, moved, fits, has_room, RunOver, run_by,
 use Rattle.running.specs.declared.OnDuty.{OnDuty}
 use Rattle.running.specs.declared.Duty.{Duty}
 use Rattle.running.specs.declared.Changed.{Changed}
-use Rattle.running.specs.declared.DutyRan.{DutyRan}
 
 -- ---- who is on duty
 
@@ -99,8 +98,17 @@ going_of d number =
     (refuse (not (is_on number (on_duty d))) 21 0
     (accepted (without number (on_duty d))))
 
+-- What a coming or a going hands back: whether it was refused, and the state after it.
+pub record ChangeReturned : Type 0 where
+  pub checked : Outcome Unit
+  pub duty : Duty
+
+-- what a result says
+abbrev pub change_returned : Changed → ChangeReturned
+change_returned r = record { checked = as_outcome r.checked; duty = r.duty }
+
 -- what a coming or a going hands back; a refused one, the state that it was given
-abbrev pub changed_of : Duty → Outcome (List OnDuty) → Changed
+abbrev pub changed_of : Duty → Outcome (List OnDuty) → ChangeReturned
 changed_of d (accepted ds) = record { checked = checked_of (accepted ds); duty = duty_of ds }
 changed_of d (refused number place) = record { checked = checked_of {A = List OnDuty} (refused number place); duty = d }
 
@@ -116,16 +124,16 @@ duty_run_of limit mark tables d scans output verdicts =
     (accepted (run_by (together mark tables) (on_duty d) scans))))
 
 -- what a run on duty hands back; a refused one, the state that it was given and counts of 0
-abbrev pub duty_ran_of : Duty → Outcome (RunOver (List OnDuty)) → DutyRan
+abbrev pub duty_ran_of : Duty → Outcome (RunOver (List OnDuty)) → Returned Duty
 duty_ran_of d (accepted y) = record {
   checked = checked_of (accepted y);
-  duty = duty_of y.state;
+  state = duty_of y.state;
   kept = length y.kept;
   dropped = occurrences 1 y.verdicts;
 }
 duty_ran_of d (refused number place) = record {
   checked = checked_of {A = RunOver (List OnDuty)} (refused number place);
-  duty = d;
+  state = d;
   kept = 0;
   dropped = 0;
 }

@@ -12,7 +12,6 @@ use Rattle.running.specs.Promises.{Conserved, Fronts}
 use Rattle.running.specs.declared.OnDuty.{OnDuty}
 use Rattle.running.specs.declared.Duty.{Duty}
 use Rattle.running.specs.declared.Changed.{Changed}
-use Rattle.running.specs.declared.Checked.TheVariants.{Fit, Refused}
 
 -- ---- one scan more
 
@@ -74,34 +73,34 @@ pub record LeavesPlace (d : Duty) (i : ℕ) (d' : Duty) : Type 0 where
 -- 2. A coming is refused with 16 for an unsound state, then with 19 where four rules are on duty, then with 20 where its number is on duty, then with
 -- 16 where its table isn't well formed; else it is last, in its first equation. A refusal hands back the duty that it was given.
 pub record Comes (limit mark : ℕ) (d : Duty) (number : ℕ) (tables : List ℕ) (base count : ℕ) (changed : Changed) : Type 0 where
-  pub unfit : (changed.checked ≡ Refused 16 0)
+  pub unfit : (changed.checked ≡ refused 16 0)
       ↔ ((SoundDuty d → ⊥)
       ⊎ (SoundDuty d × (d.count < 4) × (OnDutyUnder number d → ⊥) × (WellFormedTable limit mark count (drop base tables) → ⊥)))
-  pub fifth : (changed.checked ≡ Refused 19 0) ↔ (SoundDuty d × (d.count ≡ 4))
-  pub known : (changed.checked ≡ Refused 20 0) ↔ (SoundDuty d × (d.count < 4) × OnDutyUnder number d)
-  pub fit : (changed.checked ≡ Fit)
+  pub fifth : (changed.checked ≡ refused 19 0) ↔ (SoundDuty d × (d.count ≡ 4))
+  pub known : (changed.checked ≡ refused 20 0) ↔ (SoundDuty d × (d.count < 4) × OnDutyUnder number d)
+  pub fit : (changed.checked ≡ accepted unit)
       ↔ (SoundDuty d × (d.count < 4) × (OnDutyUnder number d → ⊥) × WellFormedTable limit mark count (drop base tables))
-  pub last : changed.checked ≡ Fit → ComesLast d (at_start number base count) changed.duty
-  pub refused : (n place : ℕ) → changed.checked ≡ Refused n place → changed.duty ≡ d
+  pub last : changed.checked ≡ accepted unit → ComesLast d (at_start number base count) changed.duty
+  pub refused : (n place : ℕ) → changed.checked ≡ refused n place → changed.duty ≡ d
 
 -- A going is refused with 16 for an unsound state, then with 21 where its number isn't on duty; else the rule with the number leaves its place, and
 -- the number is free.
 pub record Goes (d : Duty) (number : ℕ) (changed : Changed) : Type 0 where
-  pub unfit : (changed.checked ≡ Refused 16 0) ↔ (SoundDuty d → ⊥)
-  pub absent : (changed.checked ≡ Refused 21 0) ↔ (SoundDuty d × (OnDutyUnder number d → ⊥))
-  pub fit : (changed.checked ≡ Fit) ↔ (SoundDuty d × OnDutyUnder number d)
-  pub leaves : changed.checked ≡ Fit → (i : ℕ) → i < d.count → (rule_in d i).number ≡ number → LeavesPlace d i changed.duty
-  pub free : changed.checked ≡ Fit → SoundDuty changed.duty × (OnDutyUnder number changed.duty → ⊥)
-  pub refused : (n place : ℕ) → changed.checked ≡ Refused n place → changed.duty ≡ d
+  pub unfit : (changed.checked ≡ refused 16 0) ↔ (SoundDuty d → ⊥)
+  pub absent : (changed.checked ≡ refused 21 0) ↔ (SoundDuty d × (OnDutyUnder number d → ⊥))
+  pub fit : (changed.checked ≡ accepted unit) ↔ (SoundDuty d × OnDutyUnder number d)
+  pub leaves : changed.checked ≡ accepted unit → (i : ℕ) → i < d.count → (rule_in d i).number ≡ number → LeavesPlace d i changed.duty
+  pub free : changed.checked ≡ accepted unit → SoundDuty changed.duty × (OnDutyUnder number changed.duty → ⊥)
+  pub refused : (n place : ℕ) → changed.checked ≡ refused n place → changed.duty ≡ d
 
 -- A going makes room: after it a rule comes on with any number that wasn't on duty, or with the one that went off, if its table is well formed. It is
 -- last, in its first equation.
 pub record MakesRoom (limit mark : ℕ) (d : Duty) (number : ℕ) : Type 0 where
-  pub taken : (changed_of d (going_of d number)).checked ≡ Fit → (number' : ℕ) (tables : List ℕ) (base count : ℕ)
+  pub taken : (changed_of d (going_of d number)).checked ≡ accepted unit → (number' : ℕ) (tables : List ℕ) (base count : ℕ)
       → (number' ≡ number) ⊎ (OnDutyUnder number' d → ⊥) → WellFormedTable limit mark count (drop base tables) →
       let d' = (changed_of d (going_of d number)).duty in
       let changed = changed_of d' (coming_of limit mark d' number' tables base count) in
-      (changed.checked ≡ Fit) × ComesLast d' (at_start number' base count) changed.duty
+      (changed.checked ≡ accepted unit) × ComesLast d' (at_start number' base count) changed.duty
 
 -- ---- refusals of runs on duty
 
@@ -118,9 +117,9 @@ pub record FitDuty (limit mark : ℕ) (tables : List ℕ) (d : Duty) : Type 0 wh
 -- 15 is for buffers that are too short, and comes first; 16 for an unsound state and for an unfit rule. Any other run is that of all rules together.
 -- It goes by the entry of each rule, and leaves each rule fit, under its number, with its base and count.
 pub record RunsOnDuty (limit mark : ℕ) (tables : List ℕ) (d : Duty) (scans : List ℕ) (output verdicts : ℕ) : Type 0 where
-  pub short : (checked_of (duty_run_of limit mark tables d scans output verdicts) ≡ Refused 15 0)
+  pub short : (checked_of (duty_run_of limit mark tables d scans output verdicts) ≡ refused 15 0)
       ↔ ((output < length scans) ⊎ (verdicts < length scans))
-  pub unfit : (checked_of (duty_run_of limit mark tables d scans output verdicts) ≡ Refused 16 0)
+  pub unfit : (checked_of (duty_run_of limit mark tables d scans output verdicts) ≡ refused 16 0)
       ↔ ((length scans ≤ output) × (length scans ≤ verdicts) × (FitDuty limit mark tables d → ⊥))
   pub follows : length scans ≤ output → length scans ≤ verdicts → FitDuty limit mark tables d
       → duty_run_of limit mark tables d scans output verdicts ≡ accepted (run_by (together mark tables) (on_duty d) scans)
@@ -128,7 +127,7 @@ pub record RunsOnDuty (limit mark : ℕ) (tables : List ℕ) (d : Duty) (scans :
   pub entries : (x : OnDuty) → FitRule limit mark tables x → (c : ℕ) → c < 256
       → own_answer mark tables c x ≡ meaning mark (get_or tables (x.base + (256 * x.equation + c)) 0)
   pub ends : length scans ≤ output → length scans ≤ verdicts → FitDuty limit mark tables d →
-      let d' = (duty_ran_of d (duty_run_of limit mark tables d scans output verdicts)).duty in
+      let d' = (duty_ran_of d (duty_run_of limit mark tables d scans output verdicts)).state in
       (on_duty d' ≡ (run_by (together mark tables) (on_duty d) scans).state)
       × (d'.count ≡ d.count)
       × RestVacant d'
@@ -150,10 +149,10 @@ pub record AsAlone (d : Duty) (x : OnDuty) (alone : Outcome Run) (outcome : Outc
   pub checked : checked_of outcome ≡ checked_of alone
   pub kept : kept_of outcome ≡ kept_of alone
   pub verdicts : verdicts_of outcome ≡ verdicts_of alone
-  pub handed_back_lem : checked_of alone ≡ Fit →
+  pub handed_back_lem : checked_of alone ≡ accepted unit →
       let ran = result_of (moved start x.equation) alone in
       duty_ran_of d outcome
-      ≡ record { checked = ran.checked; duty = duty_of (moved_to x ran.state.equation ∷ []); kept = ran.kept; dropped = ran.dropped }
+      ≡ record { checked = ran.checked; state = duty_of (moved_to x ran.state.equation ∷ []); kept = ran.kept; dropped = ran.dropped }
 
 abbrev pub OneOnDuty : Type 0
 OneOnDuty =
@@ -166,12 +165,12 @@ OneOnDuty =
 
 -- 4. Two calls, the second with the duty of the first, do what one call on both lists of scans does.
 pub record DutyTogether (d : Duty) (one two both : Outcome (RunOver (List OnDuty))) : Type 0 where
-  pub checked : (duty_ran_of (duty_ran_of d one).duty two).checked ≡ (duty_ran_of d one).checked
+  pub checked : (duty_ran_of (duty_ran_of d one).state two).checked ≡ (duty_ran_of d one).checked
   pub handed_back_lem : duty_ran_of d both ≡ record {
     checked = (duty_ran_of d one).checked;
-    duty = (duty_ran_of (duty_ran_of d one).duty two).duty;
-    kept = (duty_ran_of d one).kept + (duty_ran_of (duty_ran_of d one).duty two).kept;
-    dropped = (duty_ran_of d one).dropped + (duty_ran_of (duty_ran_of d one).duty two).dropped;
+    state = (duty_ran_of (duty_ran_of d one).state two).state;
+    kept = (duty_ran_of d one).kept + (duty_ran_of (duty_ran_of d one).state two).kept;
+    dropped = (duty_ran_of d one).dropped + (duty_ran_of (duty_ran_of d one).state two).dropped;
   }
   pub kept : kept_of both ≡ kept_of one ++ kept_of two
   pub verdicts : verdicts_of both ≡ verdicts_of one ++ verdicts_of two
@@ -181,7 +180,7 @@ DutyTwoCalls =
     (limit mark : ℕ) (tables : List ℕ) (d : Duty) (first second : List ℕ) (o₁ v₁ o₂ v₂ o₃ v₃ : ℕ)
     → has_room first o₁ v₁ ≡ true → has_room second o₂ v₂ ≡ true → has_room (first ++ second) o₃ v₃ ≡ true →
     let one = duty_run_of limit mark tables d first o₁ v₁ in
-    let two = duty_run_of limit mark tables (duty_ran_of d one).duty second o₂ v₂ in
+    let two = duty_run_of limit mark tables (duty_ran_of d one).state second o₂ v₂ in
     DutyTogether d one two (duty_run_of limit mark tables d (first ++ second) o₃ v₃)
 
 abbrev pub DutyConserves : Type 0
@@ -192,7 +191,7 @@ DutyConserves =
 
 -- A refused run hands back the duty that it was given and counts of 0, and leaves every byte of every buffer as it was.
 pub record DutyUnchanged (d : Duty) (output verdicts : List ℕ) (outcome : Outcome (RunOver (List OnDuty))) : Type 0 where
-  pub handed_back_lem : duty_ran_of d outcome ≡ record { checked = (duty_ran_of d outcome).checked; duty = d; kept = 0; dropped = 0 }
+  pub handed_back_lem : duty_ran_of d outcome ≡ record { checked = (duty_ran_of d outcome).checked; state = d; kept = 0; dropped = 0 }
   pub output_same : output_after outcome output ≡ output
   pub verdicts_same : verdicts_after outcome verdicts ≡ verdicts
 
@@ -200,14 +199,14 @@ abbrev pub DutyRefusedUnchanged : Type 0
 DutyRefusedUnchanged =
     (limit mark : ℕ) (tables : List ℕ) (d : Duty) (scans output verdicts : List ℕ) (number place : ℕ) →
     let outcome = duty_run_of limit mark tables d scans (length output) (length verdicts) in
-    (duty_ran_of d outcome).checked ≡ Refused number place → DutyUnchanged d output verdicts outcome
+    (duty_ran_of d outcome).checked ≡ refused number place → DutyUnchanged d output verdicts outcome
 
 -- Any other has the kept scans and the verdicts at the fronts of the buffers, and nothing else changed.
 abbrev pub DutyRestUnchanged : Type 0
 DutyRestUnchanged =
     (limit mark : ℕ) (tables : List ℕ) (d : Duty) (scans output verdicts : List ℕ) →
     let outcome = duty_run_of limit mark tables d scans (length output) (length verdicts) in
-    (duty_ran_of d outcome).checked ≡ Fit → Fronts scans output verdicts outcome (duty_ran_of d outcome).kept
+    (duty_ran_of d outcome).checked ≡ accepted unit → Fronts scans output verdicts outcome (duty_ran_of d outcome).kept
 
 -- ---- all of these
 

@@ -10,14 +10,10 @@ use Rattle.synthesis.specs.Monitor.{dropped, cases, next, ended, Monitors, meani
 use Rattle.synthesis.specs.Table.{WellFormedTable}
 use Rattle.synthesis.specs.Building.{Fills, FillsShort}
 use Rattle.synthesis.specs.Reason.{explanation_of, reason_of}
-use Rattle.synthesis.specs.declared.Reason.{Reason}
-use Rattle.synthesis.specs.declared.Reason.TheVariants.{Kept, Node}
-use Rattle.synthesis.specs.declared.Reason.TheVariants as Reason'
 use Rattle.running.specs.Running.{moved, answer_in, has_room, Run, RunOver, run_from, run_of, checked_of, occurrences, result_of}
 use Rattle.running.specs.Running.{kept_of, verdicts_of, output_after, verdicts_after}
 use Rattle.running.specs.Calls.{Call, History, taken, outcome_of, Calls, OnTable, OnTableOrRefused, with_verdict, kept_before}
 use Rattle.running.specs.declared.State.{State}
-use Rattle.running.specs.declared.Checked.TheVariants.{Fit, Refused}
 
 -- ---- scans are dropped by the rule
 
@@ -99,9 +95,9 @@ CallsConserve =
 -- 4. 15 is for buffers that are too short, and comes first; 16 for a count, a state or a table that is unfit. Any other run follows the
 -- entries, and ends in an equation of the table.
 pub record RunsOn (limit mark : ℕ) (table : List ℕ) (count : ℕ) (s : State) (scans : List ℕ) (output verdicts : ℕ) : Type 0 where
-  pub short : (checked_of (run_of limit mark table count s scans output verdicts) ≡ Refused 15 0)
+  pub short : (checked_of (run_of limit mark table count s scans output verdicts) ≡ refused 15 0)
       ↔ ((output < length scans) ⊎ (verdicts < length scans))
-  pub unfit : (checked_of (run_of limit mark table count s scans output verdicts) ≡ Refused 16 0)
+  pub unfit : (checked_of (run_of limit mark table count s scans output verdicts) ≡ refused 16 0)
       ↔ ((length scans ≤ output) × (length scans ≤ verdicts) × (WellFormedTable limit mark count table × (s.equation < count) → ⊥))
   pub follows : length scans ≤ output → length scans ≤ verdicts → WellFormedTable limit mark count table → s.equation < count
       → run_of limit mark table count s scans output verdicts ≡ accepted (run_from mark table s scans)
@@ -119,7 +115,7 @@ RunsOnTables =
 abbrev pub NotUnfit : (limit mark n : ℕ) → (table : List ℕ) → Type 0
 NotUnfit limit mark n table =
     (h : History) → Calls limit mark (OnTableOrRefused limit mark table n) h → (c : Call) → OnTable table n c
-    → checked_of (outcome_of limit mark h.state c) ≡ Refused 16 0 → ⊥
+    → checked_of (outcome_of limit mark h.state c) ≡ refused 16 0 → ⊥
 
 -- So it is with the table that filling leaves.
 abbrev pub NeverUnfit : Type 0
@@ -145,7 +141,7 @@ pub record RunUnchanged (s : State) (c : Call) (outcome : Outcome Run) : Type 0 
 
 abbrev pub RefusedUnchanged : Type 0
 RefusedUnchanged =
-    (limit mark : ℕ) (s : State) (c : Call) (number place : ℕ) → (result_of s (outcome_of limit mark s c)).checked ≡ Refused number place
+    (limit mark : ℕ) (s : State) (c : Call) (number place : ℕ) → (result_of s (outcome_of limit mark s c)).checked ≡ refused number place
     → RunUnchanged s c (outcome_of limit mark s c)
 
 -- This list stands at the front of a buffer, and behind it the buffer is as it was.
@@ -169,21 +165,21 @@ OnlyFronts s c outcome = Fronts c.scans c.output c.verdicts outcome (result_of s
 
 abbrev pub RestUnchanged : Type 0
 RestUnchanged =
-    (limit mark : ℕ) (s : State) (c : Call) → (result_of s (outcome_of limit mark s c)).checked ≡ Fit → OnlyFronts s c (outcome_of limit mark s c)
+    (limit mark : ℕ) (s : State) (c : Call) → (result_of s (outcome_of limit mark s c)).checked ≡ accepted unit → OnlyFronts s c (outcome_of limit mark s c)
 
 -- ---- why scans are dropped
 
 -- 6. What `explain` says of the scan c after those that were kept of the first i, by the rule file alone.
-abbrev pub reason_after : (limit : ℕ) → (s : List ℕ) → History → (i c : ℕ) → Reason
+abbrev pub reason_after : (limit : ℕ) → (s : List ℕ) → History → (i c : ℕ) → Outcome (Option ℕ)
 reason_after limit s h i c = reason_of (explanation_of limit s (kept_before h i) c)
 
 -- Of each scan, after those kept before it: a node exactly where it was dropped, and no reason where it was kept. What was kept is never refused,
 -- whatever scan is asked for after it.
 pub record Reasoned (limit : ℕ) (s : List ℕ) (h : History) : Type 0 where
   pub dropped : (i : ℕ) → i < length h.scans
-      → (get_or h.verdicts i 0 ≡ 1) ↔ ((m : ℕ) × (reason_after limit s h i (get_or h.scans i 0) ≡ Node m))
-  pub kept : (i : ℕ) → i < length h.scans → (get_or h.verdicts i 0 ≡ 0) ↔ (reason_after limit s h i (get_or h.scans i 0) ≡ Kept)
-  pub fit : (i c number place : ℕ) → reason_after limit s h i c ≡ Reason'.Refused number place → ⊥
+      → (get_or h.verdicts i 0 ≡ 1) ↔ ((m : ℕ) × (reason_after limit s h i (get_or h.scans i 0) ≡ accepted (Some m)))
+  pub kept : (i : ℕ) → i < length h.scans → (get_or h.verdicts i 0 ≡ 0) ↔ (reason_after limit s h i (get_or h.scans i 0) ≡ accepted None)
+  pub fit : (i c number place : ℕ) → reason_after limit s h i c ≡ refused number place → ⊥
 
 -- After any calls as in 1 this holds of the rule file from which the table was filled, the long one or the short one.
 abbrev pub ReasonsOn : (limit mark : ℕ) → (s : List ℕ) → (n : ℕ) → (table : List ℕ) → Type 0

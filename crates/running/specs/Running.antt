@@ -5,8 +5,6 @@ use Rattle.reading.specs.File.{Outcome, accepted, refused, refuse}
 use Rattle.synthesis.specs.Monitor.{Answer, dropped, next, cases, kept, verdicts, ended, lookup}
 use Rattle.running.specs.Lists.{all}
 use Rattle.running.specs.declared.State.{State}
-use Rattle.running.specs.declared.Checked.{Checked}
-use Rattle.running.specs.declared.Checked.TheVariants.{Fit, Refused}
 use Rattle.running.specs.declared.RunResult.{RunResult}
 
 -- ---- one scan
@@ -81,17 +79,28 @@ run_of limit mark table count s scans output verdicts =
 -- ---- what is handed back, and what is left in the buffers
 
 -- The answer of each outcome: fit, or the refusal with the paper's number and place.
-abbrev pub checked_of : {A : Type 0} → Outcome A → Checked
-checked_of (accepted y) = Fit
-checked_of (refused number place) = Refused number place
+abbrev pub checked_of : {A : Type 0} → Outcome A → Outcome Unit
+checked_of (accepted y) = accepted unit
+checked_of (refused number place) = refused number place
 
 -- how often a number stands in a list
 unfoldable pub occurrences : ℕ → List ℕ → ℕ
 occurrences x [] = 0
 occurrences x (y ∷ ys) = cond (eqb y x) (suc (occurrences x ys)) (occurrences x ys)
 
+-- What a run hands back: whether it was refused, the state in which it ended, and how many scans it kept and dropped. The states are those of any monitor.
+pub record Returned (S : Type 0) : Type 0 where
+  pub checked : Outcome Unit
+  pub state : S
+  pub kept : ℕ
+  pub dropped : ℕ
+
+-- what a result says
+abbrev pub returned : {S : Type 0} → RunResult S → Returned S
+returned r = record { checked = as_outcome r.checked; state = r.state; kept = r.kept; dropped = r.dropped }
+
 -- what a run from the state s hands back; a refused one, that state and counts of 0
-abbrev pub result_of : State → Outcome Run → RunResult
+abbrev pub result_of : State → Outcome Run → Returned State
 result_of s (accepted y) = record { checked = checked_of (accepted y); state = y.state; kept = length y.kept; dropped = occurrences 1 y.verdicts }
 result_of s (refused number place) = record { checked = checked_of {A = Run} (refused number place); state = s; kept = 0; dropped = 0 }
 

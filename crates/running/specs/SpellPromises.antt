@@ -17,7 +17,6 @@ use Rattle.running.specs.Spells.{LendsRows, OrderlyOrRefused, Quiet}
 use Rattle.running.specs.Promises.{Sifted, SameVerdicts}
 use Rattle.running.specs.DutyPromises.{SoundDuty, RestVacant}
 use Rattle.running.specs.declared.OnDuty.{OnDuty}
-use Rattle.running.specs.declared.Checked.TheVariants.{Fit, Refused}
 
 -- ---- whose spells they are
 
@@ -38,7 +37,7 @@ SpellsOnDuty = (limit mark : ℕ) (es : List Event) → SpellsOfDuty (after limi
 -- What a desk has after a run that isn't refused: all scans of the run, with what it keeps and judges, and each spell longer by what it keeps.
 abbrev pub TellsRuns : Type 0
 TellsRuns =
-    (limit mark : ℕ) (desk : Desk) (call : DutyCall) → answered limit mark desk (runs call) ≡ Fit →
+    (limit mark : ℕ) (desk : Desk) (call : DutyCall) → answered limit mark desk (runs call) ≡ accepted unit →
     let run = run_by (together mark call.tables) (on_duty desk.duty) call.scans in
     with_event limit mark desk (runs call) ≡ record {
       duty = duty_of run.state;
@@ -57,7 +56,7 @@ pub record MayHappen (limit mark : ℕ) (desk : Desk) : Type 0 where
       → OrderlyOrRefused limit mark desk (runs call)
   pub coming : (x : Coming) → Monitors x.rule (lookup 256 mark (drop x.base x.tables)) 0 → OrderlyOrRefused limit mark desk (comes x)
   pub going : (number : ℕ) → OrderlyOrRefused limit mark desk (goes number)
-  pub refused : (e : Event) (number place : ℕ) → answered limit mark desk e ≡ Refused number place
+  pub refused : (e : Event) (number place : ℕ) → answered limit mark desk e ≡ refused number place
       → OrderlyOrRefused limit mark desk e × Quiet limit mark desk e
   pub quiet : (call : DutyCall) → Quiet limit mark desk (runs call)
 
@@ -109,14 +108,14 @@ DutyDropsExactly limit mark =
     (es : List Event) → OrderlyDay limit mark es → (call : DutyCall) → Bytes call.scans →
     let desk = after limit mark new_desk es in
     let outcome = run_at limit mark desk.duty call in
-    LendsRows desk call → (duty_ran_of desk.duty outcome).checked ≡ Fit → DropsBySpells desk call outcome
+    LendsRows desk call → (duty_ran_of desk.duty outcome).checked ≡ accepted unit → DropsBySpells desk call outcome
 
 -- A run that lends the rows is never refused with 16.
 abbrev pub OnDutyNeverUnfit : (limit mark : ℕ) → Type 0
 OnDutyNeverUnfit limit mark =
     (es : List Event) → OrderlyDay limit mark es → (call : DutyCall) →
     let desk = after limit mark new_desk es in
-    LendsRows desk call → (duty_ran_of desk.duty (run_at limit mark desk.duty call)).checked ≡ Refused 16 0 → ⊥
+    LendsRows desk call → (duty_ran_of desk.duty (run_at limit mark desk.duty call)).checked ≡ refused 16 0 → ⊥
 
 -- 4. The scans kept in a spell don't violate its rule, whether the spell goes on or is over.
 abbrev pub SpellsSafe : (limit mark : ℕ) → Type 0

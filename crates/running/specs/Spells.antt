@@ -10,8 +10,6 @@ use Rattle.running.specs.Calls.{taken}
 use Rattle.running.specs.Duty.{nobody, coming_of, going_of, changed_of, duty_run_of, duty_ran_of}
 use Rattle.running.specs.declared.OnDuty.{OnDuty}
 use Rattle.running.specs.declared.Duty.{Duty}
-use Rattle.running.specs.declared.Checked.{Checked}
-use Rattle.running.specs.declared.Checked.TheVariants.{Fit, Refused}
 
 -- ---- calls
 
@@ -86,7 +84,7 @@ with_duty_run desk call outcome =
     let scans = taken ran.checked call.scans in
     let kept = take ran.kept (output_after outcome call.output) in
     record {
-      duty = ran.duty;
+      duty = ran.state;
       spells = map (longer kept) desk.spells;
       over = desk.over;
       scans = desk.scans ++ scans;
@@ -100,9 +98,9 @@ with_duty desk d spells over =
     record { duty = d; spells = spells; over = over; scans = desk.scans; kept = desk.kept; verdicts = desk.verdicts }
 
 -- after a coming: one spell more, if it wasn't refused
-abbrev pub beginning : Checked → Coming → List Spell
-beginning Fit x = begun x ∷ []
-beginning (Refused number place) x = []
+abbrev pub beginning : Outcome Unit → Coming → List Spell
+beginning (accepted unit) x = begun x ∷ []
+beginning (refused number place) x = []
 
 abbrev pub with_coming : Desk → Coming → Outcome (List OnDuty) → Desk
 with_coming desk x outcome =
@@ -110,13 +108,13 @@ with_coming desk x outcome =
     with_duty desk changed.duty (desk.spells ++ beginning changed.checked x) desk.over
 
 -- after a going: the spells under its number are over, if it wasn't refused
-abbrev pub staying : Checked → (number : ℕ) → List Spell → List Spell
-staying Fit number ss = filter (λ s. not (eqb s.number number)) ss
-staying (Refused n place) number ss = ss
+abbrev pub staying : Outcome Unit → (number : ℕ) → List Spell → List Spell
+staying (accepted unit) number ss = filter (λ s. not (eqb s.number number)) ss
+staying (refused n place) number ss = ss
 
-abbrev pub leaving : Checked → (number : ℕ) → List Spell → List Spell
-leaving Fit number ss = filter (λ s. eqb s.number number) ss
-leaving (Refused n place) number ss = []
+abbrev pub leaving : Outcome Unit → (number : ℕ) → List Spell → List Spell
+leaving (accepted unit) number ss = filter (λ s. eqb s.number number) ss
+leaving (refused n place) number ss = []
 
 abbrev pub with_going : Desk → (number : ℕ) → Outcome (List OnDuty) → Desk
 with_going desk number outcome =
@@ -140,13 +138,13 @@ Each limit mark May desk [] = Unit
 Each limit mark May desk (e ∷ es) = May desk e × Each limit mark May (with_event limit mark desk e) es
 
 -- what is answered to an event
-abbrev pub answered : (limit mark : ℕ) → Desk → Event → Checked
+abbrev pub answered : (limit mark : ℕ) → Desk → Event → Outcome Unit
 answered limit mark desk (runs call) = (duty_ran_of desk.duty (run_at limit mark desk.duty call)).checked
 answered limit mark desk (comes x) = (changed_of desk.duty (coming_at limit mark desk.duty x)).checked
 answered limit mark desk (goes number) = (changed_of desk.duty (going_of desk.duty number)).checked
 
 abbrev pub IsRefused : (limit mark : ℕ) → Desk → Event → Type 0
-IsRefused limit mark desk e = (number place : ℕ) × (answered limit mark desk e ≡ Refused number place)
+IsRefused limit mark desk e = (number place : ℕ) × (answered limit mark desk e ≡ refused number place)
 
 -- ---- what is supposed of them
 

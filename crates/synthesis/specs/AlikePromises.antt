@@ -10,8 +10,6 @@ use Rattle.synthesis.specs.Monitor.{Answer, Monitors, row_of}
 use Rattle.synthesis.specs.Merging.{DropAlike}
 use Rattle.synthesis.specs.Building.{synthesis_of, preview_of, short_of, counted_of, Fills, FillsShort}
 use Rattle.synthesis.specs.Reason.{ViolatesAt, explanation_of, reason_of}
-use Rattle.synthesis.specs.declared.Reason.{Reason}
-use Rattle.synthesis.specs.declared.Reason.TheVariants.{Kept, Node as AtNode, Refused}
 
 -- ---- violation
 
@@ -48,9 +46,9 @@ CountedAlike =
     → CountsAlike limit s s'
 
 -- `explain` answers the same of them but for the number of a node: both say that a scan is kept, or neither does, and both refuse alike.
-pub record ExplainedAlike (reason reason' : Reason) : Type 0 where
-  pub kept : (reason ≡ Kept) ↔ (reason' ≡ Kept)
-  pub refused : (number place : ℕ) → (reason ≡ Refused number place) ↔ (reason' ≡ Refused number place)
+pub record ExplainedAlike (reason reason' : Outcome (Option ℕ)) : Type 0 where
+  pub kept : (reason ≡ accepted None) ↔ (reason' ≡ accepted None)
+  pub refused : (number place : ℕ) → (reason ≡ refused number place) ↔ (reason' ≡ refused number place)
 
 abbrev pub ExplainsAlike : Type 0
 ExplainsAlike =
@@ -61,7 +59,7 @@ ExplainsAlike =
 abbrev pub NoReasonAfterEmpty : Type 0
 NoReasonAfterEmpty =
     (limit : ℕ) (s : List ℕ) → Bytes s → (r : Rule) → rule_of s ≡ accepted r
-    → (w : List ℕ) (c m : ℕ) → reason_of (explanation_of limit s w c) ≡ AtNode m → AfterEmpty r m → ⊥
+    → (w : List ℕ) (c m : ℕ) → reason_of (explanation_of limit s w c) ≡ accepted (Some m) → AfterEmpty r m → ⊥
 
 -- ---- monitors
 

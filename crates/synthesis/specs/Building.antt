@@ -9,8 +9,6 @@ use Rattle.synthesis.specs.Answering.{first_of, answer_of, unsatisfiable}
 use Rattle.synthesis.specs.Search.{index_of, found}
 use Rattle.synthesis.specs.Table.{filled}
 use Rattle.synthesis.specs.Merging.{rounds, firsts, merged}
-use Rattle.synthesis.specs.declared.Counted.{Counted}
-use Rattle.synthesis.specs.declared.Counted.TheVariants.{Equations, Refused}
 
 -- the equations of a rule in the order found: all of them where they are within the limit, else more than the limit
 unfoldable pub equations_of : (limit : ℕ) → Rule → List ℕ
@@ -50,9 +48,9 @@ unfoldable pub filling_of : (limit : ℕ) → List ℕ → (capacity : ℕ) → 
 filling_of limit s capacity = and_then (synthesis_of limit s) (in_table capacity)
 
 -- The answer of each outcome: the count of equations, or the refusal with the paper's number and place.
-abbrev pub counted_of : Outcome Synthesis → Counted
-counted_of (accepted y) = Equations (length y.equations)
-counted_of (refused number place) = Refused number place
+abbrev pub counted_of : Outcome Synthesis → Outcome ℕ
+counted_of (accepted y) = accepted (length y.equations)
+counted_of (refused number place) = refused number place
 
 -- What each outcome leaves in a table, with a mark for dropped: the rows of the equations, or no change.
 abbrev pub table_after : (mark : ℕ) → Outcome Synthesis → List ℕ → List ℕ
@@ -121,7 +119,7 @@ pub record FillsBy (outcome_of : (limit : ℕ) → List ℕ → (capacity : ℕ)
   pub below : limit ≤ mark
   pub bytes : Bytes s
   pub read : rule_of s ≡ accepted r
-  pub counted : counted_of (outcome_of limit s (length table)) ≡ Equations n
+  pub counted : counted_of (outcome_of limit s (length table)) ≡ accepted n
   pub left_is : left ≡ table_after mark (outcome_of limit s (length table)) table
 
 -- the long table

@@ -5,7 +5,6 @@ use Rattle.reading.specs.Rule.{Rule, Bytes}
 use Rattle.reading.specs.File.{Outcome, accepted, refused, and_then}
 use Rattle.synthesis.specs.Monitor.{kept, verdicts, ended, lookup}
 use Rattle.synthesis.specs.Building.{Synthesis, within_limit, synthesis_of, filling_of, short_of, short_filling_of, counted_of, table_after, FillsBy}
-use Rattle.synthesis.specs.declared.Counted.TheVariants.{Equations, Refused}
 
 -- ---- two limits
 
@@ -27,14 +26,14 @@ LimitsAgree = (limit limit' : ℕ) (s : List ℕ) → limit ≤ limit' → Agree
 -- the first limit; by the short table it then has the same count, too. A refusal other than 9 is the same under both. Refused with 9 under the first is what
 -- has a count over that limit under the second, and what is refused with 9 there as well. With 128 and `most` this says which files get another answer by C-19.
 pub record Stays (limit limit' : ℕ) (s : List ℕ) : Type 0 where
-  pub counted : (n : ℕ) → (counted_of (synthesis_of limit s) ≡ Equations n) ↔ ((counted_of (synthesis_of limit' s) ≡ Equations n) × (n ≤ limit))
-  pub short_counted : (m : ℕ) → counted_of (short_of limit s) ≡ Equations m → counted_of (short_of limit' s) ≡ Equations m
+  pub counted : (n : ℕ) → (counted_of (synthesis_of limit s) ≡ accepted n) ↔ ((counted_of (synthesis_of limit' s) ≡ accepted n) × (n ≤ limit))
+  pub short_counted : (m : ℕ) → counted_of (short_of limit s) ≡ accepted m → counted_of (short_of limit' s) ≡ accepted m
   pub others : (number place : ℕ) → (number ≡ 9 → ⊥)
-      → (counted_of (synthesis_of limit s) ≡ Refused number place) ↔ (counted_of (synthesis_of limit' s) ≡ Refused number place)
-  pub nine : (place : ℕ) → counted_of (synthesis_of limit s) ≡ Refused 9 place
-      → ((n : ℕ) × (limit < n) × (counted_of (synthesis_of limit' s) ≡ Equations n)) ⊎ (counted_of (synthesis_of limit' s) ≡ Refused 9 place)
-  pub over : (n : ℕ) → limit < n → counted_of (synthesis_of limit' s) ≡ Equations n → counted_of (synthesis_of limit s) ≡ Refused 9 0
-  pub still_nine : (place : ℕ) → counted_of (synthesis_of limit' s) ≡ Refused 9 place → counted_of (synthesis_of limit s) ≡ Refused 9 place
+      → (counted_of (synthesis_of limit s) ≡ refused number place) ↔ (counted_of (synthesis_of limit' s) ≡ refused number place)
+  pub nine : (place : ℕ) → counted_of (synthesis_of limit s) ≡ refused 9 place
+      → ((n : ℕ) × (limit < n) × (counted_of (synthesis_of limit' s) ≡ accepted n)) ⊎ (counted_of (synthesis_of limit' s) ≡ refused 9 place)
+  pub over : (n : ℕ) → limit < n → counted_of (synthesis_of limit' s) ≡ accepted n → counted_of (synthesis_of limit s) ≡ refused 9 0
+  pub still_nine : (place : ℕ) → counted_of (synthesis_of limit' s) ≡ refused 9 place → counted_of (synthesis_of limit s) ≡ refused 9 place
 
 abbrev pub OldRulesStay : Type 0
 OldRulesStay = (limit limit' : ℕ) (s : List ℕ) → limit ≤ limit' → Stays limit limit' s
@@ -60,7 +59,7 @@ pub record SameMeaning (n mark mark' : ℕ) (left left' : List ℕ) : Type 0 whe
 abbrev pub MeanTheSame : (outcome_of : (limit : ℕ) → List ℕ → (capacity : ℕ) → Outcome Synthesis) → Type 0
 MeanTheSame outcome_of =
     (limit mark limit' mark' : ℕ) (s table table' : List ℕ) (n n' : ℕ) → limit ≤ mark → limit' ≤ mark'
-    → counted_of (outcome_of limit s (length table)) ≡ Equations n → counted_of (outcome_of limit' s (length table')) ≡ Equations n'
+    → counted_of (outcome_of limit s (length table)) ≡ accepted n → counted_of (outcome_of limit' s (length table')) ≡ accepted n'
     → (n ≡ n') × SameMeaning n mark mark' (table_after mark (outcome_of limit s (length table)) table) (table_after mark' (outcome_of limit' s (length table')) table')
 
 -- With 128 and 255 on the one side, and `most` and `mark` on the other, this is the sentence of C-19: for every rule of the old size each row means the same as

@@ -8,13 +8,12 @@ use Rattle.synthesis.specs.Monitor.{mark, most, row_of}
 use Rattle.synthesis.specs.Building.{Synthesis, synthesis_of, filling_of, counted_of, table_after, table_left, Fills}
 use Rattle.synthesis.specs.Building.{preview_limit, preview_of, preview_filling_of}
 use Rattle.synthesis.specs.Promises.{FillsAsCounted, TableUnchanged, Closed}
-use Rattle.synthesis.specs.declared.Counted.TheVariants.{Equations, Refused}
 
 -- ---- what the page shows
 
 -- 1. The page answers n exactly where the desk does and n is at most 32.
 abbrev pub PreviewCounts : Type 0
-PreviewCounts = (s : List ℕ) (n : ℕ) → (counted_of (preview_of s) ≡ Equations n) ↔ ((counted_of (synthesis_of most s) ≡ Equations n) × (n ≤ preview_limit))
+PreviewCounts = (s : List ℕ) (n : ℕ) → (counted_of (preview_of s) ≡ accepted n) ↔ ((counted_of (synthesis_of most s) ≡ accepted n) × (n ≤ preview_limit))
 
 -- Filling on the page goes by this count, as it does at the desk by the desk's.
 abbrev pub PreviewFillsAsCounted : Type 0
@@ -23,19 +22,19 @@ PreviewFillsAsCounted = (s : List ℕ) (capacity : ℕ) → FillsAsCounted (prev
 -- Where the page answers n, both fillings answer the same for every table and leave the very same table. Two tables, each with the entries of n rows, get
 -- the same rows from the two, however long they are and whatever they held.
 pub record SameAtDesk (s : List ℕ) (n : ℕ) : Type 0 where
-  pub count : counted_of (synthesis_of most s) ≡ Equations n
+  pub count : counted_of (synthesis_of most s) ≡ accepted n
   pub answer : (capacity : ℕ) → counted_of (preview_filling_of s capacity) ≡ counted_of (filling_of most s capacity)
   pub table : (before : List ℕ) → table_after mark (preview_filling_of s (length before)) before ≡ table_left most mark s before
   pub rows : (table table' : List ℕ) → 256 * n ≤ length table → 256 * n ≤ length table' → (k : ℕ) → k < n
       → row_of 256 (table_after mark (preview_filling_of s (length table)) table) k ≡ row_of 256 (table_left most mark s table') k
 
 abbrev pub PreviewAgrees : Type 0
-PreviewAgrees = (s : List ℕ) (n : ℕ) → counted_of (preview_of s) ≡ Equations n → SameAtDesk s n
+PreviewAgrees = (s : List ℕ) (n : ℕ) → counted_of (preview_of s) ≡ accepted n → SameAtDesk s n
 
 -- So each table that the page fills is one that the desk fills, and what is promised of those is promised of it.
 abbrev pub PreviewFillsAccepted : Type 0
 PreviewFillsAccepted =
-    (s table : List ℕ) (n : ℕ) → Bytes s → counted_of (preview_filling_of s (length table)) ≡ Equations n
+    (s table : List ℕ) (n : ℕ) → Bytes s → counted_of (preview_filling_of s (length table)) ≡ accepted n
     → (r : Rule) × Fills most mark s table r n (table_after mark (preview_filling_of s (length table)) table)
 
 -- ---- what the page refuses
@@ -51,21 +50,21 @@ pub record OverLimit (limit : ℕ) (s : List ℕ) : Type 0 where
 -- 2. Counting on the page answers 18 exactly there, at place 0; and so does filling, since it is refused where counting is, and else with 10 alone.
 abbrev pub PreviewRefusesTooMany : Type 0
 PreviewRefusesTooMany =
-    (s : List ℕ) (place : ℕ) → Bytes s → (counted_of (preview_of s) ≡ Refused 18 place) ↔ ((place ≡ 0) × OverLimit preview_limit s)
+    (s : List ℕ) (place : ℕ) → Bytes s → (counted_of (preview_of s) ≡ refused 18 place) ↔ ((place ≡ 0) × OverLimit preview_limit s)
 
 -- The page never answers 9, in counting or in filling, and a refusal other than 18 is the desk's too, with the same place.
 pub record RefusesAsDesk (page desk : Outcome Synthesis) : Type 0 where
-  pub never_nine : (place : ℕ) → counted_of page ≡ Refused 9 place → ⊥
-  pub others : (number place : ℕ) → (number ≡ 18 → ⊥) → counted_of page ≡ Refused number place → counted_of desk ≡ Refused number place
+  pub never_nine : (place : ℕ) → counted_of page ≡ refused 9 place → ⊥
+  pub others : (number place : ℕ) → (number ≡ 18 → ⊥) → counted_of page ≡ refused number place → counted_of desk ≡ refused number place
 
 -- In counting, the desk's refusals are the page's as well, with 18 for 9. In filling, a refusal other than 18 leaves the table that the desk leaves.
 pub record PreviewRefusals (s : List ℕ) : Type 0 where
   pub counting : RefusesAsDesk (preview_of s) (synthesis_of most s)
-  pub nine_at_desk : (place : ℕ) → counted_of (synthesis_of most s) ≡ Refused 9 place → counted_of (preview_of s) ≡ Refused 18 place
-  pub other_at_desk : (number place : ℕ) → (number ≡ 9 → ⊥) → counted_of (synthesis_of most s) ≡ Refused number place
-      → counted_of (preview_of s) ≡ Refused number place
+  pub nine_at_desk : (place : ℕ) → counted_of (synthesis_of most s) ≡ refused 9 place → counted_of (preview_of s) ≡ refused 18 place
+  pub other_at_desk : (number place : ℕ) → (number ≡ 9 → ⊥) → counted_of (synthesis_of most s) ≡ refused number place
+      → counted_of (preview_of s) ≡ refused number place
   pub filling : (capacity : ℕ) → RefusesAsDesk (preview_filling_of s capacity) (filling_of most s capacity)
-  pub table : (before : List ℕ) (number place : ℕ) → (number ≡ 18 → ⊥) → counted_of (preview_filling_of s (length before)) ≡ Refused number place
+  pub table : (before : List ℕ) (number place : ℕ) → (number ≡ 18 → ⊥) → counted_of (preview_filling_of s (length before)) ≡ refused number place
       → table_after mark (preview_filling_of s (length before)) before ≡ table_left most mark s before
 
 abbrev pub PreviewRefuses : Type 0
@@ -74,13 +73,13 @@ PreviewRefuses = (s : List ℕ) → PreviewRefusals s
 -- A filling that is refused leaves every entry of the table as it was.
 abbrev pub PreviewRefusedUnchanged : Type 0
 PreviewRefusedUnchanged =
-    (s table : List ℕ) (number place : ℕ) → counted_of (preview_filling_of s (length table)) ≡ Refused number place
+    (s table : List ℕ) (number place : ℕ) → counted_of (preview_filling_of s (length table)) ≡ refused number place
     → TableUnchanged mark table (preview_filling_of s (length table))
 
 -- 3. What the desk answers with a count and the page refuses, the page refuses with 18 at place 0, and the count is over 32.
 abbrev pub MoreAtDesk : (page desk : Outcome Synthesis) → Type 0
 MoreAtDesk page desk =
-    (n number place : ℕ) → counted_of desk ≡ Equations n → counted_of page ≡ Refused number place → (number ≡ 18) × (place ≡ 0) × (preview_limit < n)
+    (n number place : ℕ) → counted_of desk ≡ accepted n → counted_of page ≡ refused number place → (number ≡ 18) × (place ≡ 0) × (preview_limit < n)
 
 abbrev pub DeskShowsMore : Type 0
 DeskShowsMore =

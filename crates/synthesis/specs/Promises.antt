@@ -11,7 +11,6 @@ use Rattle.synthesis.specs.Answering.{opening, opens_around, first_of, answer_of
 use Rattle.synthesis.specs.Table.{WellFormedTable}
 use Rattle.synthesis.specs.Building.{equations_of, Synthesis, synthesis_of, filling_of, counted_of, table_after, table_left, Fills}
 use Rattle.synthesis.specs.ReasonPromises.{ViolatesSomewhere, ReasonsExactly, ReasonsByEquation}
-use Rattle.synthesis.specs.declared.Counted.TheVariants.{Equations, Refused}
 
 -- ---- violation
 
@@ -65,15 +64,15 @@ pub record Counts (limit : ℕ) (s : List ℕ) (n : ℕ) : Type 0 where
   pub few : n ≤ limit
 
 abbrev pub AnswersCount : Type 0
-AnswersCount = (limit : ℕ) (s : List ℕ) (n : ℕ) → counted_of (synthesis_of limit s) ≡ Equations n → Counts limit s n
+AnswersCount = (limit : ℕ) (s : List ℕ) (n : ℕ) → counted_of (synthesis_of limit s) ≡ accepted n → Counts limit s n
 
 -- Filling a table of so many entries goes by counting: it is refused where counting is, with the same number and place, and where counting answers n it
 -- answers n, if 256 × n entries are there, and else 10. What it fills in is what was counted. Both tables are filled so.
 pub record FillsAsCounted (counting filling : Outcome Synthesis) (capacity : ℕ) : Type 0 where
-  pub refused : (number place : ℕ) → counted_of counting ≡ Refused number place → counted_of filling ≡ Refused number place
-  pub enough : (n : ℕ) → counted_of counting ≡ Equations n → 256 * n ≤ capacity → counted_of filling ≡ Equations n
-  pub too_short : (n : ℕ) → counted_of counting ≡ Equations n → capacity < 256 * n → counted_of filling ≡ Refused 10 0
-  pub same : (n : ℕ) → counted_of filling ≡ Equations n → filling ≡ counting
+  pub refused : (number place : ℕ) → counted_of counting ≡ refused number place → counted_of filling ≡ refused number place
+  pub enough : (n : ℕ) → counted_of counting ≡ accepted n → 256 * n ≤ capacity → counted_of filling ≡ accepted n
+  pub too_short : (n : ℕ) → counted_of counting ≡ accepted n → capacity < 256 * n → counted_of filling ≡ refused 10 0
+  pub same : (n : ℕ) → counted_of filling ≡ accepted n → filling ≡ counting
 
 -- A filling that is refused leaves every entry of what it is lent as it was: the table.
 pub record TableUnchanged (mark : ℕ) (before : List ℕ) (outcome : Outcome Synthesis) : Type 0 where
@@ -81,7 +80,7 @@ pub record TableUnchanged (mark : ℕ) (before : List ℕ) (outcome : Outcome Sy
 
 abbrev pub RefusedUnchanged : Type 0
 RefusedUnchanged =
-    (limit mark : ℕ) (s table : List ℕ) (number place : ℕ) → counted_of (filling_of limit s (length table)) ≡ Refused number place
+    (limit mark : ℕ) (s table : List ℕ) (number place : ℕ) → counted_of (filling_of limit s (length table)) ≡ refused number place
     → TableUnchanged mark table (filling_of limit s (length table))
 
 -- ---- the table that filling leaves, as a monitor
@@ -90,7 +89,7 @@ RefusedUnchanged =
 -- is promised of each that isn't refused.
 abbrev pub FillsAccepted : Type 0
 FillsAccepted =
-    (limit mark : ℕ) (s table : List ℕ) (n : ℕ) → limit ≤ mark → Bytes s → counted_of (filling_of limit s (length table)) ≡ Equations n
+    (limit mark : ℕ) (s table : List ℕ) (n : ℕ) → limit ≤ mark → Bytes s → counted_of (filling_of limit s (length table)) ≡ accepted n
     → (r : Rule) × Fills limit mark s table r n (table_left limit mark s table)
 
 -- 4. The table that filling leaves monitors the rule, whatever it held before. The mark for dropped is any number that no equation
@@ -121,7 +120,7 @@ TableDrops =
 abbrev pub RefusesViolatedByEmpty : Type 0
 RefusesViolatedByEmpty =
     (limit : ℕ) (s : List ℕ) → Bytes s → (r : Rule) → rule_of s ≡ accepted r
-    → (counted_of (synthesis_of limit s) ≡ Refused 8 0) ↔ ViolatesRule r []
+    → (counted_of (synthesis_of limit s) ≡ refused 8 0) ↔ ViolatesRule r []
 
 -- and one that isn't, with 9 exactly when too many equations are reached: no list of at most `limit` sets has the first equation and,
 -- with each of its sets, what the codes make of it.
@@ -131,8 +130,8 @@ pub record Closed (r : Rule) (es : List ℕ) : Type 0 where
 
 abbrev pub RefusesTooMany : Type 0
 RefusesTooMany =
-    (limit : ℕ) (s : List ℕ) (r : Rule) → rule_of s ≡ accepted r → (counted_of (synthesis_of limit s) ≡ Refused 8 0 → ⊥)
-    → (counted_of (synthesis_of limit s) ≡ Refused 9 0) ↔ ((es : List ℕ) → length es ≤ limit → Closed r es → ⊥)
+    (limit : ℕ) (s : List ℕ) (r : Rule) → rule_of s ≡ accepted r → (counted_of (synthesis_of limit s) ≡ refused 8 0 → ⊥)
+    → (counted_of (synthesis_of limit s) ≡ refused 9 0) ↔ ((es : List ℕ) → length es ≤ limit → Closed r es → ⊥)
 
 -- ---- the equations and their numbers
 
@@ -148,7 +147,7 @@ pub record ReachableEquations (r : Rule) (es : List ℕ) : Type 0 where
 
 abbrev pub ReachesEquations : Type 0
 ReachesEquations =
-    (limit : ℕ) (s : List ℕ) → Bytes s → (r : Rule) (n : ℕ) → rule_of s ≡ accepted r → counted_of (synthesis_of limit s) ≡ Equations n
+    (limit : ℕ) (s : List ℕ) → Bytes s → (r : Rule) (n : ℕ) → rule_of s ≡ accepted r → counted_of (synthesis_of limit s) ≡ accepted n
     → ReachableEquations r (equations_of limit r)
 
 -- Two numbers with the same members are the same number. So equations that differ as numbers differ as sets, and the count is one of sets.

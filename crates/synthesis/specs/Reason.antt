@@ -11,8 +11,6 @@ use Rattle.synthesis.specs.NodeSet.{has, empty_set, intersection}
 use Rattle.synthesis.specs.Opening.{IsFalsity, Leads}
 use Rattle.synthesis.specs.Answering.{falsities, reached, first_of, answer_of}
 use Rattle.synthesis.specs.Building.{synthesis_of}
-use Rattle.synthesis.specs.declared.Reason.{Reason}
-use Rattle.synthesis.specs.declared.Reason.TheVariants.{Kept, Node as AtNode, Refused}
 
 -- ---- by violation
 
@@ -87,9 +85,9 @@ unfoldable pub explanation_of : (limit : ℕ) → (s w : List ℕ) → (c : ℕ)
 explanation_of limit s w c = and_then (synthesis_of limit s) (λ y. opened_after y.rule w c)
 
 -- What is said of a scan by the ff nodes that it opens: it is kept where there is none, and else the lowest is the reason. A rule has at most 64 nodes.
-abbrev pub lowest_reason : (set : ℕ) → Reason
-lowest_reason set = cond (eqb set empty_set) Kept (AtNode (least 64 (has set)))
+abbrev pub lowest_reason : (set : ℕ) → Option ℕ
+lowest_reason set = cond (eqb set empty_set) None (Some (least 64 (has set)))
 
--- The answer of each outcome: kept, the number of an ff node, or the refusal with the paper's number and place.
-abbrev pub reason_of : Outcome ℕ → Reason
-reason_of = by_case lowest_reason Refused
+-- The answer of each outcome: none where the scan is kept, the number of an ff node, or the refusal with the paper's number and place.
+abbrev pub reason_of : Outcome ℕ → Outcome (Option ℕ)
+reason_of = by_case (λ set. accepted (lowest_reason set)) refused

@@ -9,9 +9,6 @@ use Rattle.synthesis.specs.Opening.{IsFalsity}
 use Rattle.synthesis.specs.Answering.{first_of, answer_of}
 use Rattle.synthesis.specs.Building.{synthesis_of, counted_of, Fills}
 use Rattle.synthesis.specs.Reason.{ViolatesAt, only_falsity, LowestPlace, FirstViolated, LowestOpened, explanation_of, reason_of}
-use Rattle.synthesis.specs.declared.Counted.TheVariants as Counted
-use Rattle.synthesis.specs.declared.Reason.{Reason}
-use Rattle.synthesis.specs.declared.Reason.TheVariants.{Kept, Node, Refused}
 
 -- ---- places add nothing to violation
 
@@ -27,25 +24,25 @@ ViolatesSomewhere = (r : Rule) → WellFormed (length r.patterns) [] r.formula �
 
 -- ---- what is said of the scan c after the scans w
 
-pub record Explained (r : Rule) (w : List ℕ) (c : ℕ) (reason : Reason) : Type 0 where
+pub record Explained (r : Rule) (w : List ℕ) (c : ℕ) (reason : Outcome (Option ℕ)) : Type 0 where
   -- 17 stands at the last scan of the shortest front that violates the rule
-  pub unfit : (i : ℕ) → (reason ≡ Refused 17 i) ↔ FirstViolated r w i
+  pub unfit : (i : ℕ) → (reason ≡ refused 17 i) ↔ FirstViolated r w i
   -- a scan is kept where the list with it doesn't violate the rule
-  pub kept : (reason ≡ Kept) ↔ (ViolatesRule r (w ++ (c ∷ [])) → ⊥)
+  pub kept : (reason ≡ accepted None) ↔ (ViolatesRule r (w ++ (c ∷ [])) → ⊥)
   -- a node is the lowest at which the list with the scan violates the rule, where the list alone doesn't
-  pub node : (m : ℕ) → (reason ≡ Node m) ↔ ((ViolatesRule r w → ⊥) × LowestPlace r (w ++ (c ∷ [])) m)
+  pub node : (m : ℕ) → (reason ≡ accepted (Some m)) ↔ ((ViolatesRule r w → ⊥) × LowestPlace r (w ++ (c ∷ [])) m)
   -- it is the lowest that the scan opens in the equation to which the list leads
-  pub opened : (m : ℕ) → (reason ≡ Node m) ↔ ((ViolatesRule r w → ⊥) × LowestOpened r (ended (answer_of r) (first_of r) w) c m)
+  pub opened : (m : ℕ) → (reason ≡ accepted (Some m)) ↔ ((ViolatesRule r w → ⊥) × LowestOpened r (ended (answer_of r) (first_of r) w) c m)
   -- it is a node of the rule
-  pub inside : (m : ℕ) → reason ≡ Node m → m < size r.formula
+  pub inside : (m : ℕ) → reason ≡ accepted (Some m) → m < size r.formula
   -- nothing else is said
-  pub only : (reason ≡ Kept) ⊎ (((m : ℕ) × (reason ≡ Node m)) ⊎ ((i : ℕ) × (reason ≡ Refused 17 i)))
+  pub only : (reason ≡ accepted None) ⊎ (((m : ℕ) × (reason ≡ accepted (Some m))) ⊎ ((i : ℕ) × (reason ≡ refused 17 i)))
 
 -- Where counting refuses the rule file, `explain` does so with the same number and place; and else it explains.
 pub record Reasons (limit : ℕ) (s w : List ℕ) (c : ℕ) : Type 0 where
-  pub refused : (number place : ℕ) → counted_of (synthesis_of limit s) ≡ Counted.Refused number place
-      → reason_of (explanation_of limit s w c) ≡ Refused number place
-  pub explained : (r : Rule) (n : ℕ) → rule_of s ≡ accepted r → counted_of (synthesis_of limit s) ≡ Counted.Equations n
+  pub refused : (number place : ℕ) → counted_of (synthesis_of limit s) ≡ refused number place
+      → reason_of (explanation_of limit s w c) ≡ refused number place
+  pub explained : (r : Rule) (n : ℕ) → rule_of s ≡ accepted r → counted_of (synthesis_of limit s) ≡ accepted n
       → Explained r w c (reason_of (explanation_of limit s w c))
 
 abbrev pub ReasonsExactly : Type 0

@@ -9,15 +9,14 @@ use Rattle.synthesis.specs.Table.{WellFormedTable}
 use Rattle.synthesis.specs.Merging.{DropAlike, tabulate}
 use Rattle.synthesis.specs.Building.{Synthesis, synthesis_of, short_of, short_filling_of, counted_of, table_after, Fills, FillsShort}
 use Rattle.synthesis.specs.Promises.{FillsAsCounted, DropsViolations, AsFound, SameAfterRows, TableUnchanged}
-use Rattle.synthesis.specs.declared.Counted.TheVariants.{Equations, Refused}
 
 -- ---- answers
 
 -- 1. Counting for the short table is refused with a number and a place exactly when counting is. Else its count is at least 1 and at most that of the
 -- long table.
 pub record RefusesAlike (limit : ℕ) (s : List ℕ) : Type 0 where
-  pub refused : (number place : ℕ) → (counted_of (short_of limit s) ≡ Refused number place) ↔ (counted_of (synthesis_of limit s) ≡ Refused number place)
-  pub counted : (n : ℕ) → counted_of (synthesis_of limit s) ≡ Equations n → (m : ℕ) × (counted_of (short_of limit s) ≡ Equations m) × (1 ≤ m) × (m ≤ n)
+  pub refused : (number place : ℕ) → (counted_of (short_of limit s) ≡ refused number place) ↔ (counted_of (synthesis_of limit s) ≡ refused number place)
+  pub counted : (n : ℕ) → counted_of (synthesis_of limit s) ≡ accepted n → (m : ℕ) × (counted_of (short_of limit s) ≡ accepted m) × (1 ≤ m) × (m ≤ n)
 
 abbrev pub ShortRefusesAlike : Type 0
 ShortRefusesAlike = (limit : ℕ) (s : List ℕ) → RefusesAlike limit s
@@ -29,13 +28,13 @@ ShortFillsAsCounted = (limit : ℕ) (s : List ℕ) (capacity : ℕ) → FillsAsC
 -- A filling that is refused leaves every entry of the table as it was.
 abbrev pub ShortRefusedUnchanged : Type 0
 ShortRefusedUnchanged =
-    (limit mark : ℕ) (s table : List ℕ) (number place : ℕ) → counted_of (short_filling_of limit s (length table)) ≡ Refused number place
+    (limit mark : ℕ) (s table : List ℕ) (number place : ℕ) → counted_of (short_filling_of limit s (length table)) ≡ refused number place
     → TableUnchanged mark table (short_filling_of limit s (length table))
 
 -- Where it answers a list of bytes with a count, the file fills the table.
 abbrev pub ShortFillsAccepted : Type 0
 ShortFillsAccepted =
-    (limit mark : ℕ) (s table : List ℕ) (n : ℕ) → limit ≤ mark → Bytes s → counted_of (short_filling_of limit s (length table)) ≡ Equations n
+    (limit mark : ℕ) (s table : List ℕ) (n : ℕ) → limit ≤ mark → Bytes s → counted_of (short_filling_of limit s (length table)) ≡ accepted n
     → (r : Rule) × FillsShort limit mark s table r n (table_after mark (short_filling_of limit s (length table)) table)
 
 -- What it accepts is of the file's rule.

@@ -1,7 +1,5 @@
 -- Numbers in any base, digests, and the count in an answer.
 use Rattle.std.specs.Prelude.{ℕ, ◌+◌, ◌*◌, ◌%◌, ◌≤◌, List, [], ◌∷◌}
-use Rattle.synthesis.specs.declared.Counted.{Counted}
-use Rattle.synthesis.specs.declared.Counted.TheVariants.{Equations, Refused}
 use Rattle.testing.specs.declared.numbers.Head.{Head}
 use Rattle.testing.specs.declared.numbers.Head.TheVariants.{Number, Ended}
 use Rattle.testing.specs.declared.records.Part.{Part}
@@ -27,6 +25,6 @@ Inside len (Between at end) = (at ≤ end) × (end ≤ len)
 Inside len Outside = Unit
 
 -- how many equations an answer says; none where it is a refusal
-abbrev pub count_in : Counted → ℕ
-count_in (Equations n) = n
-count_in (Refused number place) = 0
+abbrev pub count_in : Outcome ℕ → ℕ
+count_in (accepted n) = n
+count_in (refused number place) = 0

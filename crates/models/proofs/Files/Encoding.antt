@@ -10,7 +10,6 @@ use lib.Dec.{eqb, ltb}
 use borrow.Author.Tests.{ltb-false, eqb-true, eqb-false, le-ltb, ne_eqb, not-false}
 use Rattle.reading.specs.Rule.{Bytes}
 use Rattle.reading.specs.File.{Outcome, accepted, refused}
-use Rattle.reading.specs.declared.FileRead.TheVariants.{Accepted}
 use Rattle.reading.proofs.Basics.EncodeLaws.{encode_each-bytes}
 use Rattle.reading.proofs.Basics.Outcomes.{accepted_is, and_then-accepted, and_then-accepts, refuse_accepted}
 use Rattle.reading.proofs.Basics.Places.{from_place}
@@ -102,7 +101,7 @@ encode_bytes y w =
 
 -- ---- what is handed up of it
 
-pub phone_accepted : (o : Outcome Phone) → (model_reading_of o).answer ≡ Accepted
+pub phone_accepted : (o : Outcome Phone) → (model_reading_of o).answer ≡ FILE_ACCEPTED
     → (y : Phone) × (o ≡ accepted y) × ((model_reading_of o).model ≡ stored y)
 phone_accepted (accepted y) e = (y, refl, refl)
 phone_accepted (refused number place) e = let z : ◌≡◌ {A = ℕ} 0 1 = cc in absurd (omega arith)

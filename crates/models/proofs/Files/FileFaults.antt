@@ -13,7 +13,6 @@ use Rattle.reading.specs.Faults.{KindAt}
 use Rattle.reading.specs.Rule.{Bytes}
 use Rattle.reading.specs.File.{Outcome, accepted, refused, refuse, and_then, records_at}
 use Rattle.reading.specs.Representations.{record_at}
-use Rattle.reading.specs.declared.FileRead.TheVariants.{Refused}
 use Rattle.models.specs.Phone.{Phone, states_kind, is_step, states_of, among, ending_at, step_at, record_length, step_format, steps_at, phone_of}
 use Rattle.models.specs.Judging.{model_reading_of}
 use Rattle.models.specs.Faults.{ModelBefore, BeginsModel, IsCount, IsStep, after_step}
@@ -198,7 +197,7 @@ answer_is : (o : Outcome Phone) → (model_reading_of o).answer ≡ acceptance_o
 answer_is (accepted y) = refl
 answer_is (refused number place) = refl
 
-pub model_refused : (o : Outcome Phone) (number place : ℕ) → (o ≡ refused number place) ↔ ((model_reading_of o).answer ≡ Refused number place)
+pub model_refused : (o : Outcome Phone) (number place : ℕ) → (o ≡ refused number place) ↔ ((model_reading_of o).answer ≡ refused number place)
 model_refused o number place = rw (answer_is o) (acceptance_refused o number place)
 
 pub refuses_at_the_fault : RefusesAtTheFault

@@ -17,7 +17,6 @@ use Rattle.synthesis.specs.Answering.{unsatisfiable}
 use Rattle.synthesis.specs.Building.{equations_of, Synthesis, with_equations, synthesis_of, filling_of, counted_of, short_of, short_filling_of}
 use Rattle.synthesis.specs.Building.{preview_limit, preview_of, preview_filling_of}
 use Rattle.synthesis.specs.Promises.{FillsAsCounted}
-use Rattle.synthesis.specs.declared.Counted.TheVariants.{Equations, Refused}
 use Rattle.synthesis.proofs.Monitors.RuleMonitor.{unsatisfiable_iff}
 use Rattle.synthesis.proofs.Tables.SynthesisOutcomes.{synthesis_of_lem, fills_as_counted, short_fills_as_counted}
 use Rattle.synthesis.proofs.Tables.Equations.{file_well_formed, answers_count, reaches_equations, refuses_too_many}
@@ -54,21 +53,21 @@ still_satisfies r = (quiet_satisfies still (λ s t a x. absurd (omega (arith, x.
 
 -- accepted, where neither of the two checks refuses
 unrefused_counted : (y : Synthesis) (b b' : Bool) (o : Outcome Synthesis) → o ≡ refuse b 8 0 (refuse b' 9 0 (accepted y))
-    → (counted_of o ≡ Refused 8 0 → ⊥) → (counted_of o ≡ Refused 9 0 → ⊥) → (n : ℕ) × (counted_of o ≡ Equations n)
+    → (counted_of o ≡ refused 8 0 → ⊥) → (counted_of o ≡ refused 9 0 → ⊥) → (n : ℕ) × (counted_of o ≡ accepted n)
 unrefused_counted y true b' o e eight nine = absurd (eight (rw e))
 unrefused_counted y false true o e eight nine = absurd (nine (rw e))
 unrefused_counted y false false o e eight nine = (length y.equations, rw e)
 
 module _ (limit : ℕ) (s : List ℕ) (bytes : Bytes s) where
-  unrefused_satisfies : (r : Rule) → rule_of s ≡ accepted r → (counted_of (synthesis_of limit s) ≡ Refused 8 0 → ⊥) → Satisfies still r
+  unrefused_satisfies : (r : Rule) → rule_of s ≡ accepted r → (counted_of (synthesis_of limit s) ≡ refused 8 0 → ⊥) → Satisfies still r
   unrefused_satisfies r read other = still_satisfies r (λ v. other ((refuses_violated_by_empty limit s bytes r read).1 v))
 
   -- so some finite model satisfies a rule that isn't refused with 8
-  pub unrefused_satisfiable : (r : Rule) → rule_of s ≡ accepted r → (counted_of (synthesis_of limit s) ≡ Refused 8 0 → ⊥)
+  pub unrefused_satisfiable : (r : Rule) → rule_of s ≡ accepted r → (counted_of (synthesis_of limit s) ≡ refused 8 0 → ⊥)
       → (m : Model) × Finite m × Satisfies m r
   unrefused_satisfiable r read other = (still, phones_finite still_phone, unrefused_satisfies r read other)
 
-  pub counted_acceptable : (n : ℕ) → counted_of (synthesis_of limit s) ≡ Equations n → Acceptable limit s
+  pub counted_acceptable : (n : ℕ) → counted_of (synthesis_of limit s) ≡ accepted n → Acceptable limit s
   counted_acceptable n e =
       let counts = answers_count limit s n e in
       let r = counts.rule in
@@ -86,21 +85,21 @@ module _ (limit : ℕ) (s : List ℕ) (bytes : Bytes s) where
       }
 
   module _ (r : Rule) (read : rule_of s ≡ accepted r) where
-    refused_unsatisfiable : counted_of (synthesis_of limit s) ≡ Refused 8 0 → (m : Model) → Satisfies m r → ⊥
+    refused_unsatisfiable : counted_of (synthesis_of limit s) ≡ refused 8 0 → (m : Model) → Satisfies m r → ⊥
     refused_unsatisfiable e m sat = empty_safe m r sat ((refuses_violated_by_empty limit s bytes r read).0 e)
 
-    unsatisfiable_refused : (Satisfies still r → ⊥) → counted_of (synthesis_of limit s) ≡ Refused 8 0
+    unsatisfiable_refused : (Satisfies still r → ⊥) → counted_of (synthesis_of limit s) ≡ refused 8 0
     unsatisfiable_refused none = (refuses_violated_by_empty limit s bytes r read).1 (on (unsatisfiable r) refl)
       where
         on : (b : Bool) → unsatisfiable r ≡ b → ViolatesRule r []
         on true q = (unsatisfiable_iff r (file_well_formed s bytes r read)).0 q
         on false q = absurd (none (still_satisfies r (λ v. true≢false (sym ((unsatisfiable_iff r (file_well_formed s bytes r read)).1 v) ∙ q))))
 
-  pub acceptable_counted : Acceptable limit s → (n : ℕ) × (counted_of (synthesis_of limit s) ≡ Equations n)
+  pub acceptable_counted : Acceptable limit s → (n : ℕ) × (counted_of (synthesis_of limit s) ≡ accepted n)
   acceptable_counted a =
       let r = a.rule in
       let read : rule_of s ≡ accepted r = (accepts_encodings s bytes r).1 (a.within_limits, a.encoded) in
-      let eight : counted_of (synthesis_of limit s) ≡ Refused 8 0 → ⊥ = λ e. refused_unsatisfiable r read e a.model a.satisfied in
+      let eight : counted_of (synthesis_of limit s) ≡ refused 8 0 → ⊥ = λ e. refused_unsatisfiable r read e a.model a.satisfied in
       unrefused_counted (with_equations limit r) (unsatisfiable r) (ltb limit (length (equations_of limit r))) (synthesis_of limit s) (synthesis_of_lem limit s r read)
       eight (λ e. (refuses_too_many limit s r read eight).0 e a.equations a.few a.closed)
 
@@ -118,19 +117,19 @@ short_accepts_exactly limit s bytes =
 
 -- filling, where counting answers a count exactly for these rules
 filled_with_room : (limit : ℕ) (s : List ℕ) (counting filling : Outcome Synthesis) (capacity : ℕ)
-    → ((n : ℕ) × (counted_of counting ≡ Equations n)) ↔ Acceptable limit s → FillsAsCounted counting filling capacity
+    → ((n : ℕ) × (counted_of counting ≡ accepted n)) ↔ Acceptable limit s → FillsAsCounted counting filling capacity
     → FillsWithRoom limit s counting filling capacity
 filled_with_room limit s counting filling capacity accepts fills = (
   λ (n, e).
-      let counted : counted_of counting ≡ Equations n = rw (← fills.same n e) e in
+      let counted : counted_of counting ≡ accepted n = rw (← fills.same n e) e in
       (accepts.0 (n, counted), λ m e'. on m e' (dec_le (256 * m) capacity) n e),
   λ (a, room). let (n, e) = accepts.1 a in (n, fills.enough n e (room n e)),
 )
   where
-    on : (m : ℕ) → counted_of counting ≡ Equations m → Dec (256 * m ≤ capacity) → (n : ℕ) → counted_of filling ≡ Equations n → 256 * m ≤ capacity
+    on : (m : ℕ) → counted_of counting ≡ accepted m → Dec (256 * m ≤ capacity) → (n : ℕ) → counted_of filling ≡ accepted n → 256 * m ≤ capacity
     on m e' (yes h) n e = h
     on m e' (no h) n e =
-        let short : counted_of filling ≡ Refused 10 0 = fills.too_short m e' (omega (arith, h)) in
+        let short : counted_of filling ≡ refused 10 0 = fills.too_short m e' (omega (arith, h)) in
         absurd (let z : ◌≡◌ {A = ℕ} 0 1 = cc in omega arith)
 
 pub fills_exactly : FillsExactly

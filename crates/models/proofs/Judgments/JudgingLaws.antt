@@ -14,8 +14,6 @@ use Rattle.enforcement.specs.Model.{Satisfies}
 use Rattle.models.specs.Phone.{Phone, model_of, phone_of}
 use Rattle.models.specs.Judging.{RuleAndModel, judging_of, JudgedAs, table_judged}
 use Rattle.models.specs.Promises.{JudgedExactly, JudgesExactly, JudgingLeaves, RefusedUnchanged}
-use Rattle.models.specs.declared.Judged.{Judged}
-use Rattle.models.specs.declared.Judged.TheVariants.{Meets, Breaks}
 use Rattle.models.proofs.Phones.DecidedSets.{decided_satisfies}
 use Rattle.models.proofs.Judgments.JudgingOrder.{judging_accepts}
 
@@ -24,7 +22,7 @@ pub judging_case : {limit mark : ℕ} {s table : List ℕ} {r : Rule} {n : ℕ} 
     → (f : List ℕ) (y : Phone) → phone_of f ≡ accepted y → judging_of limit s (length table) f ≡ accepted (record { rule = r; phone = y })
 judging_case b f y read = judging_accepts _ _ _ (fills_outcome b) f read
 
-judged_case : (r : Rule) (y : Phone) (answer : Judged) → JudgedAs (accepted (record { rule = r; phone = y })) answer → JudgedExactly r y answer
+judged_case : (r : Rule) (y : Phone) (answer : Outcome Judgment) → JudgedAs (accepted (record { rule = r; phone = y })) answer → JudgedExactly r y answer
 judged_case r y answer (inl (q, sat)) =
     let meets = (decided_satisfies y r).0 sat in
     record {
@@ -41,7 +39,7 @@ pub judges_exactly : JudgesExactly
 judges_exactly limit mark s table r n left b f y answer read judged = judged_case r y answer (rw (judging_case b f y read) at judged)
 
 -- two judgments of models that satisfy their rules alike are the same
-pub judged_same : (r r' : Rule) (y y' : Phone) → Satisfies (model_of y) r ↔ Satisfies (model_of y') r' → (one other : Judged)
+pub judged_same : (r r' : Rule) (y y' : Phone) → Satisfies (model_of y) r ↔ Satisfies (model_of y') r' → (one other : Outcome Judgment)
     → JudgedAs (accepted (record { rule = r; phone = y })) one → JudgedAs (accepted (record { rule = r'; phone = y' })) other → one ≡ other
 judged_same r r' y y' alike one other judged judged' = on judged
   where
@@ -57,7 +55,7 @@ judged_same r r' y y' alike one other judged judged' = on judged
 
 -- ---- the table
 
-table_left_lem : (o : Outcome RuleAndModel) (answer : Judged) (before left : List ℕ) → JudgedAs o answer
+table_left_lem : (o : Outcome RuleAndModel) (answer : Outcome Judgment) (before left : List ℕ) → JudgedAs o answer
     → JudgingLeaves answer before left (table_judged o left before)
 table_left_lem (accepted x) answer before left (inl (q, sat)) =
     record { refused = λ e. absurd (let z : ◌≡◌ {A = ℕ} 0 1 = cc in omega arith); judged = λ e. refl }
@@ -65,7 +63,7 @@ table_left_lem (accepted x) answer before left (inr (q, none)) =
     record { refused = λ e. absurd (let z : ◌≡◌ {A = ℕ} 0 1 = cc in omega arith); judged = λ e. refl }
 table_left_lem (refused number place) answer before left q = record { refused = λ e. refl; judged = λ e. absurd (refused_not_judged e) }
   where
-    refused_not_judged : (answer ≡ Meets) ⊎ (answer ≡ Breaks) → ⊥
+    refused_not_judged : (answer ≡ accepted Meets) ⊎ (answer ≡ accepted Breaks) → ⊥
     refused_not_judged (inl e) = let z : ◌≡◌ {A = ℕ} 0 1 = cc in omega arith
     refused_not_judged (inr e) = let z : ◌≡◌ {A = ℕ} 0 1 = cc in omega arith
 

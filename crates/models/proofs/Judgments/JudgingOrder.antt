@@ -9,13 +9,10 @@ use Rattle.reading.specs.File.{accepted, refused, and_then}
 use Rattle.reading.proofs.Basics.Outcomes.{and_then-accepts}
 use Rattle.synthesis.specs.Building.{Synthesis, synthesis_of, filling_of, counted_of}
 use Rattle.synthesis.specs.Promises.{FillsAsCounted}
-use Rattle.synthesis.specs.declared.Counted.TheVariants.{Equations}
 use Rattle.synthesis.proofs.Tables.SynthesisOutcomes.{counted_accepts, counted_refuses, filling_within_lem, fills_as_counted}
 use Rattle.models.specs.Phone.{Phone, phone_of}
 use Rattle.models.specs.Judging.{RuleAndModel, with_model, judging_of, JudgedAs}
 use Rattle.models.specs.Promises.{JudgesInOrder}
-use Rattle.models.specs.declared.Judged.{Judged}
-use Rattle.models.specs.declared.Judged.TheVariants.{Meets, Breaks}
 use Rattle.models.proofs.Files.Encoding.{phone_accepted}
 use Rattle.models.proofs.Files.FileFaults.{model_refused}
 
@@ -41,7 +38,7 @@ unfolding judging_of
 judging_within_lem limit s capacity room f = rw (filling_within_lem limit s capacity room)
 
 -- what isn't refused is judged
-meets_or_breaks : (x : RuleAndModel) (answer : Judged) → JudgedAs (accepted x) answer → (answer ≡ Meets) ⊎ (answer ≡ Breaks)
+meets_or_breaks : (x : RuleAndModel) (answer : Outcome Judgment) → JudgedAs (accepted x) answer → (answer ≡ accepted Meets) ⊎ (answer ≡ accepted Breaks)
 meets_or_breaks x answer (inl (q, sat)) = inl q
 meets_or_breaks x answer (inr (q, none)) = inr q
 
@@ -64,6 +61,6 @@ judges_in_order limit s capacity f answer judged = record {
     refuses : (number place : ℕ) → judging_of limit s capacity f ≡ refused number place → JudgedAs (refused number place) answer
     refuses number place e = rw e at judged
 
-    filled : (n : ℕ) → counted_of (synthesis_of limit s) ≡ Equations n → 256 * n ≤ capacity
+    filled : (n : ℕ) → counted_of (synthesis_of limit s) ≡ accepted n → 256 * n ≤ capacity
         → (y : Synthesis) × (filling_of limit s capacity ≡ accepted y) × (n ≡ length y.equations)
     filled n e room = counted_accepts (filling_of limit s capacity) n (counts.enough n e room)

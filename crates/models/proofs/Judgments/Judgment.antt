@@ -9,12 +9,9 @@ use native.Mathlib.Omega.{arith}
 use lib.ListN.{length}
 use Rattle.reading.specs.Rule.{Rule, Bytes}
 use Rattle.reading.specs.File.{Outcome, accepted, refused}
-use Rattle.reading.specs.declared.FileRead as FileRead'
 use Rattle.synthesis.specs.Monitor.{mark, most, lookup}
 use Rattle.synthesis.specs.Table.{WellFormedTable}
 use Rattle.synthesis.specs.Building.{Synthesis, filling_of, counted_of, table_after, table_left, Fills}
-use Rattle.synthesis.specs.declared.Counted.{Counted}
-use Rattle.synthesis.specs.declared.Counted.TheVariants.{Equations, Refused}
 use Rattle.synthesis.proofs.Tables.WellFormedTables.{well_formed_weaken}
 use Rattle.synthesis.proofs.Tables.SynthesisOutcomes.{counted_refuses}
 use Rattle.synthesis.proofs.Tables.Built.{fills_accepted, table_monitors, built_well_formed}
@@ -25,8 +22,6 @@ use Rattle.models.specs.Readings.{rule_refusal, refusal_before}
 use Rattle.models.specs.Exploring.{NeverDrops, HasPhone}
 use Rattle.models.specs.declared.PhoneModel.{PhoneModel}
 use Rattle.models.specs.declared.ModelReading.{ModelReading}
-use Rattle.models.specs.declared.Judged.{Judged}
-use Rattle.models.specs.declared.Judged as Judged'
 use Rattle.enforcement.proofs.SatisfactionLaws.{satisfies_safe}
 use Rattle.models.proofs.Pairs.NeverDropping.{never_drops_safe}
 use Rattle.models.proofs.Files.ReadModels.{ModelRead, model_read, model_unread}
@@ -39,7 +34,7 @@ use Rattle.models.proofs.Judgments.JudgingLaws.{judging_case}
 
 module _ (limit : ℕ) (small : limit ≤ most) (s table f : List ℕ) where
   -- what a call answers, and the table after it
-  abbrev Judges : (answer : Judged) → (after : List ℕ) → Type 0
+  abbrev Judges : (answer : Outcome Judgment) → (after : List ℕ) → Type 0
   Judges answer after =
       JudgedAs (judging_of limit s (length table) f) answer
       × (after ≡ table_judged (judging_of limit s (length table) f) (table_left limit mark s table) table)
@@ -47,23 +42,23 @@ module _ (limit : ℕ) (small : limit ≤ most) (s table f : List ℕ) where
   -- ---- the answer where the rule or the model is refused
 
   refused_judges : {number place : ℕ} → judging_of limit s (length table) f ≡ refused number place
-      → Judges (Judged'.TheVariants.Refused number place) table
+      → Judges (refused number place) table
   refused_judges e = rw e (refl, refl)
 
-  pub judges_model_refused : {reading : ModelReading} {number place : ℕ} {r : Judged} → reading ≡ model_reading_of (phone_of f)
-      → reading.answer ≡ FileRead'.TheVariants.Refused number place
+  pub judges_model_refused : {reading : ModelReading} {number place : ℕ} {r : Outcome Judgment} → reading ≡ model_reading_of (phone_of f)
+      → reading.answer ≡ refused number place
       → r ≡ refusal_before (counted_of (filling_of limit s (length table))) reading.answer → Judges r table
   judges_model_refused {reading} {number} {place} {r} read told e = on (filling_of limit s (length table)) refl (rw told at e)
     where
       on : (o : Outcome Synthesis) → filling_of limit s (length table) ≡ o
-          → r ≡ refusal_before (counted_of o) (FileRead'.TheVariants.Refused number place) → Judges r table
+          → r ≡ refusal_before (counted_of o) (refused number place) → Judges r table
       on (accepted y) filling e =
           rw e (refused_judges (judging_model_refused limit s (length table) filling f (model_unread f read told)))
       on (refused number' place') filling e = rw e (refused_judges (judging_refused limit s (length table) filling f))
 
-  pub judges_rule_refused : {filled : Counted} {number place : ℕ} {r : Judged} {after : List ℕ}
+  pub judges_rule_refused : {filled : Outcome ℕ} {number place : ℕ} {r : Outcome Judgment} {after : List ℕ}
       → filled ≡ counted_of (filling_of limit s (length table)) → after ≡ table_left limit mark s table
-      → filled ≡ Refused number place → r ≡ rule_refusal filled → Judges r after
+      → filled ≡ refused number place → r ≡ rule_refusal filled → Judges r after
   judges_rule_refused {number = number} {place} is left told e =
       let filling = counted_refuses (filling_of limit s (length table)) number place (sym is ∙ told) in
       rw (e, told, left ∙ ap (λ (o : Outcome Synthesis). table_after mark o table) filling) (refused_judges (judging_refused limit s (length table) filling f))
@@ -77,10 +72,10 @@ module _ (limit : ℕ) (small : limit ≤ most) (s table f : List ℕ) where
     pub fills : Fills limit mark s table rule count after
     pub read : ModelRead f model
 
-  pub both_accepted : {reading : ModelReading} {filled : Counted} {after : List ℕ} (n : ℕ) → Bytes s → Bytes f
-      → reading ≡ model_reading_of (phone_of f) → reading.answer ≡ FileRead'.TheVariants.Accepted
+  pub both_accepted : {reading : ModelReading} {filled : Outcome ℕ} {after : List ℕ} (n : ℕ) → Bytes s → Bytes f
+      → reading ≡ model_reading_of (phone_of f) → reading.answer ≡ FILE_ACCEPTED
       → filled ≡ counted_of (filling_of limit s (length table)) → after ≡ table_left limit mark s table
-      → filled ≡ Equations n → Accepts after reading.model
+      → filled ≡ accepted n → Accepts after reading.model
   both_accepted n rule_bytes bytes read told is left counted =
       let (rule, fills) = fills_accepted limit mark s table n (omega arith) rule_bytes (sym is ∙ counted) in
       record {
@@ -122,10 +117,10 @@ module _ (limit : ℕ) (small : limit ≤ most) (s table f : List ℕ) where
       search_iff : (r ≡ true) ↔ NeverDrops (lookup 256 mark after) 0 (model_of phone)
       search_iff = never phone a.read.has.is_stored
 
-      pub judges_meets : r ≡ true → Judges Judged'.TheVariants.Meets after
+      pub judges_meets : r ≡ true → Judges (accepted Meets) after
       judges_meets e = rw judging_is (inl (refl, never_drops_satisfies.0 (search_iff.0 e)), a.fills.left_is)
 
-      pub judges_breaks : r ≡ false → Judges Judged'.TheVariants.Breaks after
+      pub judges_breaks : r ≡ false → Judges (accepted Breaks) after
       judges_breaks e = rw judging_is (inr (refl, λ sat. never_true (search_iff.1 (never_drops_satisfies.1 sat))), a.fills.left_is)
         where
           never_true : r ≡ true → ⊥

@@ -16,9 +16,6 @@ use Rattle.models.specs.Judging.{judging_of, JudgedAs}
 use Rattle.models.specs.Pairs.{pairs_of, Listed}
 use Rattle.models.specs.MatchPromises.{ModelsAlike, MatchedAlike, IsJudgment, ModelsJudgedAlike}
 use Rattle.models.specs.declared.PhoneModel.{PhoneModel}
-use Rattle.models.specs.declared.Judged.{Judged}
-use Rattle.models.specs.declared.Judged.TheVariants as Judged'
-use Rattle.models.specs.declared.Matched.TheVariants.{Yes}
 use Rattle.models.proofs.Files.Encoding.{phone_accepted}
 use Rattle.models.proofs.Judgments.JudgingOrder.{judging_refused, judging_accepts}
 use Rattle.models.proofs.Judgments.JudgingLaws.{judged_same}
@@ -28,12 +25,12 @@ use Rattle.models.proofs.Matchings.RefusalOrder.{refuses_pairs}
 
 pub matched_alike : MatchedAlike
 matched_alike f g l told =
-    let (first, second, (ps, encoded)) = (refuses_pairs f g l Yes told).none.0 (inl refl) in
+    let (first, second, (ps, encoded)) = (refuses_pairs f g l (said true) told).none.0 (inl refl) in
     let (a, one, stored) = phone_accepted (phone_of f) first in
     let (b, other, stored') = phone_accepted (phone_of g) second in
     let read : pairs_of l a.states b.states ≡ accepted ps =
     rw (ap (λ (m : PhoneModel). m.states) stored, ap (λ (m : PhoneModel). m.states) stored') at ((accepts_pairs l _ _ ps).1 encoded) in
-    let (starts, bisimulation) = (matches_exactly f g l a b ps one other read Yes told).yes.0 refl in
+    let (starts, bisimulation) = (matches_exactly f g l a b ps one other read (said true) told).yes.0 refl in
     let bisimilar : Bisimilar (model_of a) (model_of b) = (Listed ps, bisimulation, starts) in
     record {
       one = a;
@@ -53,11 +50,11 @@ filled_rule limit s capacity y e =
     (filling_accepted capacity (filling_by_count limit s capacity) y e).0
 
 -- a refusal is no judgment
-refused_no_judgment : {A : Type 0} {answer : Judged} {number place : ℕ} → answer ≡ Judged'.Refused number place → IsJudgment answer → A
+refused_no_judgment : {A : Type 0} {answer : Outcome Judgment} {number place : ℕ} → answer ≡ refused number place → IsJudgment answer → A
 refused_no_judgment e (inl meets) = absurd (let z : ◌≡◌ {A = ℕ} 0 1 = cc in omega arith)
 refused_no_judgment e (inr breaks) = absurd (let z : ◌≡◌ {A = ℕ} 0 1 = cc in omega arith)
 
-module _ (f g : List ℕ) (alike : ModelsAlike f g) (limit : ℕ) (s : List ℕ) (capacity : ℕ) (one other : Judged) (first : JudgedAs (judging_of limit s capacity f) one) where
+module _ (f g : List ℕ) (alike : ModelsAlike f g) (limit : ℕ) (s : List ℕ) (capacity : ℕ) (one other : Outcome Judgment) (first : JudgedAs (judging_of limit s capacity f) one) where
   answers_same : JudgedAs (judging_of limit s capacity g) other → one ≡ other
   answers_same second = on (filling_of limit s capacity) refl
     where

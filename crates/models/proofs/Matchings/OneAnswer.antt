@@ -7,12 +7,11 @@ use native.Mathlib.Omega.{arith}
 use Rattle.models.specs.Phone.{Phone}
 use Rattle.models.specs.Pairs.{Pair, Listed, Matches, Matching, matching, first_refused, second_refused, pairs_refused, matching_of, MatchedAs}
 use Rattle.models.specs.MatchPromises.{MatchedExactly, MatchesExactly, AnswersOnce, RepeatsHarmless}
-use Rattle.models.specs.declared.Matched.{Matched}
 use Rattle.models.proofs.Matchings.AnswerLaws.{matching_accepts}
 
 -- ---- one answer
 
-one_answer : (o : Matching) (one other : Matched) → MatchedAs o one → MatchedAs o other → one ≡ other
+one_answer : (o : Matching) (one other : MatchAnswer) → MatchedAs o one → MatchedAs o other → one ≡ other
 one_answer (matching a b ps) one other (inl (is, h)) (inl (is', h')) = is ∙ sym is'
 one_answer (matching a b ps) one other (inl (is, h)) (inr (is', none')) = absurd (none' h)
 one_answer (matching a b ps) one other (inr (is, none)) (inl (is', h')) = absurd (none h')
@@ -26,7 +25,7 @@ answers_once f g l = one_answer (matching_of f g l)
 
 -- ---- yes and no
 
-matched_case : (a b : Phone) (ps : List Pair) (answer : Matched) → MatchedAs (matching a b ps) answer → MatchedExactly a b ps answer
+matched_case : (a b : Phone) (ps : List Pair) (answer : MatchAnswer) → MatchedAs (matching a b ps) answer → MatchedExactly a b ps answer
 matched_case a b ps answer (inl (is, h)) = record {
   yes = (λ e. (h.starts, h.bisimulation), λ _. is);
   no = (λ e. absurd (let z : ◌≡◌ {A = ℕ} 0 1 = cc in omega arith), λ differs. absurd (differs (h.starts, h.bisimulation)));

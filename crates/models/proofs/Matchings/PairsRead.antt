@@ -6,8 +6,6 @@ use native.Mathlib.Omega.{arith}
 use lib.ListN.{length, get_or, set, replicate}
 use borrow.Author.Tests.{lt-ltb, le-ltb}
 use Rattle.reading.specs.File.{Outcome, accepted, refused, and_then}
-use Rattle.reading.specs.declared.FileRead.{FileRead}
-use Rattle.reading.specs.declared.FileRead.TheVariants.{Accepted}
 use Rattle.reading.proofs.Basics.Outcomes.{by_case-refused}
 use Rattle.synthesis.specs.NodeSet.{singleton, union}
 use Rattle.models.specs.Pairs.{Pair, most_pairs, pair_at, pairs_at, pairs_of}
@@ -75,13 +73,13 @@ module _ {l : List ℕ} {n n' : ℕ} {rows columns : List ℕ} {left at : ℕ} (
 
   -- ---- the ways out of the loop
 
-  pub all_related : length l ≤ at → RelatedAs (pairs_of l n n') (record { answer = Accepted; rows = rows; columns = columns })
+  pub all_related : length l ≤ at → RelatedAs (pairs_of l n n') (record { answer = FILE_ACCEPTED; rows = rows; columns = columns })
   all_related over =
       let all : pairs_of l n n' ≡ accepted b.done = b.rest ∙ rw (pairs_end l n n' at left over, append-nil b.done) in
       rw all (refl, b.relates)
 
   pub refused_related : at < length l → {found : PairRead} → found ≡ pair_read (pair_at l n n' at left)
-      → {number place : ℕ} → found ≡ PairRead'.Refused number place → (answer : FileRead) → answer ≡ pair_answer found
+      → {number place : ℕ} → found ≡ PairRead'.Refused number place → (answer : FILEREAD) → answer ≡ pair_answer found
       → RelatedAs (pairs_of l n n') (record { answer = answer; rows = rows; columns = columns })
   refused_related inside is {number} {place} e answer is-answer =
       let refusal : pair_at l n n' at left ≡ refused number place = by_case-refused pair_cases (λ p. p) _ _ _ (sym e ∙ is) in

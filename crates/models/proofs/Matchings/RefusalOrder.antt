@@ -10,8 +10,6 @@ use Rattle.models.specs.Phone.{Phone, phone_of}
 use Rattle.models.specs.Judging.{model_reading_of}
 use Rattle.models.specs.Pairs.{Pair, pairs_of, Matching, matching, first_refused, second_refused, pairs_refused, matching_of, MatchedAs, paper_answer}
 use Rattle.models.specs.MatchPromises.{RefusedInOrder, RefusesPairs, RefusesByNumber}
-use Rattle.models.specs.declared.Matched.{Matched}
-use Rattle.models.specs.declared.Matched.TheVariants.{Yes, No}
 use Rattle.models.proofs.Matchings.PairLists.{accepts_pairs, refuses_at_the_pair}
 
 -- two cases that are apart
@@ -19,17 +17,17 @@ apart : {A : Type 0} → ◌≡◌ {A = ℕ} 0 1 → A
 apart z = absurd (omega arith)
 
 -- an answer that is yes or no, and no other than these
-not_judged : {A : Type 0} (answer x : Matched) → (Yes ≡ x → ◌≡◌ {A = ℕ} 0 1) → (No ≡ x → ◌≡◌ {A = ℕ} 0 1) → answer ≡ x → (answer ≡ Yes) ⊎ (answer ≡ No) → A
+not_judged : {A : Type 0} (answer x : MatchAnswer) → ((said true) ≡ x → ◌≡◌ {A = ℕ} 0 1) → ((said false) ≡ x → ◌≡◌ {A = ℕ} 0 1) → answer ≡ x → (answer ≡ said true) ⊎ (answer ≡ said false) → A
 not_judged answer x not_yes not-no e (inl is) = apart (not_yes (sym is ∙ e))
 not_judged answer x not_yes not-no e (inr is) = apart (not-no (sym is ∙ e))
 
-judged : (a b : Phone) (ps : List Pair) (answer : Matched) → MatchedAs (matching a b ps) answer → (answer ≡ Yes) ⊎ (answer ≡ No)
+judged : (a b : Phone) (ps : List Pair) (answer : MatchAnswer) → MatchedAs (matching a b ps) answer → (answer ≡ said true) ⊎ (answer ≡ said false)
 judged a b ps answer (inl (is, h)) = inl is
 judged a b ps answer (inr (is, none)) = inr is
 
 -- ---- by the outcome of the list
 
-module _ (a b : Phone) (l : List ℕ) (answer : Matched) where
+module _ (a b : Phone) (l : List ℕ) (answer : MatchAnswer) where
   pairs_in_order : (o : Outcome (List Pair)) → pairs_of l a.states b.states ≡ o → MatchedAs (by_case (matching a b) pairs_refused o) answer
       → RefusedInOrder (model_reading_of (accepted a)) (model_reading_of (accepted b)) l answer
   pairs_in_order (accepted ps) read matched =
@@ -61,7 +59,7 @@ module _ (a b : Phone) (l : List ℕ) (answer : Matched) where
 
 -- ---- by those of the models
 
-module _ (l : List ℕ) (answer : Matched) where
+module _ (l : List ℕ) (answer : MatchAnswer) where
   -- what is matched of three outcomes
   abbrev matched_by : (one other : Outcome Phone) → Matching
   matched_by one other = by_case (λ a. by_case (λ b. by_case (matching a b) pairs_refused (pairs_of l a.states b.states)) second_refused other) first_refused one
@@ -87,7 +85,7 @@ refuses_pairs f g l answer matched = in_order l answer (phone_of f) (phone_of g)
 
 -- ---- by the numbers alone
 
-module _ (answer : Matched) where
+module _ (answer : MatchAnswer) where
   pairs_by_number : (a b : Phone) (o : Outcome (List Pair)) → MatchedAs (by_case (matching a b) pairs_refused o) answer
       → (number place : ℕ) → (paper_answer answer ≡ refused number place) ↔ (o ≡ refused number place)
   pairs_by_number a b (accepted ps) (inl (is, h)) number place = rw is (λ e. absurd (never_refused e), λ e. absurd (never_refused e))

@@ -10,8 +10,6 @@ use Rattle.reading.specs.File.{Outcome, accepted, refused, rule_of}
 use Rattle.synthesis.specs.Alike.{RulesAlike}
 use Rattle.synthesis.specs.Building.{Synthesis, synthesis_of, preview_limit, on_page, preview_of, short_of, short_filling_of, counted_of, FillsShort, table_after}
 use Rattle.synthesis.specs.AlikePromises.{CountedAlike}
-use Rattle.synthesis.specs.declared.Counted.{Counted}
-use Rattle.synthesis.specs.declared.Counted.TheVariants.{Equations, Refused}
 use Rattle.synthesis.proofs.Tables.SynthesisOutcomes.{short_fills_as_counted}
 use Rattle.synthesis.proofs.Tables.Built.{fills_when_counted, zero_rows, zero_rows_lem}
 use Rattle.synthesis.proofs.Quotients.ShortFillings.{short_refuses_alike, short_counted_long}
@@ -32,7 +30,7 @@ on_page-alike (refused number place) (refused number' place') e =
 -- ---- for the short table
 
 -- a table with the entries of n rows is filled where n are counted
-filled_short : (limit : ℕ) (s : List ℕ) → Bytes s → (r : Rule) → rule_of s ≡ accepted r → (n : ℕ) → counted_of (short_of limit s) ≡ Equations n
+filled_short : (limit : ℕ) (s : List ℕ) → Bytes s → (r : Rule) → rule_of s ≡ accepted r → (n : ℕ) → counted_of (short_of limit s) ≡ accepted n
     → FillsShort limit limit s (zero_rows n) r n (table_after limit (short_filling_of limit s (length (zero_rows n))) (zero_rows n))
 filled_short limit s bytes r read n e =
     fills_when_counted short_filling_of (short_of limit s) limit limit s (zero_rows n) r n (omega arith) bytes read e
@@ -52,15 +50,15 @@ module _ (limit : ℕ) (s s' : List ℕ) (bytes : Bytes s) (bytes' : Bytes s') (
   short : counted_of (short_of limit s) ≡ counted_of (short_of limit s')
   short = on (counted_of (short_of limit s)) refl
     where
-      on : (counted : Counted) → counted_of (short_of limit s) ≡ counted → counted_of (short_of limit s) ≡ counted_of (short_of limit s')
-      on (Refused number place) e =
+      on : (counted : Outcome ℕ) → counted_of (short_of limit s) ≡ counted → counted_of (short_of limit s) ≡ counted_of (short_of limit s')
+      on (refused number place) e =
           e ∙ sym (((short_refuses_alike limit s').refused number place).1 (sym long ∙ ((short_refuses_alike limit s).refused number place).0 e))
-      on (Equations n) e =
+      on (accepted n) e =
           let (m, counted) = short_counted_long limit s n e in
           let (n', e', some, few) = (short_refuses_alike limit s').counted m (sym long ∙ counted) in
           let rows = short_tables_alike limit limit limit s (zero_rows n) r n _ (filled_short limit s bytes r read n e) s' (zero_rows n') r' n' _
           (filled_short limit s' bytes' r' read' n' e') alike in
-          e ∙ ap Equations rows.count ∙ sym e'
+          e ∙ ap accepted rows.count ∙ sym e'
 
 pub counted_alike : CountedAlike
 counted_alike limit s s' bytes bytes' r r' read read' alike = record {

@@ -11,19 +11,15 @@ use Rattle.synthesis.specs.Building.{synthesis_of, counted_of}
 use Rattle.synthesis.specs.Reason.{FirstViolated, explanation_of, reason_of}
 use Rattle.synthesis.specs.ReasonPromises.{Explained}
 use Rattle.synthesis.specs.AlikePromises.{ExplainedAlike, ExplainsAlike}
-use Rattle.synthesis.specs.declared.Counted.{Counted}
-use Rattle.synthesis.specs.declared.Counted.TheVariants as Counted'
-use Rattle.synthesis.specs.declared.Reason.{Reason}
-use Rattle.synthesis.specs.declared.Reason.TheVariants.{Kept, Node, Refused}
 use Rattle.synthesis.proofs.Reasons.Explained.{reasons_exactly}
 use Rattle.synthesis.proofs.EmptyPatterns.AlikeLaws.{alike_back, violated_alike}
 use Rattle.synthesis.proofs.EmptyPatterns.SameTables.{long_counted_alike}
 
 -- ---- from one rule to the other
 
-module _ (r r' : Rule) (alike : RulesAlike r r') (w : List ℕ) (c : ℕ) (reason reason' : Reason) (one : Explained r w c reason)
+module _ (r r' : Rule) (alike : RulesAlike r r') (w : List ℕ) (c : ℕ) (reason reason' : Outcome (Option ℕ)) (one : Explained r w c reason)
     (other : Explained r' w c reason') where
-  kept_too : reason ≡ Kept → reason' ≡ Kept
+  kept_too : reason ≡ accepted None → reason' ≡ accepted None
   kept_too e = other.kept.1 (λ v. one.kept.0 e ((violated_alike r r' alike _).1 v))
 
   first_violated_too : (i : ℕ) → FirstViolated r w i → FirstViolated r' w i
@@ -34,10 +30,10 @@ module _ (r r' : Rule) (alike : RulesAlike r r') (w : List ℕ) (c : ℕ) (reaso
   }
 
   -- a refusal that isn't of counting is 17
-  refused_too : (number place : ℕ) → reason ≡ Refused number place → reason' ≡ Refused number place
+  refused_too : (number place : ℕ) → reason ≡ refused number place → reason' ≡ refused number place
   refused_too number place e = on one.only
     where
-      on : (reason ≡ Kept) ⊎ (((m : ℕ) × (reason ≡ Node m)) ⊎ ((i : ℕ) × (reason ≡ Refused 17 i))) → reason' ≡ Refused number place
+      on : (reason ≡ accepted None) ⊎ (((m : ℕ) × (reason ≡ accepted (Some m))) ⊎ ((i : ℕ) × (reason ≡ refused 17 i))) → reason' ≡ refused number place
       on (inl k) = let z : ◌≡◌ {A = ℕ} 0 1 = cc in absurd (omega arith)
       on (inr (inl (m, k))) = let z : ◌≡◌ {A = ℕ} 0 1 = cc in absurd (omega arith)
       on (inr (inr (i, k))) = (other.unfit i).1 (first_violated_too i ((one.unfit i).0 k)) ∙ sym k ∙ e
@@ -48,15 +44,15 @@ pub explains_alike : ExplainsAlike
 explains_alike limit s s' bytes bytes' r r' read read' alike w c =
     on (counted_of (synthesis_of limit s)) refl (sym (long_counted_alike limit s s' bytes bytes' r r' read read' alike))
   where
-    said : Reason
+    said : Outcome (Option ℕ)
     said = reason_of (explanation_of limit s w c)
 
-    said' : Reason
+    said' : Outcome (Option ℕ)
     said' = reason_of (explanation_of limit s' w c)
 
-    on : (counted : Counted) → counted_of (synthesis_of limit s) ≡ counted → counted_of (synthesis_of limit s') ≡ counted_of (synthesis_of limit s)
+    on : (counted : Outcome ℕ) → counted_of (synthesis_of limit s) ≡ counted → counted_of (synthesis_of limit s') ≡ counted_of (synthesis_of limit s)
         → ExplainedAlike said said'
-    on (Counted'.Equations n) q same =
+    on (accepted n) q same =
         let one = (reasons_exactly limit s bytes w c).explained r n read q in
         let other = (reasons_exactly limit s' bytes' w c).explained r' n read' (same ∙ q) in
         record {
@@ -66,7 +62,7 @@ explains_alike limit s s' bytes bytes' r r' read read' alike w c =
             refused_too r' r (alike_back alike) w c said' said other one number place,
           );
         }
-    on (Counted'.Refused number place) q same =
+    on (refused number place) q same =
         let one = (reasons_exactly limit s bytes w c).refused number place q in
         let other = (reasons_exactly limit s' bytes' w c).refused number place (same ∙ q) in
         let is_same : said ≡ said' = one ∙ sym other in

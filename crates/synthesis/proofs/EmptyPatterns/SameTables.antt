@@ -19,7 +19,6 @@ use Rattle.synthesis.specs.Table.{entry_of, entries_of}
 use Rattle.synthesis.specs.Building.{equations_of, with_equations, synthesis_of, counted_of, Fills}
 use Rattle.synthesis.specs.Promises.{WellFormedFormula}
 use Rattle.synthesis.specs.AlikePromises.{SameRows, TablesAlike}
-use Rattle.synthesis.specs.declared.Counted.TheVariants.{Equations}
 use Rattle.synthesis.proofs.Monitors.RuleMonitor.{unsatisfiable_iff}
 use Rattle.synthesis.proofs.Monitors.Corresponding.{BothAnswer, both_dropped, both_next, Corresponds, corresponds_back}
 use Rattle.synthesis.proofs.Numberings.Indices.{index_is, member_at}
@@ -99,7 +98,7 @@ module _ (R : ℕ → ℕ → Type 0) (r r' : Rule) (both : RulesCorrespond R r 
           → counted_of (synthesis_of limit s) ≡ counted_of (synthesis_of limit s')
       on (yes few) (yes few') =
           rw (accepts_with_equations limit s r read h few, accepts_with_equations limit s' r' read' h' few')
-          (ap Equations (equations_correspond limit limit few few').0)
+          (ap accepted (equations_correspond limit limit few few').0)
       on (yes few) (no over') = absurd (omega (arith, few, over', equations_no_more R r r' both limit limit few))
       on (no over) (yes few') = absurd (omega (arith, over, few', equations_no_more (λ e' e. R e e') r' r (corresponds_back both) limit limit few'))
       on (no over) (no over') =

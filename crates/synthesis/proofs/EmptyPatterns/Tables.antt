@@ -11,8 +11,6 @@ use Rattle.synthesis.specs.Building.{synthesis_of, counted_of}
 use Rattle.synthesis.specs.Promises.{AsFound}
 use Rattle.synthesis.specs.ShortPromises.{numbers_below}
 use Rattle.synthesis.specs.AlikePromises.{NoReasonAfterEmpty, MonitorsAlike, ShortTablesAlike}
-use Rattle.synthesis.specs.declared.Counted.{Counted}
-use Rattle.synthesis.specs.declared.Counted.TheVariants.{Equations, Refused}
 use Rattle.synthesis.proofs.Monitors.DroppingAlike.{monitors_drop_alike}
 use Rattle.synthesis.proofs.Quotients.ShortFillings.{short_monitors, short_in_range}
 use Rattle.synthesis.proofs.Quotients.ShortOrder.{short_as_found}
@@ -27,9 +25,9 @@ use Rattle.synthesis.proofs.EmptyPatterns.Places.{no_place_after_empty}
 pub no_reason_after_empty : NoReasonAfterEmpty
 no_reason_after_empty limit s bytes r read w c m e after = on (counted_of (synthesis_of limit s)) refl
   where
-    on : (counted : Counted) → counted_of (synthesis_of limit s) ≡ counted → ⊥
-    on (Equations n) q = no_place_after_empty r _ m ((((reasons_exactly limit s bytes w c).explained r n read q).node m).0 e).1.holds after
-    on (Refused number place) q =
+    on : (counted : Outcome ℕ) → counted_of (synthesis_of limit s) ≡ counted → ⊥
+    on (accepted n) q = no_place_after_empty r _ m ((((reasons_exactly limit s bytes w c).explained r n read q).node m).0 e).1.holds after
+    on (refused number place) q =
         let refused = (reasons_exactly limit s bytes w c).refused number place q in
         let z : ◌≡◌ {A = ℕ} 0 1 = cc in
         omega arith

@@ -16,10 +16,7 @@ use Rattle.synthesis.specs.Building.{synthesis_of}
 use Rattle.synthesis.specs.Arrays.{gathered, answer_by}
 use Rattle.synthesis.specs.Reason.{lowest_reason, opened_falsities, followed, explanation_of, reason_of}
 use Rattle.synthesis.specs.Plans.{IsPlan, followed_of, unexplained_of}
-use Rattle.synthesis.specs.declared.Counted.TheVariants as Counted
 use Rattle.synthesis.specs.declared.Plan.{Plan}
-use Rattle.synthesis.specs.declared.Reason.{Reason}
-use Rattle.synthesis.specs.declared.Reason.TheVariants.{Refused}
 use Rattle.synthesis.specs.declared.explaining.Followed.{Followed}
 use Rattle.synthesis.specs.declared.explaining.Followed.TheVariants as Followed'
 use Rattle.synthesis.proofs.Tables.SynthesisOutcomes.{counted_refuses}
@@ -30,7 +27,7 @@ use Rattle.synthesis.proofs.Functions.FillingWays.{CountedPlan}
 -- ---- a plan that is refused
 
 pub refused_plan_reason : (s w : List ℕ) (c : ℕ) (p : Plan) → IsPlan (synthesis_of most s) p → {number place : ℕ}
-    → p.answer ≡ Counted.Refused number place → (reason : Reason) → reason ≡ unexplained_of p.answer → reason ≡ reason_of (explanation_of most s w c)
+    → p.answer ≡ refused number place → (reason : Outcome (Option ℕ)) → reason ≡ unexplained_of p.answer → reason ≡ reason_of (explanation_of most s w c)
 unfolding explanation_of
 refused_plan_reason s w c p is {number} {place} e reason said =
     rw (counted_refuses (synthesis_of most s) number place (sym is.answer_is ∙ e), said, e)
@@ -59,7 +56,7 @@ module _ (s w : List ℕ) (bytes : Bytes w) (c : ℕ) {n : ℕ} (p : Plan) (coun
       ∙ ap (λ (e : ℕ). followed (answer_of counted.synthesis.rule) e 0 w) graph.first_is)
 
   -- one of the scans is dropped
-  pub dropped_reason : (number place : ℕ) → f ≡ Followed'.Refused number place → Refused number place ≡ reason_of (explanation_of most s w c)
+  pub dropped_reason : (number place : ℕ) → f ≡ Followed'.Refused number place → refused number place ≡ reason_of (explanation_of most s w c)
   unfolding explanation_of
   dropped_reason number place e =
       let to : leads ≡ refused number place = by_case-refused followed_cases (λ x. x) leads number place (sym e ∙ leads_is) in

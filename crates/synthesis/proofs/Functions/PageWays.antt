@@ -7,15 +7,13 @@ use Rattle.reading.specs.File.{Outcome, accepted, refused}
 use Rattle.synthesis.specs.Monitor.{mark}
 use Rattle.synthesis.specs.Building.{Synthesis, synthesis_of, filling_of, counted_of, table_after, preview_limit, on_page, preview_of, preview_filling_of}
 use Rattle.synthesis.specs.Plans.{counted_on_page}
-use Rattle.synthesis.specs.declared.Counted.{Counted}
-use Rattle.synthesis.specs.declared.Counted.TheVariants.{Refused}
 
 -- ---- numbers
 
-pub nine_on_page : {answer : Counted} (number place : ℕ) → answer ≡ Refused number place → number ≡ 9 → Refused 18 place ≡ counted_on_page answer
+pub nine_on_page : {answer : Outcome ℕ} (number place : ℕ) → answer ≡ refused number place → number ≡ 9 → refused 18 place ≡ counted_on_page answer
 nine_on_page number place e is = rw (e, eq-eqb number 9 is)
 
-pub other_on_page : {answer : Counted} (number place : ℕ) → answer ≡ Refused number place → (number ≡ 9 → ⊥) → Refused number place ≡ counted_on_page answer
+pub other_on_page : {answer : Outcome ℕ} (number place : ℕ) → answer ≡ refused number place → (number ≡ 9 → ⊥) → refused number place ≡ counted_on_page answer
 other_on_page number place e other = rw (e, ne_eqb number 9 other)
 
 -- ---- outcomes
@@ -28,12 +26,12 @@ page_table : (table : List ℕ) (o : Outcome Synthesis) → table_after mark o t
 page_table table (accepted y) = refl
 page_table table (refused number place) = refl
 
-pub preview_counted : (s : List ℕ) {counted answer : Counted} → counted ≡ counted_of (synthesis_of preview_limit s) → answer ≡ counted_on_page counted
+pub preview_counted : (s : List ℕ) {counted answer : Outcome ℕ} → counted ≡ counted_of (synthesis_of preview_limit s) → answer ≡ counted_on_page counted
     → answer ≡ counted_of (preview_of s)
 unfolding preview_of
 preview_counted s e e' = e' ∙ ap counted_on_page e ∙ page_counted (synthesis_of preview_limit s)
 
-pub preview_filled : (s : List ℕ) (capacity : ℕ) (table : List ℕ) {counted answer : Counted} {after : List ℕ}
+pub preview_filled : (s : List ℕ) (capacity : ℕ) (table : List ℕ) {counted answer : Outcome ℕ} {after : List ℕ}
     → let filling = filling_of preview_limit s capacity in (counted ≡ counted_of filling) × (after ≡ table_after mark filling table)
     → answer ≡ counted_on_page counted
     → (answer ≡ counted_of (preview_filling_of s capacity)) × (after ≡ table_after mark (preview_filling_of s capacity) table)

@@ -13,7 +13,6 @@ use Rattle.synthesis.specs.Merging.{up_to, merged, rounds, firsts}
 use Rattle.synthesis.specs.Building.{Synthesis, synthesis_of, filling_of, counted_of, table_left, numbered_answer, classes_of, shortened, short_of}
 use Rattle.synthesis.specs.Arrays.{AreClasses, AreNumbers, ClassesNumbered}
 use Rattle.synthesis.specs.Plans.{ShortPlanFor, IsShortPlan}
-use Rattle.synthesis.specs.declared.Counted.TheVariants.{Equations, Refused}
 use Rattle.synthesis.specs.declared.shortening.ShortPlan.{ShortPlan}
 use Rattle.synthesis.proofs.Tables.FilledTables.{filled_cong}
 use Rattle.synthesis.proofs.Tables.WellFormedTables.{lookup_inside}
@@ -44,7 +43,7 @@ module _ {n : ℕ} {long : List ℕ} (wf : WellFormedTable most mark n long) whe
 -- ---- a refusal
 
 pub refused_short_plan : (s long : List ℕ) (p : ShortPlan) → p.answer ≡ counted_of (synthesis_of most s) → (number place : ℕ)
-    → p.answer ≡ Refused number place → IsShortPlan s p long
+    → p.answer ≡ refused number place → IsShortPlan s p long
 refused_short_plan s long p counts number place e =
     let refuses = counted_refuses (synthesis_of most s) number place (sym counts ∙ e) in
     record { answer_is = e ∙ sym (ap counted_of ((short_refused most s number place).1 refuses)); fills = rw refuses tt }
@@ -81,7 +80,7 @@ firsts_shortened y n n-is = rw n-is
 pub counted_short_plan : (s : List ℕ) (y : Synthesis) → synthesis_of most s ≡ accepted y → (p : ShortPlan) (long : List ℕ)
     → p.equations ≡ length y.equations → WellFormedTable most mark p.equations long
     → ((k c : ℕ) → k < p.equations → c < 256 → lookup 256 mark long k c ≡ numbered_answer y k c)
-    → (m : ℕ) → p.answer ≡ Equations m
+    → (m : ℕ) → p.answer ≡ accepted m
     → ClassesNumbered p.equations (rounds 256 (lookup 256 mark long) p.equations p.equations) m p.firsts p.numbers
     → length p.firsts ≡ most → length p.numbers ≡ most → IsShortPlan s p long
 counted_short_plan s y is p long n-is wf agree m e numbered firsts_length numbers_length =
@@ -89,7 +88,7 @@ counted_short_plan s y is p long n-is wf agree m e numbered firsts_length number
     let numbered' : ClassesNumbered p.equations (classes_of y) m p.firsts p.numbers = rw same at numbered in
     let m-is : m ≡ length (shortened y).equations = numbered'.count_is ∙ ap length (firsts_shortened y p.equations n-is) in
     record {
-      answer_is = e ∙ ap Equations m-is ∙ sym (ap counted_of (short_accepts most s is));
+      answer_is = e ∙ ap accepted m-is ∙ sym (ap counted_of (short_accepts most s is));
       fills = rw is (record {
         count_is = n-is;
         well_formed = wf;
@@ -108,7 +107,7 @@ pub record CountedShortPlan (s : List ℕ) (p : ShortPlan) (long : List ℕ) (m 
   pub fills : ShortPlanFor synthesis p long
   pub count_is : m ≡ length (shortened synthesis).equations
 
-pub short_plan_counted : (s : List ℕ) (p : ShortPlan) (long : List ℕ) (m : ℕ) → IsShortPlan s p long → p.answer ≡ Equations m
+pub short_plan_counted : (s : List ℕ) (p : ShortPlan) (long : List ℕ) (m : ℕ) → IsShortPlan s p long → p.answer ≡ accepted m
     → CountedShortPlan s p long m
 short_plan_counted s p long m plan e =
     let (z, is, m-is) = counted_accepts (short_of most s) m (sym plan.answer_is ∙ e) in

@@ -13,7 +13,6 @@ use Rattle.synthesis.specs.Building.{Synthesis, with_equations, synthesis_of, co
 use Rattle.synthesis.specs.Promises.{SameAfterRows}
 use Rattle.synthesis.specs.ShortPromises.{RefusesAlike, ShortRefusesAlike, ShortRefusedUnchanged, ShortFillsAccepted, ShortOfRule, ShortDropsAlike}
 use Rattle.synthesis.specs.ShortPromises.{ShortMonitors, ShortDrops, ShortInRange, ShortRest}
-use Rattle.synthesis.specs.declared.Counted.TheVariants.{Equations}
 use Rattle.synthesis.proofs.Monitors.MonitorLaws.{drops_violations}
 use Rattle.synthesis.proofs.Monitors.Renaming.{renamed_runs, renamed_monitors}
 use Rattle.synthesis.proofs.Tables.SynthesisOutcomes.{synthesis_accepts, counted_accepts, counted_refuses}
@@ -49,7 +48,7 @@ module _ (limit : ℕ) (s : List ℕ) where
   }
 
   -- where counting for the short table answers a count, so does counting
-  pub short_counted_long : (m : ℕ) → counted_of (short_of limit s) ≡ Equations m → (n : ℕ) × (counted_of (synthesis_of limit s) ≡ Equations n)
+  pub short_counted_long : (m : ℕ) → counted_of (short_of limit s) ≡ accepted m → (n : ℕ) × (counted_of (synthesis_of limit s) ≡ accepted n)
   short_counted_long m e =
       let (z, is, m-is) = counted_accepts (short_of limit s) m e in
       let (y, synthesis, made) = short_accepted limit s z is in
@@ -72,7 +71,7 @@ short_of-rule limit s z e =
     read ∙ ap accepted (sym (shortened_rule y) ∙ ap (λ (y : Synthesis). y.rule) made)
 
 -- the rule of a file whose short table is filled
-filled_rule : (limit : ℕ) (s : List ℕ) (capacity n : ℕ) → counted_of (short_filling_of limit s capacity) ≡ Equations n → (r : Rule) × (rule_of s ≡ accepted r)
+filled_rule : (limit : ℕ) (s : List ℕ) (capacity n : ℕ) → counted_of (short_filling_of limit s capacity) ≡ accepted n → (r : Rule) × (rule_of s ≡ accepted r)
 filled_rule limit s capacity n e =
     let (z, is, n-is) = counted_accepts (short_filling_of limit s capacity) n e in
     (z.rule, short_of-rule limit s z (filling_accepted capacity (short_filling-by_count limit s capacity) z is).0)
@@ -156,7 +155,7 @@ pub short_rest : ShortRest
 short_rest limit mark s table r n left b = shortens_rest (shortens b)
 
 -- the same from the count alone, whatever the mark
-pub short_counted_rest : (limit mark : ℕ) (s table : List ℕ) (n : ℕ) → counted_of (short_filling_of limit s (length table)) ≡ Equations n
+pub short_counted_rest : (limit mark : ℕ) (s table : List ℕ) (n : ℕ) → counted_of (short_filling_of limit s (length table)) ≡ accepted n
     → SameAfterRows n table (table_after mark (short_filling_of limit s (length table)) table)
 short_counted_rest limit mark s table n e =
     let (r, read) = filled_rule limit s (length table) n e in

@@ -14,7 +14,6 @@ use Rattle.synthesis.specs.Table.{filled}
 use Rattle.synthesis.specs.Merging.{merged, firsts}
 use Rattle.synthesis.specs.Building.{equations_of, Synthesis, with_equations, synthesis_of, filling_of, counted_of, table_after, table_left}
 use Rattle.synthesis.specs.Building.{numbered_answer, classes_of, shortened, short_filling_of, Fills, FillsShort}
-use Rattle.synthesis.specs.declared.Counted.TheVariants.{Equations}
 use Rattle.synthesis.proofs.Monitors.Renaming.{Renames}
 use Rattle.synthesis.proofs.Numberings.Indices.{index_first}
 use Rattle.synthesis.proofs.Numberings.Finding.{ClosedUnder}
@@ -104,7 +103,7 @@ unfolding shortened
 shortened_table mark y table = refl
 
 pub counted_shortens : (limit mark : ℕ) (s table : List ℕ) (r : Rule) (n : ℕ) → rule_of s ≡ accepted r
-    → counted_of (short_filling_of limit s (length table)) ≡ Equations n
+    → counted_of (short_filling_of limit s (length table)) ≡ accepted n
     → Shortens limit mark s table r n (table_after mark (short_filling_of limit s (length table)) table)
 counted_shortens limit mark s table r n read counted =
     let (z, is, n-is) = counted_accepts (short_filling_of limit s (length table)) n counted in
@@ -129,7 +128,7 @@ module _ {limit mark : ℕ} {s table : List ℕ} {r : Rule} {n : ℕ} {left : Li
   shortens b = rw b.left_is (counted_shortens limit mark s table r n b.read b.counted)
 
   -- where the short table is filled, counting answers how many rows the long one has
-  pub short_fills_counted : FillsShort limit mark s table r n left → counted_of (synthesis_of limit s) ≡ Equations (count limit r)
+  pub short_fills_counted : FillsShort limit mark s table r n left → counted_of (synthesis_of limit s) ≡ accepted (count limit r)
   short_fills_counted b = ap counted_of (shortens b).counted.outcome
 
   -- and that is filled too, if its rows fit

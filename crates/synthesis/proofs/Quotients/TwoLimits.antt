@@ -16,7 +16,6 @@ use Rattle.synthesis.specs.Table.{WellFormedTable}
 use Rattle.synthesis.specs.Building.{Synthesis, within_limit, synthesis_of, in_table, filling_of, counted_of, table_after}
 use Rattle.synthesis.specs.Building.{numbered_answer, short_of, short_filling_of}
 use Rattle.synthesis.specs.LimitPromises.{Stays, OldRulesStay, FillMore, SameMeaning, MeanTheSame, RowsMeanTheSame, ShortRowsMeanTheSame}
-use Rattle.synthesis.specs.declared.Counted.TheVariants.{Equations, Refused}
 use Rattle.synthesis.proofs.Monitors.Renaming.{Renames, renamed_runs}
 use Rattle.synthesis.proofs.Tables.WellFormedTables.{lookup_inside}
 use Rattle.synthesis.proofs.Tables.SynthesisOutcomes.{synthesis_accepts, counted_accepts, counted_refuses, short_accepts, short_accepted}
@@ -33,24 +32,24 @@ short_more limit limit' s h z e =
     short_accepts limit' s ((limits_agree limit limit' s h).accepts y is) ∙ ap accepted made
 
 module _ (limit limit' : ℕ) (s : List ℕ) (h : limit ≤ limit') where
-  stays_counted : (n : ℕ) → counted_of (synthesis_of limit s) ≡ Equations n → (counted_of (synthesis_of limit' s) ≡ Equations n) × (n ≤ limit)
+  stays_counted : (n : ℕ) → counted_of (synthesis_of limit s) ≡ accepted n → (counted_of (synthesis_of limit' s) ≡ accepted n) × (n ≤ limit)
   stays_counted n e =
       let (y, is, n-is) = counted_accepts (synthesis_of limit s) n e in (
-        ap counted_of ((limits_agree limit limit' s h).accepts y is) ∙ ap Equations (sym n-is),
+        ap counted_of ((limits_agree limit limit' s h).accepts y is) ∙ ap accepted (sym n-is),
         omega (arith, n-is, synthesis_accepts limit s (λ y. length y.equations ≤ limit) (λ r read sat few. few) y is),
       )
 
-  counted_within : (n : ℕ) → counted_of (synthesis_of limit' s) ≡ Equations n → n ≤ limit → counted_of (synthesis_of limit s) ≡ Equations n
+  counted_within : (n : ℕ) → counted_of (synthesis_of limit' s) ≡ accepted n → n ≤ limit → counted_of (synthesis_of limit s) ≡ accepted n
   counted_within n e few =
       let (y, is, n-is) = counted_accepts (synthesis_of limit' s) n e in
-      rw ((limits_agree limit limit' s h).by_limit, is, le-ltb limit (length y.equations) (omega (arith, few, n-is))) (ap Equations (sym n-is))
+      rw ((limits_agree limit limit' s h).by_limit, is, le-ltb limit (length y.equations) (omega (arith, few, n-is))) (ap accepted (sym n-is))
 
   stays : Stays limit limit' s
   stays = record {
     counted = λ n. (stays_counted n, λ (e, few). counted_within n e few);
     short_counted = λ m e.
         let (z, is, m-is) = counted_accepts (short_of limit s) m e in
-        ap counted_of (short_more limit limit' s h z is) ∙ ap Equations (sym m-is);
+        ap counted_of (short_more limit limit' s h z is) ∙ ap accepted (sym m-is);
     others = λ number place other. (
       λ e. ap counted_of ((limits_agree limit limit' s h).others number place other (counted_refuses (synthesis_of limit s) number place e)),
       λ e. ap counted_of ((limits_agree limit limit' s h).refuses number place (counted_refuses (synthesis_of limit' s) number place e)),
@@ -58,7 +57,7 @@ module _ (limit limit' : ℕ) (s : List ℕ) (h : limit ≤ limit') where
     nine = λ place e.
         and_then-refused (synthesis_of limit' s) (within_limit limit) (sym (limits_agree limit limit' s h).by_limit ∙ counted_refuses (synthesis_of limit s) 9 place e)
         (λ is. inr (ap counted_of is)) λ y is within.
-        refuse_refused (λ k p. ((n : ℕ) × (limit < n) × (counted_of (synthesis_of limit' s) ≡ Equations n)) ⊎ (counted_of (synthesis_of limit' s) ≡ Refused 9 place))
+        refuse_refused (λ k p. ((n : ℕ) × (limit < n) × (counted_of (synthesis_of limit' s) ≡ accepted n)) ⊎ (counted_of (synthesis_of limit' s) ≡ refused 9 place))
         (ltb limit (length y.equations)) 9 0 (accepted y) within
         (λ over. inl (length y.equations, ltb-true limit (length y.equations) over, ap counted_of is)) (λ f e'. absurd (never_refused e'));
     over = λ n more e.
@@ -102,7 +101,7 @@ module _ (counting_of : (limit : ℕ) → List ℕ → Outcome Synthesis) (outco
         below = below;
         bytes = b.bytes;
         read = b.read;
-        counted = ap counted_of is' ∙ ap Equations (sym n-is);
+        counted = ap counted_of is' ∙ ap accepted (sym n-is);
         left_is = b.left_is ∙ ap (λ (o : Outcome Synthesis). table_after mark o table) (is ∙ sym is');
       }
 

@@ -20,9 +20,6 @@ use Rattle.synthesis.specs.Building.{synthesis_of, counted_of}
 use Rattle.synthesis.specs.Reason.{ViolatesAt, LowestPlace, FirstViolated, OpensFalsity, LowestOpened}
 use Rattle.synthesis.specs.Reason.{lowest_reason, opened_falsities, opened_after, explanation_of, reason_of}
 use Rattle.synthesis.specs.ReasonPromises.{Explained, ReasonsExactly}
-use Rattle.synthesis.specs.declared.Counted.TheVariants.{Equations}
-use Rattle.synthesis.specs.declared.Reason.{Reason}
-use Rattle.synthesis.specs.declared.Reason.TheVariants.{Kept, Node, Refused}
 use Rattle.synthesis.proofs.Monitors.RuleMonitor.{unsatisfiable_opens, violated_iff_suppressed}
 use Rattle.synthesis.proofs.Reasons.Fronts.{extended, first_violated_unique, first_violates}
 use Rattle.synthesis.proofs.Reasons.Alone.{violates_somewhere}
@@ -33,19 +30,19 @@ use Rattle.synthesis.proofs.Tables.SynthesisOutcomes.{synthesis_accepts, counted
 
 -- ---- answers told apart
 
-refused_same : {i j : ℕ} {reason : Reason} → reason ≡ Refused 17 i → reason ≡ Refused 17 j → i ≡ j
+refused_same : {i j : ℕ} {reason : Outcome (Option ℕ)} → reason ≡ refused 17 i → reason ≡ refused 17 j → i ≡ j
 refused_same e e' = cc
 
-node_same : {m n : ℕ} {reason : Reason} → reason ≡ Node m → reason ≡ Node n → m ≡ n
+node_same : {m n : ℕ} {reason : Outcome (Option ℕ)} → reason ≡ accepted (Some m) → reason ≡ accepted (Some n) → m ≡ n
 node_same e e' = cc
 
-kept_not_refused : {i : ℕ} {reason : Reason} → reason ≡ Kept → reason ≡ Refused 17 i → ⊥
+kept_not_refused : {i : ℕ} {reason : Outcome (Option ℕ)} → reason ≡ accepted None → reason ≡ refused 17 i → ⊥
 kept_not_refused e e' = let z : ◌≡◌ {A = ℕ} 0 1 = cc in omega arith
 
-kept_not_node : {m : ℕ} {reason : Reason} → reason ≡ Kept → reason ≡ Node m → ⊥
+kept_not_node : {m : ℕ} {reason : Outcome (Option ℕ)} → reason ≡ accepted None → reason ≡ accepted (Some m) → ⊥
 kept_not_node e e' = let z : ◌≡◌ {A = ℕ} 0 1 = cc in omega arith
 
-node_not_refused : {m i : ℕ} {reason : Reason} → reason ≡ Node m → reason ≡ Refused 17 i → ⊥
+node_not_refused : {m i : ℕ} {reason : Outcome (Option ℕ)} → reason ≡ accepted (Some m) → reason ≡ refused 17 i → ⊥
 node_not_refused e e' = let z : ◌≡◌ {A = ℕ} 0 1 = cc in omega arith
 
 -- ---- the three answers
@@ -59,23 +56,23 @@ module _ (r : Rule) (w : List ℕ) (c : ℕ) where
   ended_in = ended (answer_of r) (first_of r) w
 
   -- what is known of each
-  data Said (reason : Reason) : Type 0 where
-    unfit : (i : ℕ) → FirstViolated r w i → reason ≡ Refused 17 i → Said reason
-    keeps : (ViolatesRule r with_scan → ⊥) → ((m : ℕ) → OpensFalsity r ended_in c m → ⊥) → reason ≡ Kept → Said reason
+  data Said (reason : Outcome (Option ℕ)) : Type 0 where
+    unfit : (i : ℕ) → FirstViolated r w i → reason ≡ refused 17 i → Said reason
+    keeps : (ViolatesRule r with_scan → ⊥) → ((m : ℕ) → OpensFalsity r ended_in c m → ⊥) → reason ≡ accepted None → Said reason
     drops : (m : ℕ) → (ViolatesRule r w → ⊥) → ViolatesRule r with_scan → LowestPlace r with_scan m → LowestOpened r ended_in c m
-        → reason ≡ Node m → Said reason
+        → reason ≡ accepted (Some m) → Said reason
 
   scans_violate : ViolatesRule r w → ViolatesRule r with_scan
   scans_violate = extended r w (c ∷ [])
 
   -- so each is said exactly where that holds
-  said_explained : WellFormed (length r.patterns) [] r.formula → (reason : Reason) → Said reason → Explained r w c reason
+  said_explained : WellFormed (length r.patterns) [] r.formula → (reason : Outcome (Option ℕ)) → Said reason → Explained r w c reason
   said_explained wf reason (unfit i first is) =
       let violated = first_violates r w i first in
       record {
         unfit = λ j. (
           λ q. rw (← (refused_same is q)) first,
-          λ first'. is ∙ ap (Refused 17) (first_violated_unique r w i j first first'),
+          λ first'. is ∙ ap (refused 17) (first_violated_unique r w i j first first'),
         );
         kept = (λ q. absurd (kept_not_refused q is), λ none. absurd (none (scans_violate violated)));
         node = λ m. (λ q. absurd (node_not_refused q is), λ (none, low). absurd (none violated));
@@ -94,8 +91,8 @@ module _ (r : Rule) (w : List ℕ) (c : ℕ) where
   said_explained wf reason (drops m safe violated low opened is) = record {
     unfit = λ i. (λ q. absurd (node_not_refused is q), λ first. absurd (safe (first_violates r w i first)));
     kept = (λ q. absurd (kept_not_node q is), λ none. absurd (none violated));
-    node = λ n. (λ q. rw (← (node_same is q)) (safe, low), λ (safe', low'). is ∙ ap Node (least_unique low low'));
-    opened = λ n. (λ q. rw (← (node_same is q)) (safe, opened), λ (safe', low'). is ∙ ap Node (least_unique opened low'));
+    node = λ n. (λ q. rw (← (node_same is q)) (safe, low), λ (safe', low'). is ∙ ap (accepted (Some (least_unique low low'))));
+    opened = λ n. (λ q. rw (← (node_same is q)) (safe, opened), λ (safe', low'). is ∙ ap (accepted (Some (least_unique opened low'))));
     inside = λ n q. omega (arith, node_same is q, node_fits opened.holds.1.1);
     only = inr (inl (m, is));
   }
@@ -141,7 +138,7 @@ module _ (r : Rule) (w : List ℕ) (c : ℕ) where
 
 -- ---- a rule file that is counted
 
-module _ (limit : ℕ) (s : List ℕ) (r : Rule) (n : ℕ) (read : rule_of s ≡ accepted r) (counted : counted_of (synthesis_of limit s) ≡ Equations n) where
+module _ (limit : ℕ) (s : List ℕ) (r : Rule) (n : ℕ) (read : rule_of s ≡ accepted r) (counted : counted_of (synthesis_of limit s) ≡ accepted n) where
   pub counted_satisfiable : unsatisfiable r ≡ false
   counted_satisfiable =
       let (y, is, count) = counted_accepts (synthesis_of limit s) n counted in

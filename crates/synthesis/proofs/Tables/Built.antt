@@ -19,7 +19,6 @@ use Rattle.synthesis.specs.Search.{index_of}
 use Rattle.synthesis.specs.Table.{entries_of, filled, WellFormedTable}
 use Rattle.synthesis.specs.Building.{equations_of, Synthesis, with_equations, synthesis_of, filling_of, counted_of, table_after, table_left}
 use Rattle.synthesis.specs.Building.{numbered_answer, FillsBy, Fills}
-use Rattle.synthesis.specs.declared.Counted.TheVariants.{Equations, Refused}
 use Rattle.synthesis.specs.Promises.{FillsAsCounted, TableMonitors, TableDrops, RefusesViolatedByEmpty, TableUnchanged, RefusedUnchanged}
 use Rattle.synthesis.specs.Promises.{FillsAccepted, BuiltWellFormed, EntryAnswers, EntriesAnswer, SameAfterRows, TableRest}
 use Rattle.synthesis.proofs.Unfolding.AnsweringLaws.{answers_as_defined}
@@ -121,7 +120,7 @@ module _ (limit mark : ℕ) (s table : List ℕ) where
 
 -- ---- from the count alone, whatever the mark
 
-module _ (limit mark : ℕ) (s table : List ℕ) (n : ℕ) (e : counted_of (filling_of limit s (length table)) ≡ Equations n) where
+module _ (limit mark : ℕ) (s table : List ℕ) (n : ℕ) (e : counted_of (filling_of limit s (length table)) ≡ accepted n) where
   pub counted_well_formed : WellFormedTable limit mark n (table_left limit mark s table)
   counted_well_formed =
       let y = counted_accepts (filling_of limit s (length table)) n e in
@@ -158,7 +157,7 @@ fills_accepted limit mark s table n below bytes e =
 
 -- where counting answers n, a table with the entries of n rows is filled, by either filling
 pub fills_when_counted : (outcome_of : (limit : ℕ) → List ℕ → (capacity : ℕ) → Outcome Synthesis) (counting : Outcome Synthesis) (limit mark : ℕ)
-    (s table : List ℕ) (r : Rule) (n : ℕ) → limit ≤ mark → Bytes s → rule_of s ≡ accepted r → counted_of counting ≡ Equations n
+    (s table : List ℕ) (r : Rule) (n : ℕ) → limit ≤ mark → Bytes s → rule_of s ≡ accepted r → counted_of counting ≡ accepted n
     → FillsAsCounted counting (outcome_of limit s (length table)) (length table) → 256 * n ≤ length table
     → FillsBy outcome_of limit mark s table r n (table_after mark (outcome_of limit s (length table)) table)
 fills_when_counted outcome_of counting limit mark s table r n below bytes read e as_counted room =
@@ -175,7 +174,7 @@ zero_rows_lem n = length-replicate {A = ℕ} (256 * n) 0
 pub fills_by_iff : (outcome_of : (limit : ℕ) → List ℕ → (capacity : ℕ) → Outcome Synthesis) (limit mark : ℕ) (s table : List ℕ) (r : Rule) (n : ℕ)
     (after : List ℕ) → limit ≤ mark
     → FillsBy outcome_of limit mark s table r n after
-    ↔ (RuleWithinLimits r × (s ≡ encode r) × (counted_of (outcome_of limit s (length table)) ≡ Equations n)
+    ↔ (RuleWithinLimits r × (s ≡ encode r) × (counted_of (outcome_of limit s (length table)) ≡ accepted n)
     × (after ≡ table_after mark (outcome_of limit s (length table)) table))
 fills_by_iff outcome_of limit mark s table r n after below = (
   λ b. let (within, is) = (accepts_encodings s b.bytes r).0 b.read in (within, is, b.counted, b.left_is),
@@ -186,7 +185,7 @@ fills_by_iff outcome_of limit mark s table r n after below = (
 
 -- the encoding of a rule does so as that rule
 pub fills_encoded : (limit mark : ℕ) (r : Rule) (table : List ℕ) (n : ℕ) → limit ≤ mark → RuleWithinLimits r
-    → counted_of (filling_of limit (encode r) (length table)) ≡ Equations n → Fills limit mark (encode r) table r n (table_left limit mark (encode r) table)
+    → counted_of (filling_of limit (encode r) (length table)) ≡ accepted n → Fills limit mark (encode r) table r n (table_left limit mark (encode r) table)
 fills_encoded limit mark r table n below within e =
     (fills_by_iff filling_of limit mark (encode r) table r n (table_left limit mark (encode r) table) below).1 (within, refl, e, refl)
 
@@ -198,12 +197,12 @@ module _ {limit mark : ℕ} {s table : List ℕ} {r : Rule} {n : ℕ} {after : L
       y.1 ∙ ap accepted (accepts_as limit s r b.read y.0 (filling_accepted (length table) (filling_by_count limit s (length table)) y.0 y.1).0)
 
   -- counting answers as filling did
-  pub fills_counted : counted_of (synthesis_of limit s) ≡ Equations n
+  pub fills_counted : counted_of (synthesis_of limit s) ≡ accepted n
   fills_counted = rw (← (fills_as_counted limit s (length table)).same n b.counted) b.counted
 
   pub fills_count : n ≡ length (equations_of limit r)
   fills_count =
-      let e : Equations (length (equations_of limit r)) ≡ Equations n = sym (ap counted_of fills_outcome) ∙ b.counted in
+      let e : accepted (length (equations_of limit r)) ≡ accepted n = sym (ap counted_of fills_outcome) ∙ b.counted in
       cc
 
 -- ---- the promises
@@ -227,7 +226,7 @@ entries_answer limit mark s table r n after b k c h code =
     (built_answers limit mark s table b.below b.bytes k c code (with_equations limit r) (fills_outcome b) (omega (arith, fills_count b, h)))
 
 -- a refusal leaves any table as it was, whichever filling is refused
-pub outcome_unchanged : (mark : ℕ) (table : List ℕ) (o : Outcome Synthesis) (number place : ℕ) → counted_of o ≡ Refused number place
+pub outcome_unchanged : (mark : ℕ) (table : List ℕ) (o : Outcome Synthesis) (number place : ℕ) → counted_of o ≡ refused number place
     → TableUnchanged mark table o
 outcome_unchanged mark table o number place e = rw (counted_refuses o number place e) (record { table = refl })
 

@@ -22,7 +22,6 @@ use Rattle.synthesis.specs.Answering.{first_of, answer_of, unsatisfiable}
 use Rattle.synthesis.specs.Search.{index_of, found}
 use Rattle.synthesis.specs.Building.{equations_of, Synthesis, with_equations, synthesis_of, counted_of}
 use Rattle.synthesis.specs.Promises.{WellFormedFormula, Counts, AnswersCount, Closed, RefusesTooMany, ReachableEquations, ReachesEquations}
-use Rattle.synthesis.specs.declared.Counted.TheVariants.{Equations, Refused}
 use Rattle.synthesis.specs.Arrays.{Distinct}
 use Rattle.synthesis.proofs.Numberings.Indices.{Member, index_is, index_first, member_at, distinct_indices, distinct_fits}
 use Rattle.synthesis.proofs.Numberings.Tabulating.{Injective}
@@ -155,7 +154,7 @@ answers_count limit s n e =
     }) y.0 y.1 y.2
 
 -- the same of the rule that the file says
-pub counted_equations : (limit : ℕ) (s : List ℕ) (r : Rule) (n : ℕ) → rule_of s ≡ accepted r → counted_of (synthesis_of limit s) ≡ Equations n
+pub counted_equations : (limit : ℕ) (s : List ℕ) (r : Rule) (n : ℕ) → rule_of s ≡ accepted r → counted_of (synthesis_of limit s) ≡ accepted n
     → n ≡ length (equations_of limit r)
 counted_equations limit s r n read e =
     let counts = answers_count limit s n e in
@@ -180,14 +179,14 @@ reaches_equations limit s bytes r n read e =
 pub refuses_too_many : RefusesTooMany
 refuses_too_many limit s r read satisfiable = (refused_nine_none_closed, none_closed_refused_nine)
   where
-    refused_nine_none_closed : counted_of (synthesis_of limit s) ≡ Refused 9 0 → (es : List ℕ) → length es ≤ limit → Closed r es → ⊥
+    refused_nine_none_closed : counted_of (synthesis_of limit s) ≡ refused 9 0 → (es : List ℕ) → length es ≤ limit → Closed r es → ⊥
     refused_nine_none_closed e es few closed =
         omega (arith, refused_nine limit s r read (counted_refuses (synthesis_of limit s) 9 0 e), closed_longer limit r es closed)
 
-    none_closed_refused_nine : ((es : List ℕ) → length es ≤ limit → Closed r es → ⊥) → counted_of (synthesis_of limit s) ≡ Refused 9 0
+    none_closed_refused_nine : ((es : List ℕ) → length es ≤ limit → Closed r es → ⊥) → counted_of (synthesis_of limit s) ≡ refused 9 0
     none_closed_refused_nine h = on (unsatisfiable r) refl (dec_lt limit (length (equations_of limit r)))
       where
-        on : (b : Bool) → unsatisfiable r ≡ b → Dec (limit < length (equations_of limit r)) → counted_of (synthesis_of limit s) ≡ Refused 9 0
+        on : (b : Bool) → unsatisfiable r ≡ b → Dec (limit < length (equations_of limit r)) → counted_of (synthesis_of limit s) ≡ refused 9 0
         on true q d = absurd (satisfiable (rw (refuses_eight limit s r read q)))
         on false q (yes a) = rw (refuses_nine limit s r read q a)
         on false q (no a) = absurd (h (equations_of limit r) (omega arith) (closed_list limit r (omega arith)))

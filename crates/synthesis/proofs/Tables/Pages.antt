@@ -14,7 +14,6 @@ use Rattle.reading.proofs.Basics.Outcomes.{never_accepted, never_refused}
 use Rattle.synthesis.specs.Monitor.{most}
 use Rattle.synthesis.specs.Building.{Synthesis, synthesis_of, in_table, filling_of, counted_of, preview_limit, on_page, preview_of, preview_filling_of}
 use Rattle.synthesis.specs.LimitPromises.{AgreeOn}
-use Rattle.synthesis.specs.declared.Counted.TheVariants.{Equations}
 use Rattle.synthesis.proofs.Tables.SynthesisOutcomes.{counted_accepts, filling_by_count}
 use Rattle.synthesis.proofs.Tables.Limits.{limits_agree}
 
@@ -78,8 +77,8 @@ preview_accepted s y e =
     (smaller, (page_agrees s).accepts y smaller)
 
 -- the page counts what the smaller limit counts
-pub preview_within : (s : List ℕ) (n : ℕ) → (counted_of (preview_of s) ≡ Equations n) ↔ (counted_of (synthesis_of preview_limit s) ≡ Equations n)
+pub preview_within : (s : List ℕ) (n : ℕ) → (counted_of (preview_of s) ≡ accepted n) ↔ (counted_of (synthesis_of preview_limit s) ≡ accepted n)
 preview_within s n = (
-  λ e. let (y, is, n-is) = counted_accepts (preview_of s) n e in ap counted_of (preview_accepted s y is).0 ∙ ap Equations (sym n-is),
-  λ e. let (y, is, n-is) = counted_accepts (synthesis_of preview_limit s) n e in ap counted_of (preview_is s ∙ ap on_page is) ∙ ap Equations (sym n-is),
+  λ e. let (y, is, n-is) = counted_accepts (preview_of s) n e in ap counted_of (preview_accepted s y is).0 ∙ ap accepted (sym n-is),
+  λ e. let (y, is, n-is) = counted_accepts (synthesis_of preview_limit s) n e in ap counted_of (preview_is s ∙ ap on_page is) ∙ ap accepted (sym n-is),
 )

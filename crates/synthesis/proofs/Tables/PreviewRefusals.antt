@@ -17,7 +17,6 @@ use Rattle.synthesis.specs.Answering.{unsatisfiable}
 use Rattle.synthesis.specs.Building.{equations_of, Synthesis, within_limit, synthesis_of_rule, synthesis_of, in_table, filling_of, counted_of}
 use Rattle.synthesis.specs.Building.{preview_limit, on_page, preview_of, preview_filling_of}
 use Rattle.synthesis.specs.PreviewPromises.{OverLimit, PreviewRefusesTooMany, PreviewRefuses, PreviewRefusedUnchanged, MoreAtDesk, DeskShowsMore}
-use Rattle.synthesis.specs.declared.Counted.TheVariants.{Equations, Refused}
 use Rattle.synthesis.proofs.Tables.SynthesisOutcomes.{counted_accepts, counted_refuses, filling_by_count, filling_refuses, filling_accepted}
 use Rattle.synthesis.proofs.Tables.Equations.{refuses_too_many}
 use Rattle.synthesis.proofs.Tables.Built.{outcome_unchanged, refuses_violated_by_empty}
@@ -47,9 +46,9 @@ nine_over_limit limit s place bytes = (refused_nine, refuses_nine)
     refused_nine : synthesis_of limit s ≡ refused 9 place → (place ≡ 0) × OverLimit limit s
     refused_nine e =
         let (_, place_is, r, read) = beyond_eight limit s bytes 9 place e (omega arith) in
-        let nine : counted_of (synthesis_of limit s) ≡ Refused 9 0 = ap counted_of e ∙ ap (Refused 9) place_is in
-        let not_eight : counted_of (synthesis_of limit s) ≡ Refused 8 0 → ⊥ =
-        λ eight. let z : Refused 9 0 ≡ Refused 8 0 = sym nine ∙ eight in let w : ◌≡◌ {A = ℕ} 9 8 = cc in omega arith in (
+        let nine : counted_of (synthesis_of limit s) ≡ refused 9 0 = ap counted_of e ∙ ap (refused 9) place_is in
+        let not_eight : counted_of (synthesis_of limit s) ≡ refused 8 0 → ⊥ =
+        λ eight. let z : refused 9 0 ≡ refused 8 0 = sym nine ∙ eight in let w : ◌≡◌ {A = ℕ} 9 8 = cc in omega arith in (
           place_is,
           record {
             rule = r;
@@ -77,12 +76,12 @@ preview_refuses_too_many s place bytes = (
 
 -- ---- the page's refusals at the desk
 
-never_nine : (o : Outcome Synthesis) (place : ℕ) → counted_of (on_page o) ≡ Refused 9 place → ⊥
+never_nine : (o : Outcome Synthesis) (place : ℕ) → counted_of (on_page o) ≡ refused 9 place → ⊥
 never_nine o place e =
     page_refused o 9 place (counted_refuses (on_page o) 9 place e) (λ nine is. omega (arith, is)) (λ other is. other refl)
 
 -- a refusal other than 18 is one other than 9 under the smaller limit
-others : (o : Outcome Synthesis) {P : Type 0} (number place : ℕ) → (number ≡ 18 → ⊥) → counted_of (on_page o) ≡ Refused number place
+others : (o : Outcome Synthesis) {P : Type 0} (number place : ℕ) → (number ≡ 18 → ⊥) → counted_of (on_page o) ≡ refused number place
     → ((number ≡ 9 → ⊥) → o ≡ refused number place → P) → P
 others o number place not-18 e same =
     page_refused o number place (counted_refuses (on_page o) number place e) (λ nine is. absurd (not-18 is)) same
@@ -96,7 +95,7 @@ filling_others s capacity number place other e =
     (λ y is fits. sym ((page_agrees s).fills y is capacity) ∙ e)
 
 filling_refused : (s : List ℕ) (capacity number place : ℕ) → (number ≡ 18 → ⊥)
-    → counted_of (on_page (filling_of preview_limit s capacity)) ≡ Refused number place → counted_of (filling_of most s capacity) ≡ Refused number place
+    → counted_of (on_page (filling_of preview_limit s capacity)) ≡ refused number place → counted_of (filling_of most s capacity) ≡ refused number place
 filling_refused s capacity number place not-18 e =
     others (filling_of preview_limit s capacity) number place not-18 e (λ other is. ap counted_of (filling_others s capacity number place other is))
 
@@ -144,19 +143,19 @@ more_filled : (s : List ℕ) (capacity : ℕ) → MoreAtDesk (preview_filling_of
 more_filled s capacity n number place e e' = on (preview_of s) refl
   where
     -- the desk's count, and room for its rows
-    at_desk_lem : (counted_of (synthesis_of most s) ≡ Equations n) × (256 * n ≤ capacity)
+    at_desk_lem : (counted_of (synthesis_of most s) ≡ accepted n) × (256 * n ≤ capacity)
     at_desk_lem =
         let (y, is, n-is) = counted_accepts (filling_of most s capacity) n e in
         let (counts, room) = filling_accepted {counting = synthesis_of most s} capacity (filling_by_count most s capacity) y is in
-        (ap counted_of counts ∙ ap Equations (sym n-is), omega (arith, room, n-is))
+        (ap counted_of counts ∙ ap accepted (sym n-is), omega (arith, room, n-is))
 
     on : (o : Outcome Synthesis) → preview_of s ≡ o → (number ≡ 18) × (place ≡ 0) × (preview_limit < n)
     on (accepted y) is =
-        let n-is : Equations (length y.equations) ≡ Equations n = sym ((preview_counts s _).0 (ap counted_of is)).0 ∙ at_desk_lem.0 in
+        let n-is : accepted (length y.equations) ≡ accepted n = sym ((preview_counts s _).0 (ap counted_of is)).0 ∙ at_desk_lem.0 in
         let filled = (preview_fills_as_counted s capacity).enough n (ap counted_of is ∙ n-is) at_desk_lem.1 in
-        absurd (let z : Equations n ≡ Refused number place = sym filled ∙ e' in let w : ◌≡◌ {A = ℕ} 0 1 = cc in omega arith)
+        absurd (let z : accepted n ≡ refused number place = sym filled ∙ e' in let w : ◌≡◌ {A = ℕ} 0 1 = cc in omega arith)
     on (refused k q) is =
-        let same : Refused k q ≡ Refused number place = sym ((preview_fills_as_counted s capacity).refused k q (ap counted_of is)) ∙ e' in
+        let same : refused k q ≡ refused number place = sym ((preview_fills_as_counted s capacity).refused k q (ap counted_of is)) ∙ e' in
         more_counted s n number place at_desk_lem.0 (ap counted_of is ∙ same)
 
 pub desk_shows_more : DeskShowsMore

@@ -10,7 +10,6 @@ use Rattle.synthesis.specs.Monitor.{mark, most, row_of}
 use Rattle.synthesis.specs.Building.{Synthesis, synthesis_of, in_table, filling_of, counted_of, table_after}
 use Rattle.synthesis.specs.Building.{preview_limit, preview_of, preview_filling_of}
 use Rattle.synthesis.specs.PreviewPromises.{PreviewCounts, PreviewFillsAsCounted, PreviewAgrees, PreviewFillsAccepted}
-use Rattle.synthesis.specs.declared.Counted.TheVariants.{Equations}
 use Rattle.synthesis.proofs.Tables.SynthesisOutcomes.{counted_accepts, filling_by_count, filled_as_counted}
 use Rattle.synthesis.proofs.Tables.Built.{counted_row, fills_accepted}
 use Rattle.synthesis.proofs.Tables.Pages.{preview_by_count, preview_accepted, preview_within}
@@ -26,7 +25,7 @@ pub preview_fills_as_counted : PreviewFillsAsCounted
 preview_fills_as_counted s capacity = filled_as_counted capacity (preview_by_count s capacity)
 
 -- what the page counts, it fills as the desk does
-pub preview_same : (s : List ℕ) (n : ℕ) → counted_of (preview_of s) ≡ Equations n → (capacity : ℕ) → preview_filling_of s capacity ≡ filling_of most s capacity
+pub preview_same : (s : List ℕ) (n : ℕ) → counted_of (preview_of s) ≡ accepted n → (capacity : ℕ) → preview_filling_of s capacity ≡ filling_of most s capacity
 preview_same s n e capacity =
     let (y, shown, n-is) = counted_accepts (preview_of s) n e in
     rw (preview_by_count s capacity, filling_by_count most s capacity) (ap (λ (o : Outcome Synthesis). and_then o (in_table capacity)) (shown ∙ sym (preview_accepted s y shown).1))
@@ -48,7 +47,7 @@ preview_agrees s n e =
 
 pub preview_fills_accepted : PreviewFillsAccepted
 preview_fills_accepted s table n bytes e =
-    let counted : counted_of (preview_of s) ≡ Equations n = rw (← (preview_fills_as_counted s (length table)).same n e) e in
+    let counted : counted_of (preview_of s) ≡ accepted n = rw (← (preview_fills_as_counted s (length table)).same n e) e in
     let agrees = preview_agrees s n counted in
     let (r, fills) = fills_accepted most mark s table n (omega arith) bytes (sym (agrees.answer (length table)) ∙ e) in
     (r, rw (agrees.table table) fills)

@@ -17,7 +17,6 @@ use Rattle.synthesis.specs.Building.{equations_of, Synthesis, with_equations, sy
 use Rattle.synthesis.specs.Building.{shortened, short_of, short_filling_of}
 use Rattle.synthesis.specs.Promises.{FillsAsCounted}
 use Rattle.synthesis.specs.ShortPromises.{ShortFillsAsCounted}
-use Rattle.synthesis.specs.declared.Counted.TheVariants.{Equations, Refused}
 
 -- What holds of the synthesis of each rule that no check refuses, holds of what is accepted.
 pub synthesis_accepts : (limit : ℕ) (s : List ℕ) (P : Synthesis → Type 0)
@@ -88,11 +87,11 @@ module _ (limit : ℕ) (s : List ℕ) (r : Rule) (read : rule_of s ≡ accepted 
 
 -- ---- what the answer says of the outcome
 
-pub counted_accepts : (o : Outcome Synthesis) (n : ℕ) → counted_of o ≡ Equations n → (y : Synthesis) × (o ≡ accepted y) × (n ≡ length y.equations)
+pub counted_accepts : (o : Outcome Synthesis) (n : ℕ) → counted_of o ≡ accepted n → (y : Synthesis) × (o ≡ accepted y) × (n ≡ length y.equations)
 counted_accepts (accepted y) n e = (y, refl, cc)
 counted_accepts (refused number place) n e = let z : ◌≡◌ {A = ℕ} 0 1 = cc in absurd (omega arith)
 
-pub counted_refuses : (o : Outcome Synthesis) (number place : ℕ) → counted_of o ≡ Refused number place → o ≡ refused number place
+pub counted_refuses : (o : Outcome Synthesis) (number place : ℕ) → counted_of o ≡ refused number place → o ≡ refused number place
 counted_refuses (accepted y) number place e = let z : ◌≡◌ {A = ℕ} 0 1 = cc in absurd (omega arith)
 counted_refuses (refused number' place') number place e = cc
 
@@ -134,7 +133,7 @@ module _ {counting filling : Outcome Synthesis} (capacity : ℕ) (by_count : fil
     refused = λ number place e. ap counted_of (filling_refuses (counted_refuses counting number place e));
     enough = λ n e room.
         let (y, is, n-is) = counted_accepts counting n e in
-        ap counted_of (filling_accepts is (omega (arith, room, n-is))) ∙ ap Equations (sym n-is);
+        ap counted_of (filling_accepts is (omega (arith, room, n-is))) ∙ ap accepted (sym n-is);
     too_short = λ n e h. let (y, is, n-is) = counted_accepts counting n e in ap counted_of (filling_too_short is (omega (arith, h, n-is)));
     same = λ n e. let (y, is, n-is) = counted_accepts filling n e in is ∙ sym (filling_accepted y is).0;
   }
