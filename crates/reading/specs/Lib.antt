@@ -2,6 +2,8 @@
 pub mod Pattern
 pub mod Rule
 pub mod File
+pub mod Refusals
+pub mod Kinds
 pub mod Faults
 pub mod Nodes
 pub mod Numbered

@@ -1,7 +1,8 @@
 -- Which subformula a node number names: nodes are numbered from 0 in reading order.
 use Rattle.std.specs.Prelude.{ℕ, suc, ◌+◌, ◌<◌, ◌≡◌, false, List, [], ◌∷◌, ◌++◌, get_or, drop}
 use Rattle.reading.specs.Rule.{Formula, truth, falsity, both, necessity, max, variable, size, Guards, guarded}
-use Rattle.reading.specs.Rule.{truth_kind, falsity_kind, both_kind, necessity_kind, max_kind, variable_kind}
+use Rattle.reading.specs.declared.Node.{Node as NumberedNode}
+use Rattle.reading.specs.declared.Node.TheVariants.{Truth, Falsity, Both, Necessity, Max, Variable}
 
 -- a max node around a formula: its number and its body
 pub record EnclosingMax : Type 0 where
@@ -38,12 +39,12 @@ preorder keep own k ms (necessity p f) = own k ms (necessity p f) ∷ preorder k
 preorder keep own k ms (max f) = own k ms (max f) ∷ preorder keep own (suc k) (keep (record { number = k; body = f }) ∷ ms) f
 preorder keep own k ms (variable d) = own k ms (variable d) ∷ []
 
--- What the kind and the argument of node k say: its formula, its parts by their numbers, and the max of a variable.
-pub data Resolves (root : Formula) (k : ℕ) (ms : List EnclosingMax) : (kind argument : ℕ) → Formula → Type 0 where
-  is_truth : Resolves root k ms truth_kind 0 truth
-  is_falsity : Resolves root k ms falsity_kind 0 falsity
-  is_both : {m : ℕ} {f g : Formula} → Node root (suc k) ms f → Node root m ms g → Resolves root k ms both_kind m (both f g)
-  is_necessity : {p : ℕ} {f : Formula} → Node root (suc k) ms f → Resolves root k ms necessity_kind p (necessity p f)
-  is_max : {f : Formula} → Node root (suc k) (record { number = k; body = f } ∷ ms) f → Resolves root k ms max_kind 0 (max f)
+-- What node k says by number: its formula, its parts by their numbers, and the max of a variable.
+pub data Resolves (root : Formula) (k : ℕ) (ms : List EnclosingMax) : NumberedNode → Formula → Type 0 where
+  is_truth : Resolves root k ms Truth truth
+  is_falsity : Resolves root k ms Falsity falsity
+  is_both : {m : ℕ} {f g : Formula} → Node root (suc k) ms f → Node root m ms g → Resolves root k ms (Both m) (both f g)
+  is_necessity : {p : ℕ} {f : Formula} → Node root (suc k) ms f → Resolves root k ms (Necessity p) (necessity p f)
+  is_max : {f : Formula} → Node root (suc k) (record { number = k; body = f } ∷ ms) f → Resolves root k ms Max (max f)
   is_variable : {m d : ℕ} {f : Formula} → get_or ms d no_max ≡ record { number = m; body = f } → Node root m (drop (suc d) ms) (max f) → m < k
-      → Resolves root k ms variable_kind m (variable d)
+      → Resolves root k ms (Variable m) (variable d)

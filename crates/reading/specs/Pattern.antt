@@ -1,9 +1,8 @@
 -- Scans and patterns. A scan is its code, made of its kind, 0 to 7, and its slot, 0 to 31. A pattern is a set of codes, maybe of none: the mask says for
--- each kind whether it belongs, first and last name the slots. `Pattern`, `Lowest` and `Extent` are those of src/lib.rt.
+-- each kind whether it belongs, first and last name the slots. `Pattern` and `Extent` are those of src/lib.rt.
 use Rattle.std.specs.Prelude.{ℕ, ◌+◌, ◌-◌, ◌*◌, ◌/◌, ◌%◌, zero, suc, ◌^◌, ◌≤◌, ◌<◌, ◌≡◌, Bool, cond, not, ◌&&◌, ◌||◌, ltb, leb, eqb}
+use Rattle.std.specs.Prelude.{Option, Some, None}
 use Rattle.reading.specs.declared.Pattern.{Pattern}
-use Rattle.reading.specs.declared.Lowest.{Lowest}
-use Rattle.reading.specs.declared.Lowest.TheVariants.{Code, Absent}
 use Rattle.reading.specs.declared.Extent.{Extent}
 
 -- ---- codes
@@ -74,9 +73,9 @@ unfoldable pub count_below : ℕ → (ℕ → Bool) → ℕ
 count_below zero holds = zero
 count_below (suc n) holds = count_below n holds + cond (holds n) 1 0
 
--- the lowest of the 256 codes that a pattern covers; absent where it covers none
-abbrev pub lowest_of : Pattern → Lowest
-lowest_of p = let low = least 256 (covers p) in cond (ltb low 256) (Code low) Absent
+-- the lowest of the 256 codes that a pattern covers; none where it covers none
+abbrev pub lowest_of : Pattern → Option ℕ
+lowest_of p = let low = least 256 (covers p) in cond (ltb low 256) (Some low) None
 
 -- the lowest code that a pattern covers, and how many it covers
 abbrev pub extent_of : Pattern → Extent

@@ -1,17 +1,20 @@
 -- What this crate promises, as statements over the definitions; proofs/ has a theorem of each of these types.
 use Rattle.std.specs.Prelude.{ℕ, suc, ◌+◌, ◌-◌, ◌*◌, ◌/◌, ◌%◌, ◌^◌, ◌≤◌, ◌<◌, min, ◌≡◌, ◌↔◌, ◌⊎◌, Bool, true, false, List, [], map, length, get_or, take, ltb}
+use Rattle.std.specs.Prelude.{Some, None, Result}
 use Rattle.std.specs.Int.Count.{ones, count_trailing_zeros}
 use Rattle.reading.specs.Pattern.{code_of, kind_of, slot_of, bit, named, IsSlotSet, covers, least, count_below, extent_of}
 use Rattle.reading.specs.Pattern.{lowest_slot, slot_width, WellFormedPattern}
 use Rattle.reading.specs.Rule.{Formula, size, WellFormed, Rule, RuleWithinLimits, encode, Bytes}
-use Rattle.reading.specs.File.{accepted, refused, rule_of}
+use Rattle.reading.specs.File.{Outcome, accepted, refused, rule_of}
+use Rattle.reading.specs.Refusals.{number, outcome_of}
 use Rattle.reading.specs.Faults.{Fault, Unfinished, KindAt, IsPattern}
-use Rattle.reading.specs.Numbered.{kind, argument, number_of, numbered, no_pattern, no_extent, reading_of}
+use Rattle.reading.specs.Numbered.{node_of, number_of, listed, no_pattern, none_listed, numbered, reading_of}
 use Rattle.reading.specs.Nodes.{EnclosingMax, Node, guards_at, Resolves}
 use Rattle.reading.specs.declared.Pattern.{Pattern}
-use Rattle.reading.specs.declared.Lowest.TheVariants.{Code, Absent}
-use Rattle.reading.specs.declared.FileRead.{FileRead}
-use Rattle.reading.specs.declared.FileRead.TheVariants.{Accepted, Refused}
+use Rattle.reading.specs.declared.Node.TheVariants.{Truth}
+use Rattle.reading.specs.declared.NumberedRule.{NumberedRule}
+use Rattle.reading.specs.declared.refusals.Fault.{Fault as Fault'}
+use Rattle.reading.specs.declared.refusals.Refusal.{Refusal}
 
 -- 1. A file is accepted exactly as the encoding of a well-formed rule within the limits, and then as that rule.
 abbrev pub AcceptsEncodings : Type 0
@@ -21,53 +24,51 @@ AcceptsEncodings = (s : List ℕ) → Bytes s → (r : Rule) → (rule_of s ≡ 
 abbrev pub OneRule : Type 0
 OneRule = (r r' : Rule) → RuleWithinLimits r → RuleWithinLimits r' → encode r ≡ encode r' → r ≡ r'
 
--- In terms of what `read_rule` ensures: it answers "accepted" exactly for encodings of well-formed rules, with that rule by number.
+-- In terms of what `read_rule` ensures: it accepts exactly encodings of well-formed rules, with that rule by number.
 abbrev pub AnswersAccepted : Type 0
 AnswersAccepted =
-    (s : List ℕ) → Bytes s → ((reading_of (rule_of s)).answer ≡ Accepted)
-    ↔ ((r : Rule) × RuleWithinLimits r × (s ≡ encode r) × ((reading_of (rule_of s)).rule ≡ numbered r))
+    (s : List ℕ) → Bytes s → (n : NumberedRule) → (reading_of (rule_of s) ≡ accepted n)
+    ↔ ((r : Rule) × RuleWithinLimits r × (s ≡ encode r) × (n ≡ numbered r))
 
 -- A file is refused with a number at a place exactly where a clause of `Fault` has it so.
 abbrev pub RefusesAtTheFault : Type 0
 RefusesAtTheFault =
-    (s : List ℕ) → Bytes s → (number place : ℕ) → ((reading_of (rule_of s)).answer ≡ Refused number place) ↔ Fault s number place
+    (s : List ℕ) → Bytes s → (number place : ℕ) → (reading_of (rule_of s) ≡ refused number place) ↔ Fault s number place
 
 -- So no two of its clauses differ in number or place, and none holds exactly where the file is accepted.
-pub record OneFault (answer : FileRead) (Holds : (number place : ℕ) → Type 0) : Type 0 where
+pub record OneFault {A : Type 0} (said : Outcome A) (Holds : (number place : ℕ) → Type 0) : Type 0 where
   pub one : {number place number' place' : ℕ} → Holds number place → Holds number' place' → (number ≡ number') × (place ≡ place')
-  pub none : (answer ≡ Accepted) ↔ ((number place : ℕ) → Holds number place → ⊥)
+  pub none : ((x : A) × (said ≡ accepted x)) ↔ ((number place : ℕ) → Holds number place → ⊥)
 
 abbrev pub HasOneFault : Type 0
-HasOneFault = (s : List ℕ) → Bytes s → OneFault (reading_of (rule_of s)).answer (Fault s)
+HasOneFault = (s : List ℕ) → Bytes s → OneFault (reading_of (rule_of s)) (Fault s)
 
 -- 5 in words: where a pattern may come next and a whole record of one stands, the file is refused with 5 there exactly where that record has a slot over
 -- 31, whatever its mask.
 abbrev pub RefusesPattern : Type 0
 RefusesPattern =
     (s : List ℕ) → Bytes s → (at n : ℕ) → Unfinished s at n 0 → KindAt s at IsPattern → n < 32 → at + 4 ≤ length s
-    → ((reading_of (rule_of s)).answer ≡ Refused 5 at) ↔ ((31 < get_or s (at + 2) 0) ⊎ (31 < get_or s (at + 3) 0))
+    → (reading_of (rule_of s) ≡ refused 5 at) ↔ ((31 < get_or s (at + 2) 0) ⊎ (31 < get_or s (at + 3) 0))
 
--- 2. The numbered nodes are those of the tree: each number below the size names one node, and the kind and the argument that stand at
--- that number say its formula, its parts by their numbers, and the max of a variable. Each node is well formed where it stands.
+-- 2. The numbered nodes are those of the tree: each number below the size names one node, and what stands at that number
+-- says its formula, its parts by their numbers, and the max of a variable. Each node is well formed where it stands.
 pub record NumbersNodes (r : Rule) : Type 0 where
   pub counted : (numbered r).nnodes ≡ size r.formula
   pub exists : (k : ℕ) → k < size r.formula → (ms : List EnclosingMax) × (f : Formula) × Node r.formula k ms f
   pub unique : {k : ℕ} {ms ms' : List EnclosingMax} {f f' : Formula} → Node r.formula k ms f → Node r.formula k ms' f'
       → (ms ≡ ms') × (f ≡ f')
   pub fits : {k : ℕ} {ms : List EnclosingMax} {f : Formula} → Node r.formula k ms f → k + size f ≤ size r.formula
-  pub kind_is : {k : ℕ} {ms : List EnclosingMax} {f : Formula} → Node r.formula k ms f → get_or (numbered r).kinds k 0 ≡ kind f
-  pub argument_is : {k : ℕ} {ms : List EnclosingMax} {f : Formula} → Node r.formula k ms f
-      → get_or (numbered r).args k 0 ≡ argument k (map number_of ms) f
+  pub node_is : {k : ℕ} {ms : List EnclosingMax} {f : Formula} → Node r.formula k ms f
+      → get_or (numbered r).nodes k Truth ≡ node_of k (map number_of ms) f
   pub well_formed : {k : ℕ} {ms : List EnclosingMax} {f : Formula} (n : ℕ) → WellFormed n [] r.formula → (node : Node r.formula k ms f)
       → WellFormed n (guards_at node) f × (length (guards_at node) ≡ length ms)
   pub resolves : {k : ℕ} {ms : List EnclosingMax} {f : Formula} (n : ℕ) → WellFormed n [] r.formula → Node r.formula k ms f
-      → Resolves r.formula k ms (get_or (numbered r).kinds k 0) (get_or (numbered r).args k 0) f
+      → Resolves r.formula k ms (get_or (numbered r).nodes k Truth) f
 
 -- and the numbered patterns those of the rule
 pub record NumbersPatterns (r : Rule) : Type 0 where
   pub counted : (numbered r).npatterns ≡ length r.patterns
-  pub pattern : (i : ℕ) → get_or (numbered r).patterns i no_pattern ≡ get_or r.patterns i no_pattern
-  pub extent : (i : ℕ) → get_or (numbered r).extents i no_extent ≡ extent_of (get_or r.patterns i no_pattern)
+  pub pattern : (i : ℕ) → get_or (numbered r).patterns i none_listed ≡ listed (get_or r.patterns i no_pattern)
 
 -- 3. What a file says is settled by its first 257 bytes, and not by 256.
 abbrev pub SettledByFirstBytes : Type 0
@@ -104,11 +105,11 @@ pub record GoesRound (p : Pattern) : Type 0 where
 -- slot 0 where the pattern goes round; the trailing zeros of a mask that isn't 0 and the lowest slot give it, and the ones of any mask times the slot width
 -- give the count. (That the count is how many codes it covers is its definition.)
 pub record MeasuresPattern (p : Pattern) : Type 0 where
-  pub lowest : (low : ℕ) → ((extent_of p).lowest ≡ Code low) ↔ ((covers p low ≡ true) × ((code : ℕ) → covers p code ≡ true → low ≤ code))
-  pub absent : ((extent_of p).lowest ≡ Absent) ↔ (p.mask ≡ 0)
+  pub lowest : (low : ℕ) → ((extent_of p).lowest ≡ Some low) ↔ ((covers p low ≡ true) × ((code : ℕ) → covers p code ≡ true → low ≤ code))
+  pub absent : ((extent_of p).lowest ≡ None) ↔ (p.mask ≡ 0)
   pub empty : (p.mask ≡ 0) ↔ ((code : ℕ) → covers p code ≡ false)
-  pub round_lowest : (low : ℕ) → (extent_of p).lowest ≡ Code low → p.last < p.first → slot_of low ≡ 0
-  pub by_zeros : 0 < p.mask → (extent_of p).lowest ≡ Code (count_trailing_zeros 8 p.mask * 32 + lowest_slot p.first p.last)
+  pub round_lowest : (low : ℕ) → (extent_of p).lowest ≡ Some low → p.last < p.first → slot_of low ≡ 0
+  pub by_zeros : 0 < p.mask → (extent_of p).lowest ≡ Some (count_trailing_zeros 8 p.mask * 32 + lowest_slot p.first p.last)
   pub by_ones : (extent_of p).count ≡ ones p.mask * slot_width p.first p.last
 
 -- 6. Words as sets of slots. `slots_under` and `slot_set` ensure `IsSlotSet`, the one of the slots under a width and the other of those that first and
@@ -136,13 +137,18 @@ pub record MeasuresSlots (holds : ℕ → Bool) (word : ℕ) : Type 0 where
 -- trailing zeros of the mask and of the set give the lowest code, if there is a kind, and the ones of the two give the count.
 pub record ToldBySet (p : Pattern) (word : ℕ) : Type 0 where
   pub covered : (code : ℕ) → (covers p code ≡ true) ↔ ((bit (kind_of code) p.mask ≡ 1) × (bit (slot_of code) word ≡ 1))
-  pub lowest : WellFormedPattern p → 0 < p.mask → (extent_of p).lowest ≡ Code (count_trailing_zeros 8 p.mask * 32 + count_trailing_zeros 32 word)
+  pub lowest : WellFormedPattern p → 0 < p.mask → (extent_of p).lowest ≡ Some (count_trailing_zeros 8 p.mask * 32 + count_trailing_zeros 32 word)
   pub count : WellFormedPattern p → (extent_of p).count ≡ ones p.mask * ones word
+
+-- 7. A clause that says which outcome a result stands for settles the result: the number tells the fault.
+pub record ResultsSettled : Type 1 where
+  pub number_tells : (fault fault' : Fault') → number fault ≡ number fault' → fault ≡ fault'
+  pub settled : {A : Type 0} (x y : Result A Refusal) → outcome_of x ≡ outcome_of y → x ≡ y
 
 -- ---- all of these
 
 -- The theorem `promises` has this type, so that each promise has its proof.
-pub record Promises : Type 0 where
+pub record Promises : Type 1 where
   pub accepts_encodings : AcceptsEncodings
   pub one_rule : OneRule
   pub answers_accepted : AnswersAccepted
@@ -161,3 +167,4 @@ pub record Promises : Type 0 where
   pub sets_of_slots : SetsOfSlots
   pub measures_slots : (holds : ℕ → Bool) (word : ℕ) → IsSlotSet holds word → MeasuresSlots holds word
   pub told_by_set : (p : Pattern) (word : ℕ) → IsSlotSet (named p.first p.last) word → ToldBySet p word
+  pub results_settled : ResultsSettled

@@ -1,60 +1,17 @@
 -- What the enums, structures and arrays of private functions stand for, and how far a loop over records has read. No public contract cites these.
 use Rattle.std.specs.Prelude.{ℕ, zero, suc, ◌+◌, ◌-◌, ◌≤◌, ◌≡◌, List, [], ◌∷◌, ◌++◌, map, true, false, length, get_or, replicate, eqb}
 use Rattle.std.proofs.lemmas.List.Edits.{sets}
-use Rattle.reading.specs.Pattern.{extent_of}
-use Rattle.reading.specs.File.{Outcome, accepted, refused, refuse, and_then, by_case, RecordFormat, Records, records_at, NodeRecord, Parsed}
-use Rattle.reading.specs.Rule.{Guards, Symbol, kind_byte, body_bytes}
-use Rattle.reading.specs.Numbered.{kinds, args, padded, no_pattern, no_extent}
+use Rattle.reading.specs.File.{Outcome, accepted, refused, refuse, and_then, RecordFormat, Records, records_at, NodeRecord, Parsed}
+use Rattle.reading.specs.Rule.{Guards, Symbol, Truth, Falsity, Both, Necessity, Max, Variable}
+use Rattle.reading.specs.Numbered.{nodes, padded, listed, none_listed}
 use Rattle.reading.specs.declared.Pattern.{Pattern}
-use Rattle.reading.specs.declared.FileRead.{FileRead}
-use Rattle.reading.specs.declared.FileRead as FileRead'
-use Rattle.reading.specs.declared.patterns.PatternRead.{PatternRead}
-use Rattle.reading.specs.declared.patterns.PatternRead as PatternRead'
+use Rattle.reading.specs.declared.Node.{Node}
 use Rattle.reading.specs.declared.patterns.Head.{Head}
 use Rattle.reading.specs.declared.formulas.Scope.{Scope}
+use Rattle.reading.specs.declared.formulas.Symbol.{Symbol as Symbol'}
+use Rattle.reading.specs.declared.formulas.Symbol.TheVariants as Symbol'
 use Rattle.reading.specs.declared.formulas.Record.{Record}
 use Rattle.reading.specs.declared.formulas.Rest.{Rest}
-use Rattle.reading.specs.declared.formulas.NodeRead.{NodeRead}
-use Rattle.reading.specs.declared.formulas.NodeRead as NodeRead'
-use Rattle.reading.specs.declared.formulas.FormulaRead.{FormulaRead}
-use Rattle.reading.specs.declared.formulas.FormulaRead as FormulaRead'
-
--- ---- the case of each outcome; a refusal has the paper's number and place
-
-abbrev pub pattern_read : Outcome Pattern → PatternRead
-pattern_read = by_case PatternRead'.TheVariants.Read PatternRead'.TheVariants.Refused
-
--- the byte of a symbol's body, 0 where it has none
-abbrev pub body_byte : Symbol → ℕ
-body_byte x = get_or (body_bytes x) 0 0
-
-abbrev pub node_of : NodeRecord → Record
-node_of r = record { kind = kind_byte r.symbol; body = body_byte r.symbol; next = r.next }
-
-abbrev pub node_read : Outcome NodeRecord → NodeRead
-node_read = by_case (λ r. NodeRead'.TheVariants.Read (node_of r)) NodeRead'.TheVariants.Refused
-
--- a formula's case has the place after it and the nodes left; its nodes are in the arrays
-abbrev pub rest_of : Parsed → Rest
-rest_of f = record { next = f.next; left = f.left }
-
-abbrev pub formula_read : Outcome Parsed → FormulaRead
-formula_read = by_case (λ f. FormulaRead'.TheVariants.Read (rest_of f)) FormulaRead'.TheVariants.Refused
-
--- ---- refusals passed up
-
-abbrev pub pattern_answer : PatternRead → FileRead
-pattern_answer (PatternRead'.TheVariants.Read p) = FileRead'.TheVariants.Accepted
-pattern_answer (PatternRead'.TheVariants.Refused number place) = FileRead'.TheVariants.Refused number place
-
-abbrev pub formula_answer : FormulaRead → FileRead
-formula_answer (FormulaRead'.TheVariants.Read r) = FileRead'.TheVariants.Accepted
-formula_answer (FormulaRead'.TheVariants.Refused number place) = FileRead'.TheVariants.Refused number place
-
--- no caller passes a node up that was read, so any case will do for it
-abbrev pub passed_up : NodeRead → FormulaRead
-passed_up (NodeRead'.TheVariants.Read r) = FormulaRead'.TheVariants.Refused 0 0
-passed_up (NodeRead'.TheVariants.Refused number place) = FormulaRead'.TheVariants.Refused number place
 
 -- ---- a list of records, read one after the other
 
@@ -76,18 +33,34 @@ pub record RecordsBegun {A : Type 0} (r : RecordFormat A) (blank : A) (limit sta
 
 -- ---- the patterns that a file begins with
 
-abbrev pub head_of : Records Pattern → Head
-head_of ps = record {
-  answer = FileRead'.TheVariants.Accepted;
-  next = ps.next;
+abbrev pub head_of : Outcome (Records Pattern) → Outcome Head
+head_of o = and_then o (λ ps. accepted (record {
+  list = padded 32 none_listed (map listed ps.list);
   count = length ps.list;
-  list = padded 32 no_pattern ps.list;
-  extents = padded 32 no_extent (map extent_of ps.list);
-}
+  next = ps.next;
+}))
 
-abbrev pub HeadOf : Outcome (Records Pattern) → Head → Type 0
-HeadOf (accepted ps) h = h ≡ head_of ps
-HeadOf (refused number place) h = h.answer ≡ FileRead'.TheVariants.Refused number place
+-- ---- a node, and the place after a formula
+
+abbrev pub symbol_of : Symbol → Symbol'
+symbol_of Truth = Symbol'.Truth
+symbol_of Falsity = Symbol'.Falsity
+symbol_of Both = Symbol'.Both
+symbol_of (Necessity p) = Symbol'.Necessity p
+symbol_of Max = Symbol'.Max
+symbol_of (Variable d) = Symbol'.Variable d
+
+abbrev pub record_of : Outcome NodeRecord → Outcome Record
+record_of o = and_then o (λ r. accepted (record { symbol = symbol_of r.symbol; next = r.next }))
+
+-- the nodes themselves are in the array
+abbrev pub rest_of : Outcome Parsed → Outcome Rest
+rest_of o = and_then o (λ f. accepted (record { next = f.next; left = f.left }))
+
+-- the nodes of a formula that is read go to their numbers, from k on
+abbrev pub Written : Outcome Parsed → (k : ℕ) (ms : List ℕ) (before after : List Node) → Type 0
+Written (accepted f) k ms before after = after ≡ sets before k (nodes k ms f.formula)
+Written (refused number place) k ms before after = Unit
 
 -- ---- the max nodes around a record
 
@@ -111,19 +84,8 @@ pub record IsScope (sc : Scope) (count : ℕ) (ms : List ℕ) (g : Guards) : Typ
   pub order : sc.unguarded ≤ sc.count
   pub room : length sc.nodes ≡ 64
 
--- ---- the arrays of nodes
-
 -- each max around a record took one of the 64 nodes
 pub record Fit (left : ℕ) (sc : Scope) : Type 0 where
   pub few : sc.count + left ≤ 64
   pub order : sc.unguarded ≤ sc.count
   pub room : length sc.nodes ≡ 64
-
--- the nodes of a formula that is read go to their numbers, from k on
-abbrev pub Written : Outcome Parsed → ℕ → List ℕ → (ks gs ks' gs' : List ℕ) → Type 0
-Written (accepted f) k ms ks gs ks' gs' = (ks' ≡ sets ks k (kinds k ms f.formula)) × (gs' ≡ sets gs k (args k ms f.formula))
-Written (refused number place) k ms ks gs ks' gs' = Unit
-
-pub record Reads (o : Outcome Parsed) (left : ℕ) (ms : List ℕ) (ks gs ks' gs' : List ℕ) (r : FormulaRead) : Type 0 where
-  pub answer : r ≡ formula_read o
-  pub written : Written o (64 - left) ms ks gs ks' gs'

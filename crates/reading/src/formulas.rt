@@ -2,12 +2,13 @@
 ghost use Rattle.std.specs.Prelude.{◌≡◌, ◌+◌, ◌-◌, ◌≤◌, ◌<◌, [], ◌∷◌, false, length, get_or};
 ghost use Rattle.reading.specs.Rule.{guarded};
 ghost use Rattle.reading.specs.File.{necessity_at, variable_at, node_at, formula_of};
-ghost use Rattle.reading.specs.Representations.{node_read, passed_up, formula_answer, enclosing, guards_of, IsScope, Fit, Reads};
+ghost use Rattle.reading.specs.Refusals.{outcome_of};
+ghost use Rattle.reading.specs.Representations.{record_of, rest_of, enclosing, guards_of, IsScope, Fit, Written};
 
-use crate::FileRead;
-use crate::kinds::{BOTH, MAX, NECESSITY, PATTERN, VARIABLE};
+use crate::kind::Kind;
+use crate::{Fault, Node, Refusal};
 
-// The max nodes around a record, outermost first. The innermost `unguarded` of them have no necessity below them yet.
+/// The max nodes around a record, outermost first. The innermost `unguarded` of them have no necessity below them yet.
 #[derive(Clone, Copy)]
 pub(crate) struct Scope {
     pub(crate) count: usize,
@@ -15,45 +16,40 @@ pub(crate) struct Scope {
     pub(crate) nodes: [u8; 64],
 }
 
-// A node record: its kind, the pattern number or the depth in its body, or 0, and the place after it.
+/// A node without its parts, as its record has it: with the number of a pattern, or with a depth.
+#[derive(Clone, Copy)]
+pub(crate) enum Symbol {
+    Truth,
+    Falsity,
+    Both,
+    Necessity(u8),
+    Max,
+    Variable(u8),
+}
+
+/// A node record, and the place after it.
 #[derive(Clone, Copy)]
 pub(crate) struct Record {
-    pub(crate) kind: u8,
-    pub(crate) body: u8,
+    pub(crate) symbol: Symbol,
     pub(crate) next: usize,
 }
 
-// What reading a node record finds.
-#[derive(Clone, Copy)]
-pub(crate) enum NodeRead {
-    Read(Record),
-    Refused(u8, usize),
-}
-
-// The place after a formula, and how many of the 64 nodes are left.
+/// The place after a formula, and how many of the 64 nodes are left.
 #[derive(Clone, Copy)]
 pub(crate) struct Rest {
     pub(crate) next: usize,
     pub(crate) left: usize,
 }
 
-// What reading a formula finds.
-#[derive(Clone, Copy)]
-pub(crate) enum FormulaRead {
-    Read(Rest),
-    Refused(u8, usize),
-}
-
 impl Scope {
-    // Inside no max.
+    /// Inside no max.
     pub(crate) fn outermost() -> Self
         ensures { IsScope result 0 [] [] }
     {
-        let nodes = [0u8; 64];
         Scope {
             count: 0,
             unguarded: 0,
-            nodes,
+            nodes: [0u8; 64],
         }
     }
 
@@ -62,10 +58,9 @@ impl Scope {
         requires { (self.count < 64) × (self.unguarded ≤ self.count) × (length self.nodes ≡ 64) }
         ensures { IsScope result (self.count + 1) (k ∷ enclosing self) (false ∷ guards_of self.count self.unguarded) }
     {
-        let n = self.count;
-        self.nodes[n] = k;
-        self.count = n + 1;
-        self.unguarded = self.unguarded + 1;
+        self.nodes[self.count] = k;
+        self.count += 1;
+        self.unguarded += 1;
         self
     }
 
@@ -79,53 +74,49 @@ impl Scope {
     }
 
     // The max node of the variable of a depth.
-    fn max_of(self, depth: u8) -> u8
-        requires { (self.count ≤ 64) × (depth < self.count) × (length self.nodes ≡ 64) }
-        ensures { result ≡ get_or (enclosing self) depth 0 }
+    fn max_of(&self, depth: u8) -> u8
+        requires { (self.now.count ≤ 64) × (depth < self.now.count) × (length self.now.nodes ≡ 64) }
+        ensures { result ≡ get_or (enclosing self.now) depth 0 }
     {
-        let i = self.count - 1 - (depth as usize);
-        let nodes = self.nodes;
-        nodes[i]
+        self.nodes[self.count - 1 - depth as usize]
     }
 }
 
 // The necessity at `at`, whose body is a pattern number.
-fn read_necessity(bytes: &[u8], patterns: usize, at: usize) -> NodeRead
+fn read_necessity(bytes: &[u8], patterns: usize, at: usize) -> Result<Record, Refusal>
     requires { at < length bytes.now }
-    ensures { result ≡ node_read (necessity_at bytes.now patterns at) }
+    ensures { outcome_of result ≡ record_of (necessity_at bytes.now patterns at) }
 {
     if bytes.len() <= at + 1 {
-        return NodeRead::Refused(1, bytes.len());
+        return Err(Fault::FileEnds.at(bytes.len()));
     }
     let pattern = bytes[at + 1];
     if patterns <= pattern as usize {
-        return NodeRead::Refused(6, at);
+        return Err(Fault::NamesNothing.at(at));
     }
-    NodeRead::Read(Record {
-        kind: NECESSITY,
-        body: pattern,
+    Ok(Record {
+        symbol: Symbol::Necessity(pattern),
         next: at + 2,
     })
 }
 
 // The variable at `at`, whose body is a depth, inside so many max nodes of which the innermost `unguarded` are unguarded.
-fn read_variable(bytes: &[u8], maxes: usize, unguarded: usize, at: usize) -> NodeRead
+fn read_variable(bytes: &[u8], maxes: usize, unguarded: usize, at: usize) -> Result<Record, Refusal>
     requires { (at < length bytes.now) × (unguarded ≤ maxes) }
-    ensures { result ≡ node_read (variable_at bytes.now (guards_of maxes unguarded) at) }
+    ensures { outcome_of result ≡ record_of (variable_at bytes.now (guards_of maxes unguarded) at) }
 {
     if bytes.len() <= at + 1 {
-        return NodeRead::Refused(1, bytes.len());
+        return Err(Fault::FileEnds.at(bytes.len()));
     }
     let depth = bytes[at + 1];
     if maxes <= depth as usize {
-        return NodeRead::Refused(6, at);
+        return Err(Fault::NamesNothing.at(at));
     }
     if (depth as usize) < unguarded {
-        return NodeRead::Refused(7, at);
+        return Err(Fault::Unguarded.at(at));
     }
-    NodeRead::Read(Record {
-        kind: VARIABLE,
-        body: depth,
+    Ok(Record {
+        symbol: Symbol::Variable(depth),
         next: at + 2,
     })
 }
@@ -138,105 +129,83 @@ fn read_node(
     left: usize,
     maxes: usize,
     unguarded: usize,
-) -> NodeRead
+) -> Result<Record, Refusal>
     requires { unguarded ≤ maxes }
-    ensures { result ≡ node_read (node_at bytes.now patterns at left (guards_of maxes unguarded)) }
+    ensures { outcome_of result ≡ record_of (node_at bytes.now patterns at left (guards_of maxes unguarded)) }
 {
     if bytes.len() <= at {
-        return NodeRead::Refused(1, bytes.len());
+        return Err(Fault::FileEnds.at(bytes.len()));
     }
-    let kind = bytes[at];
-    if kind == 0 {
-        return NodeRead::Refused(2, at);
-    }
-    if VARIABLE < kind {
-        return NodeRead::Refused(2, at);
-    }
-    if kind == PATTERN {
-        return NodeRead::Refused(3, at);
+    let Ok(kind) = Kind::try_from(bytes[at]) else {
+        return Err(Fault::UnknownKind.at(at));
+    };
+    if kind == Kind::Pattern {
+        return Err(Fault::Misplaced.at(at));
     }
     if left == 0 {
-        return NodeRead::Refused(4, at);
+        return Err(Fault::TooManyRecords.at(at));
     }
-    if kind == NECESSITY {
-        return read_necessity(bytes, patterns, at);
-    }
-    if kind == VARIABLE {
-        return read_variable(bytes, maxes, unguarded, at);
-    }
-    NodeRead::Read(Record {
-        kind,
-        body: 0,
+    let symbol = match kind {
+        Kind::Necessity => return read_necessity(bytes, patterns, at),
+        Kind::Variable => return read_variable(bytes, maxes, unguarded, at),
+        Kind::Falsity => Symbol::Falsity,
+        Kind::Both => Symbol::Both,
+        Kind::Max => Symbol::Max,
+        _ => Symbol::Truth,
+    };
+    Ok(Record {
+        symbol,
         next: at + 1,
     })
 }
 
-// The refusal of a node as that of its formula.
-fn passed_up(found: NodeRead) -> FormulaRead
-    ensures { result ≡ passed_up found }
-{
-    match found {
-        NodeRead::Read(_) => FormulaRead::Refused(0, 0),
-        NodeRead::Refused(number, place) => FormulaRead::Refused(number, place),
-    }
-}
-
-// A formula: a node, then its parts. The first of the `left` nodes that are left is node 64 - left; each node's kind and argument
-// go to its number in `kinds` and `args`.
+/// A formula: a node, then its parts. The first of the `left` nodes that are left is node 64 - left; each node goes to its number in `nodes`.
 pub(crate) fn read_formula(
     bytes: &[u8],
     patterns: usize,
     at: usize,
     left: usize,
     scope: Scope,
-    kinds: &mut [u8; 64],
-    args: &mut [u8; 64],
-) -> FormulaRead
+    nodes: &mut [Node; 64],
+) -> Result<Rest, Refusal>
     requires { Fit left scope }
-    ensures { Reads (formula_of bytes.now patterns at left (guards_of scope.count scope.unguarded)) left (enclosing scope)
-        kinds.old args.old kinds.new args.new result }
+    ensures answer { outcome_of result ≡ rest_of (formula_of bytes.now patterns at left (guards_of scope.count scope.unguarded)) }
+    ensures written { Written (formula_of bytes.now patterns at left (guards_of scope.count scope.unguarded)) (64 - left) (enclosing scope) nodes.old nodes.new }
 {
-    let found = read_node(bytes, patterns, at, left, scope.count, scope.unguarded);
-    let NodeRead::Read(node) = found else {
-        return passed_up(found);
-    };
+    let Record { symbol, next } = read_node(
+        bytes,
+        patterns,
+        at,
+        left,
+        scope.count,
+        scope.unguarded,
+    )?;
     let k = 64 - left;
     let others = left - 1;
-    let kind = node.kind;
-    let next = node.next;
-    let body = node.body;
-    kinds[k] = kind;
-    args[k] = body;
-    if kind == BOTH {
-        let first = read_formula(bytes, patterns, next, others, scope, kinds, args);
-        let FormulaRead::Read(rest) = first else {
-            return first;
-        };
-        let after = rest.next;
-        let more = rest.left;
-        args[k] = (64 - more) as u8;
-        return read_formula(bytes, patterns, after, more, scope, kinds, args);
+    match symbol {
+        Symbol::Truth => nodes[k] = Node::Truth,
+        Symbol::Falsity => nodes[k] = Node::Falsity,
+        Symbol::Variable(depth) => nodes[k] = Node::Variable(scope.max_of(depth)),
+        Symbol::Necessity(pattern) => {
+            nodes[k] = Node::Necessity(pattern);
+            return read_formula(bytes, patterns, next, others, scope.guarded(), nodes);
+        }
+        Symbol::Max => {
+            nodes[k] = Node::Max;
+            return read_formula(
+                bytes,
+                patterns,
+                next,
+                others,
+                scope.inside_max(k as u8),
+                nodes,
+            );
+        }
+        Symbol::Both => {
+            let first = read_formula(bytes, patterns, next, others, scope, nodes)?;
+            nodes[k] = Node::Both((64 - first.left) as u8);
+            return read_formula(bytes, patterns, first.next, first.left, scope, nodes);
+        }
     }
-    if kind == NECESSITY {
-        let inner = scope.guarded();
-        return read_formula(bytes, patterns, next, others, inner, kinds, args);
-    }
-    if kind == MAX {
-        let inner = scope.inside_max(k as u8);
-        return read_formula(bytes, patterns, next, others, inner, kinds, args);
-    }
-    if kind == VARIABLE {
-        args[k] = scope.max_of(body);
-    }
-    FormulaRead::Read(Rest { next, left: others })
-}
-
-// The answer to a file whose formula was found so.
-pub(crate) fn answer(found: FormulaRead) -> FileRead
-    ensures { result ≡ formula_answer found }
-{
-    match found {
-        FormulaRead::Read(_) => FileRead::Accepted,
-        FormulaRead::Refused(number, place) => FileRead::Refused(number, place),
-    }
+    Ok(Rest { next, left: others })
 }

@@ -2,27 +2,19 @@
 ghost use Rattle.std.specs.Prelude.{◌≡◌, ◌<◌, length};
 ghost use Rattle.reading.specs.Pattern.{extent_of, WellFormedPattern};
 ghost use Rattle.reading.specs.File.{is_pattern, pattern_format, patterns_at};
-ghost use Rattle.reading.specs.Representations.{record_at, pattern_read, pattern_answer, HeadOf};
+ghost use Rattle.reading.specs.Refusals.{outcome_of};
+ghost use Rattle.reading.specs.Representations.{record_at, head_of};
 
-use crate::kinds::PATTERN;
+use crate::kind::Kind;
 use crate::slots::slot_set;
-use crate::{Extent, FileRead, Lowest, Pattern, blank_rule};
+use crate::{Extent, Fault, Listed, Pattern, Refusal};
 
-// What reading a pattern record finds: the pattern, or the number and place of a refusal.
+/// The patterns that a file begins with, and the place after them.
 #[derive(Clone, Copy)]
-pub(crate) enum PatternRead {
-    Read(Pattern),
-    Refused(u8, usize),
-}
-
-// The patterns that a file begins with, and the place after them.
-#[derive(Drop)]
 pub(crate) struct Head {
-    pub(crate) answer: FileRead,
-    pub(crate) next: usize,
+    pub(crate) list: [Listed; 32],
     pub(crate) count: usize,
-    pub(crate) list: [Pattern; 32],
-    pub(crate) extents: [Extent; 32],
+    pub(crate) next: usize,
 }
 
 // The lowest code and the count of codes of a pattern: by the trailing zeros of the mask and of the set of slots, and by their ones. One of no kind covers
@@ -33,7 +25,7 @@ fn extent(p: Pattern) -> Extent
 {
     if p.mask == 0 {
         return Extent {
-            lowest: Lowest::Absent,
+            lowest: None,
             count: 0,
         };
     }
@@ -41,86 +33,68 @@ fn extent(p: Pattern) -> Extent
     let lowest = u8::trailing_zeros(p.mask) * 32 + u32::trailing_zeros(slots);
     let count = u8::count_ones(p.mask) * u32::count_ones(slots);
     Extent {
-        lowest: Lowest::Code(lowest as u8),
+        lowest: Some(lowest as u8),
         count: count as u16,
     }
 }
 
 // The pattern record at `at`, with `left` of the 32 patterns left.
-fn read_pattern(bytes: &[u8], at: usize, left: usize) -> PatternRead
+fn read_pattern(bytes: &[u8], at: usize, left: usize) -> Result<Pattern, Refusal>
     requires { at < length bytes.now }
-    ensures { result ≡ pattern_read (record_at (pattern_format bytes.now) left at) }
+    ensures { outcome_of result ≡ record_at (pattern_format bytes.now) left at }
 {
     if left == 0 {
-        return PatternRead::Refused(4, at);
+        return Err(Fault::TooManyRecords.at(at));
     }
     if bytes.len() <= at + 3 {
-        return PatternRead::Refused(1, bytes.len());
+        return Err(Fault::FileEnds.at(bytes.len()));
     }
     let mask = bytes[at + 1];
     let first = bytes[at + 2];
     let last = bytes[at + 3];
-    if 31 < first {
-        return PatternRead::Refused(5, at);
+    if 31 < first || 31 < last {
+        return Err(Fault::NoSuchSlot.at(at));
     }
-    if 31 < last {
-        return PatternRead::Refused(5, at);
-    }
-    PatternRead::Read(Pattern { mask, first, last })
+    Ok(Pattern { mask, first, last })
 }
 
 // Whether a pattern record begins at `at`.
 fn is_pattern(bytes: &[u8], at: usize) -> bool
     ensures { result ≡ is_pattern bytes.now at }
 {
-    if at < bytes.len() {
-        bytes[at] == PATTERN
-    } else {
-        false
-    }
-}
-
-// The answer to a file one of whose patterns was found so.
-fn answer(found: PatternRead) -> FileRead
-    ensures { result ≡ pattern_answer found }
-{
-    match found {
-        PatternRead::Read(_) => FileRead::Accepted,
-        PatternRead::Refused(number, place) => FileRead::Refused(number, place),
-    }
+    at < bytes.len() && bytes[at] == Kind::Pattern as u8
 }
 
 // The patterns that a file begins with.
-pub(crate) fn read_patterns(bytes: &[u8]) -> Head
-    ensures { HeadOf (patterns_at 32 bytes.now 0) result }
+pub(crate) fn read_patterns(bytes: &[u8]) -> Result<Head, Refusal>
+    ensures { outcome_of result ≡ head_of (patterns_at 32 bytes.now 0) }
 {
-    let blank = blank_rule();
-    let mut list = blank.patterns;
-    let mut extents = blank.extents;
+    let none = Listed {
+        pattern: Pattern {
+            mask: 0,
+            first: 0,
+            last: 0,
+        },
+        extent: Extent {
+            lowest: None,
+            count: 0,
+        },
+    };
+    let mut list = [none; 32];
+    let mut count = 0;
     let mut at = 0;
-    let mut n = 0;
     while is_pattern(bytes, at) {
-        let found = read_pattern(bytes, at, 32 - n);
-        let PatternRead::Read(p) = found else {
-            let answer = answer(found);
-            return Head {
-                answer,
-                next: at,
-                count: n,
-                list,
-                extents,
-            };
+        let pattern = read_pattern(bytes, at, 32 - count)?;
+        list[count] = Listed {
+            pattern,
+            extent: extent(pattern),
         };
-        list[n] = p;
-        extents[n] = extent(p);
-        n = n + 1;
-        at = at + 4;
+        count += 1;
+        at += 4;
     }
-    Head {
-        answer: FileRead::Accepted,
-        next: at,
-        count: n,
+    Ok(Head {
         list,
-        extents,
-    }
+        count,
+        next: at,
+    })
 }
