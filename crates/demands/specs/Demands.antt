@@ -143,10 +143,10 @@ pub record DemandTwo : Type 1 where
   pub explains : (s : List ℕ) → Bytes s → (kept : List ℕ) (scan : ℕ) → Reasons most s kept scan
   pub places : (s : List ℕ) → Bytes s → (r : Rule) → rule_of s ≡ accepted r → Placed r
   pub explains_runs : (s table : List ℕ) (r : Rule) (n : ℕ) (left : List ℕ) → Fills most mark s table r n left → ReasonsOn most mark s n left
-  pub reads_rule : (s : List ℕ) → Bytes s → IsAccepted (reading_of (rule_of s))
-      ↔ ((r : Rule) × RuleWithinLimits r × (s ≡ encode r) × (reading_of (rule_of s) ≡ accepted (numbered r)))
-  pub reads_model : (f : List ℕ) → Bytes f → IsAccepted (model_reading_of (phone_of f))
-      ↔ ((y : Phone) × PhoneWithinLimits y × (f ≡ encode_phone y) × (model_reading_of (phone_of f) ≡ accepted (stored y)))
+  pub reads_rule : (s : List ℕ) → Bytes s → (n : NumberedRule) → (reading_of (rule_of s) ≡ accepted n)
+      ↔ ((r : Rule) × RuleWithinLimits r × (s ≡ encode r) × (n ≡ numbered r))
+  pub reads_model : (f : List ℕ) → Bytes f → (m : PhoneModel) → (model_reading_of (phone_of f) ≡ accepted m)
+      ↔ ((y : Phone) × PhoneWithinLimits y × (f ≡ encode_phone y) × (m ≡ stored y))
   pub models : (f : List ℕ) (y : Phone) → (Bytes f × (phone_of f ≡ accepted y)) ↔ (PhoneWithinLimits y × (f ≡ encode_phone y))
   pub fills : (s table : List ℕ) (r : Rule) (n : ℕ) (left : List ℕ) → Fills most mark s table r n left
       ↔ (RuleWithinLimits r × (s ≡ encode r) × (counted_of (filling s table) ≡ accepted n) × (left ≡ table_filled s table))

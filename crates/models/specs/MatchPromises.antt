@@ -89,7 +89,7 @@ RefusesAtThePair = (l : List ℕ) (n n' number place : ℕ) → (pairs_of l n n'
 -- exactly where none of them is refused.
 pub record RefusedInOrder (one other : Outcome PhoneModel) (l : List ℕ) (answer : MatchAnswer) : Type 0 where
   pub first : (number place : ℕ) → (answer ≡ refused_first number place) ↔ (one ≡ refused number place)
-  pub second : (number place : ℕ) → (answer ≡ refused_second number place) ↔ (IsAccepted one × (other ≡ refused number place))
+  pub second : (number place : ℕ) → (answer ≡ refused_second number place) ↔ ((a : PhoneModel) × (one ≡ accepted a) × (other ≡ refused number place))
   pub pairs : (number place : ℕ) → (answer ≡ refused_pairs number place)
       ↔ ((a : PhoneModel) × (b : PhoneModel) × (one ≡ accepted a) × (other ≡ accepted b) × PairFault l a.states b.states number place)
   pub none : ((answer ≡ said true) ⊎ (answer ≡ said false))

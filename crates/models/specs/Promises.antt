@@ -90,7 +90,7 @@ pub record InOrder (limit : ℕ) (s : List ℕ) (capacity : ℕ) (f : List ℕ) 
   pub table : (n : ℕ) → counted_of (synthesis_of limit s) ≡ accepted n → capacity < 256 * n → answer ≡ refused 10 0
   pub model : (n : ℕ) → counted_of (synthesis_of limit s) ≡ accepted n → 256 * n ≤ capacity
       → (number place : ℕ) → model_reading_of (phone_of f) ≡ refused number place → answer ≡ refused number place
-  pub judged : (n : ℕ) → counted_of (synthesis_of limit s) ≡ accepted n → 256 * n ≤ capacity → IsAccepted (model_reading_of (phone_of f))
+  pub judged : (n : ℕ) → counted_of (synthesis_of limit s) ≡ accepted n → 256 * n ≤ capacity → (m : PhoneModel) → model_reading_of (phone_of f) ≡ accepted m
       → (answer ≡ accepted Meets) ⊎ (answer ≡ accepted Breaks)
 
 abbrev pub JudgesInOrder : Type 0
@@ -167,8 +167,8 @@ pub record StoresModel (y : Phone) : Type 0 where
 -- In terms of what `read_model` ensures: it answers "accepted" exactly for such files, and hands up that model.
 abbrev pub AnswersAccepted : Type 0
 AnswersAccepted =
-    (f : List ℕ) → Bytes f → IsAccepted (model_reading_of (phone_of f))
-    ↔ ((y : Phone) × PhoneWithinLimits y × (f ≡ encode_phone y) × (model_reading_of (phone_of f) ≡ accepted (stored y)))
+    (f : List ℕ) → Bytes f → (m : PhoneModel) → (model_reading_of (phone_of f) ≡ accepted m)
+    ↔ ((y : Phone) × PhoneWithinLimits y × (f ≡ encode_phone y) × (m ≡ stored y))
 
 -- A file is refused with a number at a place exactly where a clause of `Fault` has it so.
 abbrev pub RefusesAtTheFault : Type 0

@@ -6,7 +6,7 @@ use Rattle.reading.specs.Pattern.{code_of, kind_of, slot_of, bit, named, IsSlotS
 use Rattle.reading.specs.Pattern.{lowest_slot, slot_width, WellFormedPattern}
 use Rattle.reading.specs.Rule.{Formula, size, WellFormed, Rule, RuleWithinLimits, encode, Bytes}
 use Rattle.reading.specs.File.{Outcome, accepted, refused, rule_of}
-use Rattle.reading.specs.Refusals.{number, outcome_of}
+use Rattle.reading.specs.Refusals.{number, as_outcome}
 use Rattle.reading.specs.Faults.{Fault, Unfinished, KindAt, IsPattern}
 use Rattle.reading.specs.Numbered.{node_of, number_of, listed, no_pattern, none_listed, numbered, reading_of}
 use Rattle.reading.specs.Nodes.{EnclosingMax, Node, guards_at, Resolves}
@@ -143,7 +143,7 @@ pub record ToldBySet (p : Pattern) (word : ℕ) : Type 0 where
 -- 7. A clause that says which outcome a result stands for settles the result: the number tells the fault.
 pub record ResultsSettled : Type 1 where
   pub number_tells : (fault fault' : Fault') → number fault ≡ number fault' → fault ≡ fault'
-  pub settled : {A : Type 0} (x y : Result A Refusal) → outcome_of x ≡ outcome_of y → x ≡ y
+  pub settled : {A : Type 0} (x y : Result A Refusal) → as_outcome x ≡ as_outcome y → x ≡ y
 
 -- ---- all of these
 

@@ -36,6 +36,6 @@ number NoSuchPair = 23
 number TooManyPairs = 24
 
 -- what a result says: accepted, or refused with the number of its fault, and its place
-abbrev pub outcome_of : {A : Type 0} → Result A Refusal → Outcome A
-outcome_of (Ok a) = accepted a
-outcome_of (Err r) = refused (number r.fault) r.place
+abbrev pub as_outcome : {A : Type 0} → Result A Refusal → Outcome A
+as_outcome (Ok a) = accepted a
+as_outcome (Err r) = refused (number r.fault) r.place

@@ -2,7 +2,7 @@
 ghost use Rattle.std.specs.Prelude.{◌≡◌, ◌+◌, ◌-◌, ◌≤◌, ◌<◌, [], ◌∷◌, false, length, get_or};
 ghost use Rattle.reading.specs.Rule.{guarded};
 ghost use Rattle.reading.specs.File.{necessity_at, variable_at, node_at, formula_of};
-ghost use Rattle.reading.specs.Refusals.{outcome_of};
+ghost use Rattle.reading.specs.Refusals.{as_outcome};
 ghost use Rattle.reading.specs.Representations.{record_of, rest_of, enclosing, guards_of, IsScope, Fit, Written};
 
 use crate::kind::Kind;
@@ -85,7 +85,7 @@ impl Scope {
 // The necessity at `at`, whose body is a pattern number.
 fn read_necessity(bytes: &[u8], patterns: usize, at: usize) -> Result<Record, Refusal>
     requires { at < length bytes.now }
-    ensures { outcome_of result ≡ record_of (necessity_at bytes.now patterns at) }
+    ensures { as_outcome result ≡ record_of (necessity_at bytes.now patterns at) }
 {
     if bytes.len() <= at + 1 {
         return Err(Fault::FileEnds.at(bytes.len()));
@@ -103,7 +103,7 @@ fn read_necessity(bytes: &[u8], patterns: usize, at: usize) -> Result<Record, Re
 // The variable at `at`, whose body is a depth, inside so many max nodes of which the innermost `unguarded` are unguarded.
 fn read_variable(bytes: &[u8], maxes: usize, unguarded: usize, at: usize) -> Result<Record, Refusal>
     requires { (at < length bytes.now) × (unguarded ≤ maxes) }
-    ensures { outcome_of result ≡ record_of (variable_at bytes.now (guards_of maxes unguarded) at) }
+    ensures { as_outcome result ≡ record_of (variable_at bytes.now (guards_of maxes unguarded) at) }
 {
     if bytes.len() <= at + 1 {
         return Err(Fault::FileEnds.at(bytes.len()));
@@ -131,7 +131,7 @@ fn read_node(
     unguarded: usize,
 ) -> Result<Record, Refusal>
     requires { unguarded ≤ maxes }
-    ensures { outcome_of result ≡ record_of (node_at bytes.now patterns at left (guards_of maxes unguarded)) }
+    ensures { as_outcome result ≡ record_of (node_at bytes.now patterns at left (guards_of maxes unguarded)) }
 {
     if bytes.len() <= at {
         return Err(Fault::FileEnds.at(bytes.len()));
@@ -169,7 +169,7 @@ pub(crate) fn read_formula(
     nodes: &mut [Node; 64],
 ) -> Result<Rest, Refusal>
     requires { Fit left scope }
-    ensures answer { outcome_of result ≡ rest_of (formula_of bytes.now patterns at left (guards_of scope.count scope.unguarded)) }
+    ensures answer { as_outcome result ≡ rest_of (formula_of bytes.now patterns at left (guards_of scope.count scope.unguarded)) }
     ensures written { Written (formula_of bytes.now patterns at left (guards_of scope.count scope.unguarded)) (64 - left) (enclosing scope) nodes.old nodes.new }
 {
     let Record { symbol, next } = read_node(

@@ -10,7 +10,7 @@ pub mod slots;
 ghost use Rattle.std.specs.Prelude.{◌≡◌};
 ghost use Rattle.reading.specs.Pattern.{covers};
 ghost use Rattle.reading.specs.File.{rule_of};
-ghost use Rattle.reading.specs.Refusals.{outcome_of};
+ghost use Rattle.reading.specs.Refusals.{as_outcome};
 ghost use Rattle.reading.specs.Numbered.{node_kind, node_argument, reading_of};
 
 use kind::Kind;
@@ -99,7 +99,7 @@ pub fn covers(p: Pattern, code: u8) -> bool
 
 /// What the bytes of a rule file say.
 pub fn read_rule(bytes: &[u8]) -> Result<NumberedRule, Refusal>
-    ensures { outcome_of result ≡ reading_of (rule_of bytes.now) }
+    ensures { as_outcome result ≡ reading_of (rule_of bytes.now) }
 {
     let head = patterns::read_patterns(bytes)?;
     let mut nodes = [Node::Truth; 64];

@@ -2,7 +2,7 @@
 ghost use Rattle.std.specs.Prelude.{◌≡◌, ◌<◌, length};
 ghost use Rattle.reading.specs.Pattern.{extent_of, WellFormedPattern};
 ghost use Rattle.reading.specs.File.{is_pattern, pattern_format, patterns_at};
-ghost use Rattle.reading.specs.Refusals.{outcome_of};
+ghost use Rattle.reading.specs.Refusals.{as_outcome};
 ghost use Rattle.reading.specs.Representations.{record_at, head_of};
 
 use crate::kind::Kind;
@@ -41,7 +41,7 @@ fn extent(p: Pattern) -> Extent
 // The pattern record at `at`, with `left` of the 32 patterns left.
 fn read_pattern(bytes: &[u8], at: usize, left: usize) -> Result<Pattern, Refusal>
     requires { at < length bytes.now }
-    ensures { outcome_of result ≡ record_at (pattern_format bytes.now) left at }
+    ensures { as_outcome result ≡ record_at (pattern_format bytes.now) left at }
 {
     if left == 0 {
         return Err(Fault::TooManyRecords.at(at));
@@ -67,7 +67,7 @@ fn is_pattern(bytes: &[u8], at: usize) -> bool
 
 // The patterns that a file begins with.
 pub(crate) fn read_patterns(bytes: &[u8]) -> Result<Head, Refusal>
-    ensures { outcome_of result ≡ head_of (patterns_at 32 bytes.now 0) }
+    ensures { as_outcome result ≡ head_of (patterns_at 32 bytes.now 0) }
 {
     let none = Listed {
         pattern: Pattern {
