@@ -72,20 +72,20 @@ tells_counts s capacity bytes = record {
 -- ---- explaining
 
 abbrev said_reason : (value : ℕ) → Outcome (Option ℕ)
-said_reason value = or_else (kept_value - value) (accepted None) ((accepted (Some value)))
+said_reason value = or_else (kept_value - value) (accepted None) (accepted (Some value))
 
 abbrev reason_back : Result → Outcome (Option ℕ)
 reason_back = read_back said_reason refused
 
-node_back : (m : ℕ) → m < kept_value → reason_back (reason_result ((accepted (Some m)))) ≡ accepted (Some m)
-node_back m inside = from_1 (accepted None) ((accepted (Some m))) (kept_value - m) (omega (arith, inside))
+node_back : (m : ℕ) → m < kept_value → reason_back (reason_result (accepted (Some m))) ≡ accepted (Some m)
+node_back m inside = from_1 (accepted None) (accepted (Some m)) (kept_value - m) (omega (arith, inside))
 
 reason_back_lem : (o : Outcome ℕ) → Numbered o → ((m : ℕ) → reason_of o ≡ accepted (Some m) → m < kept_value)
     → reason_back (reason_result (reason_of o)) ≡ reason_of o
 reason_back_lem (accepted set) numbered inside = on (eqb set empty_set) (least 64 (has set)) inside
   where
-    on : (b : Bool) (k : ℕ) → ((m : ℕ) → cond b (accepted None) ((accepted (Some k))) ≡ accepted (Some m) → m < kept_value)
-        → reason_back (reason_result (cond b (accepted None) ((accepted (Some k))))) ≡ cond b (accepted None) ((accepted (Some k)))
+    on : (b : Bool) (k : ℕ) → ((m : ℕ) → cond b (accepted None) (accepted (Some k)) ≡ accepted (Some m) → m < kept_value)
+        → reason_back (reason_result (cond b (accepted None) (accepted (Some k)))) ≡ cond b (accepted None) (accepted (Some k))
     on true k inside = refl
     on false k inside = node_back k (inside k refl)
 reason_back_lem (refused number place) numbered inside = refusal_back said_reason refused number place (numbered number place refl)

@@ -49,7 +49,7 @@ KeptIsNoNode = (s kept : List ℕ) (scan m : ℕ) → Bytes s → reason_of (exp
 -- so it is got exactly where the scan is kept, and a lower value exactly where the node of that number is the reason.
 pub record ReasonTold (reason : Outcome (Option ℕ)) : Type 0 where
   pub kept : Tells reason_result reason 0 64 (accepted None)
-  pub node : (m : ℕ) → m < 64 → Tells reason_result reason 0 m ((accepted (Some m)))
+  pub node : (m : ℕ) → m < 64 → Tells reason_result reason 0 m (accepted (Some m))
   pub refused : TellsRefusals reason_result reason refused
 
 abbrev pub TellsReason : Type 0

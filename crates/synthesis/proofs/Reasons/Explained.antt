@@ -91,8 +91,8 @@ module _ (r : Rule) (w : List ℕ) (c : ℕ) where
   said_explained wf reason (drops m safe violated low opened is) = record {
     unfit = λ i. (λ q. absurd (node_not_refused is q), λ first. absurd (safe (first_violates r w i first)));
     kept = (λ q. absurd (kept_not_node q is), λ none. absurd (none violated));
-    node = λ n. (λ q. rw (← (node_same is q)) (safe, low), λ (safe', low'). is ∙ ap (accepted (Some (least_unique low low'))));
-    opened = λ n. (λ q. rw (← (node_same is q)) (safe, opened), λ (safe', low'). is ∙ ap (accepted (Some (least_unique opened low'))));
+    node = λ n. (λ q. rw (← (node_same is q)) (safe, low), λ (safe', low'). is ∙ ap (λ (k : ℕ). accepted (Some k)) (least_unique low low'));
+    opened = λ n. (λ q. rw (← (node_same is q)) (safe, opened), λ (safe', low'). is ∙ ap (λ (k : ℕ). accepted (Some k)) (least_unique opened low'));
     inside = λ n q. omega (arith, node_same is q, node_fits opened.holds.1.1);
     only = inr (inl (m, is));
   }
@@ -110,9 +110,9 @@ module _ (r : Rule) (w : List ℕ) (c : ℕ) where
     suppressed = violated_iff_suppressed r wf satisfiable
 
     -- where all scans are kept, by what the scan opens
-    said_kept : (Suppresses (answer_of r) (first_of r) w → ⊥) → Said (lowest_reason (opened_falsities r ended_in c))
+    said_kept : (Suppresses (answer_of r) (first_of r) w → ⊥) → Said (accepted (lowest_reason (opened_falsities r ended_in c)))
     said_kept none =
-        said_of_opened r within ended_in c Said
+        said_of_opened r within ended_in c (λ o. Said (accepted o))
         (λ nothing. keeps (λ v. let (m, a) = somewhere.0 v in nothing m ((places m).0 a)) nothing refl)
         (λ m low.
         let place = least_map (λ n. ((places n).1, (places n).0)) low in

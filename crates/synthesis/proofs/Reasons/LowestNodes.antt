@@ -57,14 +57,14 @@ module _ (r : Rule) (within : RuleWithinLimits r) where
   opened_below e c m h = omega (arith, node_fits ((opened_has e c m).0 h).1.1, within.few_nodes)
 
   -- What holds where nothing is opened, and for the lowest node where something is, holds of what is said.
-  pub said_of_opened : (e c : ℕ) (P : Outcome (Option ℕ) → Type 0) → (((m : ℕ) → OpensFalsity r e c m → ⊥) → P (accepted None))
-      → ((m : ℕ) → LowestOpened r e c m → P ((accepted (Some m)))) → P (lowest_reason (opened_falsities r e c))
+  pub said_of_opened : (e c : ℕ) (P : Option ℕ → Type 0) → (((m : ℕ) → OpensFalsity r e c m → ⊥) → P None)
+      → ((m : ℕ) → LowestOpened r e c m → P (Some m)) → P (lowest_reason (opened_falsities r e c))
   said_of_opened e c P none some = on (eqb (opened_falsities r e c) empty_set) refl
     where
       set : ℕ
       set = opened_falsities r e c
 
-      on : (b : Bool) → eqb set empty_set ≡ b → P (cond b (accepted None) (Node (least 64 (has set))))
+      on : (b : Bool) → eqb set empty_set ≡ b → P (cond b None (Some (least 64 (has set))))
       on true q = none (λ m o. has_none m (rw (eqb-true set empty_set q) at ((opened_has e c m).1 o)))
       on false q =
           let (m, h) = nonempty_member set (omega (arith, eqb-false set empty_set q)) in
