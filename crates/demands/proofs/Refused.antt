@@ -84,7 +84,7 @@ module _ (s : List ℕ) (bytes : Bytes s) where
 -- ---- filling, where counting refuses by these clauses
 
 module _ (Clause : (number place : ℕ) → Type 1) (counts filling : Outcome Synthesis) (capacity : ℕ)
-    (refused : RefusedIff (counted_of counts) refused Clause) (as_counted : FillsAsCounted counts filling capacity) where
+    (refuses : RefusedIff (counted_of counts) refused Clause) (as_counted : FillsAsCounted counts filling capacity) where
   fill_refusal_clause : (number place : ℕ) → counted_of filling ≡ refused number place → FillRefused Clause (counted_of counts) capacity number place
   fill_refusal_clause number place e = on counts refl
     where
@@ -105,10 +105,10 @@ module _ (Clause : (number place : ℕ) → Type 1) (counts filling : Outcome Sy
       on (File.refused number' place') q =
           let same : refused number' place' ≡ refused number place =
           sym (as_counted.refused number' place' (ap counted_of q)) ∙ e in
-          in_rule ((refused number place).0 (ap counted_of q ∙ same))
+          in_rule ((refuses number place).0 (ap counted_of q ∙ same))
 
   fill_clause_refuses : {number place : ℕ} → FillRefused Clause (counted_of counts) capacity number place → counted_of filling ≡ refused number place
-  fill_clause_refuses {number} {place} (in_rule fault) = as_counted.refused number place ((refused number place).1 fault)
+  fill_clause_refuses {number} {place} (in_rule fault) = as_counted.refused number place ((refuses number place).1 fault)
   fill_clause_refuses (short_table_lem n e short) = as_counted.too_short n e short
 
   pub fill_refused : RefusedIff (counted_of filling) refused (FillRefused Clause (counted_of counts) capacity)

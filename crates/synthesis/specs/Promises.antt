@@ -69,10 +69,10 @@ AnswersCount = (limit : ℕ) (s : List ℕ) (n : ℕ) → counted_of (synthesis_
 -- Filling a table of so many entries goes by counting: it is refused where counting is, with the same number and place, and where counting answers n it
 -- answers n, if 256 × n entries are there, and else 10. What it fills in is what was counted. Both tables are filled so.
 pub record FillsAsCounted (counting filling : Outcome Synthesis) (capacity : ℕ) : Type 0 where
-  pub refused : (number place : ℕ) → counted_of counting ≡ refused number place → counted_of filling ≡ refused number place
   pub enough : (n : ℕ) → counted_of counting ≡ accepted n → 256 * n ≤ capacity → counted_of filling ≡ accepted n
   pub too_short : (n : ℕ) → counted_of counting ≡ accepted n → capacity < 256 * n → counted_of filling ≡ refused 10 0
   pub same : (n : ℕ) → counted_of filling ≡ accepted n → filling ≡ counting
+  pub refused : (number place : ℕ) → counted_of counting ≡ refused number place → counted_of filling ≡ refused number place
 
 -- A filling that is refused leaves every entry of what it is lent as it was: the table.
 pub record TableUnchanged (mark : ℕ) (before : List ℕ) (outcome : Outcome Synthesis) : Type 0 where

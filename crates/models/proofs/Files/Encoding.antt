@@ -101,15 +101,14 @@ encode_bytes y w =
 
 -- ---- what is handed up of it
 
-pub phone_accepted : (o : Outcome Phone) → (model_reading_of o).answer ≡ FILE_ACCEPTED
-    → (y : Phone) × (o ≡ accepted y) × ((model_reading_of o).model ≡ stored y)
-phone_accepted (accepted y) e = (y, refl, refl)
-phone_accepted (refused number place) e = let z : ◌≡◌ {A = ℕ} 0 1 = cc in absurd (omega arith)
+pub phone_accepted : (o : Outcome Phone) (m : PhoneModel) → model_reading_of o ≡ accepted m → (y : Phone) × (o ≡ accepted y) × (m ≡ stored y)
+phone_accepted (accepted y) m e = (y, refl, cc)
+phone_accepted (refused number place) m e = let z : ◌≡◌ {A = ℕ} 0 1 = cc in absurd (omega arith)
 
 pub answers_accepted : AnswersAccepted
-answers_accepted f bytes = (
-  λ told. let (y, read, model) = phone_accepted (phone_of f) told in let (w, is) = (accepts_phones f bytes y).0 read in (y, w, is, model),
-  λ (y, w, is, model). rw ((accepts_phones f bytes y).1 (w, is)),
+answers_accepted f bytes m = (
+  λ told. let (y, read, model) = phone_accepted (phone_of f) m told in let (w, is) = (accepts_phones f bytes y).0 read in (y, w, is, model),
+  λ (y, w, is, model). ap model_reading_of ((accepts_phones f bytes y).1 (w, is)) ∙ ap accepted (sym model),
 )
 
 pub stores_model : (y : Phone) → StoresModel y
