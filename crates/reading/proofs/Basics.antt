@@ -1,6 +1,6 @@
 -- Outcomes, places and lists.
 pub mod Outcomes
-pub mod Cases
+pub mod Results
 pub mod AllLaws
 pub mod ByteLaws
 pub mod EncodeLaws

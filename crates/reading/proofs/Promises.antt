@@ -1,5 +1,6 @@
 -- Each promise of this crate, by its theorem.
 use Rattle.reading.specs.Promises.{Promises}
+use Rattle.reading.proofs.Basics.Results.{results_settled}
 use Rattle.reading.proofs.Accepting.Accepted.{accepts_encodings, one_rule, answers_accepted}
 use Rattle.reading.proofs.Refusing.FaultsRefused.{refuses_at_the_fault, has_one_fault}
 use Rattle.reading.proofs.Refusing.PatternFaults.{refuses_pattern}
@@ -32,4 +33,5 @@ promises = record {
   sets_of_slots = sets_of_slots;
   measures_slots = measures_slots;
   told_by_set = told_by_set;
+  results_settled = results_settled;
 }

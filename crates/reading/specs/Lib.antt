@@ -8,4 +8,5 @@ pub mod Faults
 pub mod Nodes
 pub mod Numbered
 pub mod Promises
+pub mod Scopes
 pub mod Representations

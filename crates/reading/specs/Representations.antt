@@ -1,13 +1,14 @@
 -- What the enums, structures and arrays of private functions stand for, and how far a loop over records has read. No public contract cites these.
-use Rattle.std.specs.Prelude.{ℕ, zero, suc, ◌+◌, ◌-◌, ◌≤◌, ◌≡◌, List, [], ◌∷◌, ◌++◌, map, true, false, length, get_or, replicate, eqb}
+use Rattle.std.specs.Prelude.{ℕ, ◌-◌, ◌≤◌, ◌≡◌, List, ◌++◌, map, length, eqb, Result}
 use Rattle.std.proofs.lemmas.List.Edits.{sets}
 use Rattle.reading.specs.File.{Outcome, accepted, refused, refuse, and_then, RecordFormat, Records, records_at, NodeRecord, Parsed}
-use Rattle.reading.specs.Rule.{Guards, Symbol, Truth, Falsity, Both, Necessity, Max, Variable}
+use Rattle.reading.specs.Refusals.{as_outcome}
+use Rattle.reading.specs.Rule.{Symbol, Truth, Falsity, Both, Necessity, Max, Variable}
 use Rattle.reading.specs.Numbered.{nodes, padded, listed, none_listed}
 use Rattle.reading.specs.declared.Pattern.{Pattern}
 use Rattle.reading.specs.declared.Node.{Node}
+use Rattle.reading.specs.declared.refusals.Refusal.{Refusal}
 use Rattle.reading.specs.declared.patterns.Head.{Head}
-use Rattle.reading.specs.declared.formulas.Scope.{Scope}
 use Rattle.reading.specs.declared.formulas.Symbol.{Symbol as Symbol'}
 use Rattle.reading.specs.declared.formulas.Symbol.TheVariants as Symbol'
 use Rattle.reading.specs.declared.formulas.Record.{Record}
@@ -40,52 +41,24 @@ head_of o = and_then o (λ ps. accepted (record {
   next = ps.next;
 }))
 
--- ---- a node, and the place after a formula
+-- ---- what results say of a node record and of a formula
 
-abbrev pub symbol_of : Symbol → Symbol'
-symbol_of Truth = Symbol'.Truth
-symbol_of Falsity = Symbol'.Falsity
-symbol_of Both = Symbol'.Both
-symbol_of (Necessity p) = Symbol'.Necessity p
-symbol_of Max = Symbol'.Max
-symbol_of (Variable d) = Symbol'.Variable d
+abbrev pub symbol_of : Symbol' → Symbol
+symbol_of Symbol'.Truth = Truth
+symbol_of Symbol'.Falsity = Falsity
+symbol_of Symbol'.Both = Both
+symbol_of (Symbol'.Necessity p) = Necessity p
+symbol_of Symbol'.Max = Max
+symbol_of (Symbol'.Variable d) = Variable d
 
-abbrev pub record_of : Outcome NodeRecord → Outcome Record
-record_of o = and_then o (λ r. accepted (record { symbol = symbol_of r.symbol; next = r.next }))
+abbrev pub record_of : Result Record Refusal → Outcome NodeRecord
+record_of x = and_then (as_outcome x) (λ r. accepted (record { symbol = symbol_of r.symbol; next = r.next }))
 
--- the nodes themselves are in the array
+-- the place after a formula, and the nodes left
 abbrev pub rest_of : Outcome Parsed → Outcome Rest
 rest_of o = and_then o (λ f. accepted (record { next = f.next; left = f.left }))
 
--- the nodes of a formula that is read go to their numbers, from k on
-abbrev pub Written : Outcome Parsed → (k : ℕ) (ms : List ℕ) (before after : List Node) → Type 0
-Written (accepted f) k ms before after = after ≡ sets before k (nodes k ms f.formula)
-Written (refused number place) k ms before after = Unit
-
--- ---- the max nodes around a record
-
--- the first n of a list, last first
-unfoldable pub last_first : ℕ → List ℕ → List ℕ
-last_first zero ns = []
-last_first (suc n) ns = get_or ns n 0 ∷ last_first n ns
-
--- their numbers, innermost first
-abbrev pub enclosing : Scope → List ℕ
-enclosing sc = last_first sc.count sc.nodes
-
--- which of so many are guarded, where the innermost `unguarded` are not
-unfoldable pub guards_of : (count unguarded : ℕ) → Guards
-guards_of count unguarded = replicate unguarded false ++ replicate (count - unguarded) true
-
-pub record IsScope (sc : Scope) (count : ℕ) (ms : List ℕ) (g : Guards) : Type 0 where
-  pub counted : sc.count ≡ count
-  pub numbers : enclosing sc ≡ ms
-  pub guards : guards_of sc.count sc.unguarded ≡ g
-  pub order : sc.unguarded ≤ sc.count
-  pub room : length sc.nodes ≡ 64
-
--- each max around a record took one of the 64 nodes
-pub record Fit (left : ℕ) (sc : Scope) : Type 0 where
-  pub few : sc.count + left ≤ 64
-  pub order : sc.unguarded ≤ sc.count
-  pub room : length sc.nodes ≡ 64
+-- The result says what comes after a formula or why it is refused, and the nodes of one that is read went to their numbers, from k on.
+pub record Reads (o : Outcome Parsed) (k : ℕ) (ms : List ℕ) (before after : List Node) (r : Result Rest Refusal) : Type 0 where
+  pub said : as_outcome r ≡ rest_of o
+  pub written : (f : Parsed) → o ≡ accepted f → after ≡ sets before k (nodes k ms f.formula)

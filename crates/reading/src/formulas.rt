@@ -3,17 +3,30 @@ ghost use Rattle.std.specs.Prelude.{◌≡◌, ◌+◌, ◌-◌, ◌≤◌, ◌<
 ghost use Rattle.reading.specs.Rule.{guarded};
 ghost use Rattle.reading.specs.File.{necessity_at, variable_at, node_at, formula_of};
 ghost use Rattle.reading.specs.Refusals.{as_outcome};
-ghost use Rattle.reading.specs.Representations.{record_of, rest_of, enclosing, guards_of, IsScope, Fit, Written};
+ghost use Rattle.reading.specs.Representations.{record_of, Reads};
+
+use std::marker::Model;
 
 use crate::kind::Kind;
 use crate::{Fault, Node, Refusal};
 
 /// The max nodes around a record, outermost first. The innermost `unguarded` of them have no necessity below them yet.
-#[derive(Clone, Copy)]
+#[derive(Drop)]
 pub(crate) struct Scope {
-    pub(crate) count: usize,
-    pub(crate) unguarded: usize,
-    pub(crate) nodes: [u8; 64],
+    count: usize,
+    unguarded: usize,
+    nodes: [u8; 64],
+}
+
+impl Model for Scope {
+    ghost use Rattle.std.specs.Prelude.{◌≤◌};
+    ghost use Rattle.reading.specs.Scopes.{Enclosing, last_first, guards_of};
+
+    ghost Value = { Enclosing };
+
+    ghost view = { λ s. record { maxes = last_first s.count s.nodes; guards = guards_of s.count s.unguarded } };
+
+    ghost invariant = { λ s. (s.unguarded ≤ s.count) × (s.count ≤ 64) };
 }
 
 /// A node without its parts, as its record has it: with the number of a pattern, or with a depth.
@@ -43,8 +56,12 @@ pub(crate) struct Rest {
 
 impl Scope {
     /// Inside no max.
+    #[tactic(auto, unfolding(
+        crate::specs::Scopes::last_first,
+        crate::specs::Scopes::guards_of
+    ))]
     pub(crate) fn outermost() -> Self
-        ensures { IsScope result 0 [] [] }
+        ensures { result ≡ record { maxes = []; guards = [] } }
     {
         Scope {
             count: 0,
@@ -54,29 +71,45 @@ impl Scope {
     }
 
     // Inside one more max, node k.
-    fn inside_max(mut self, k: u8) -> Self
-        requires { (self.count < 64) × (self.unguarded ≤ self.count) × (length self.nodes ≡ 64) }
-        ensures { IsScope result (self.count + 1) (k ∷ enclosing self) (false ∷ guards_of self.count self.unguarded) }
+    #[tactic(auto, using(
+        crate::proofs::Functions::Scopes::guards_length,
+        crate::proofs::Functions::Scopes::guards_max,
+        crate::proofs::Functions::Scopes::numbers_max
+    ))]
+    fn inside_max(&self, k: u8) -> Self
+        requires { length self.now.guards < 64 }
+        ensures { result ≡ record { maxes = k ∷ self.now.maxes; guards = false ∷ self.now.guards } }
     {
-        self.nodes[self.count] = k;
-        self.count += 1;
-        self.unguarded += 1;
-        self
+        let mut nodes = self.nodes;
+        nodes[self.count] = k;
+        Scope {
+            count: self.count + 1,
+            unguarded: self.unguarded + 1,
+            nodes,
+        }
     }
 
     // Below a necessity.
-    fn guarded(mut self) -> Self
-        requires { (self.unguarded ≤ self.count) × (length self.nodes ≡ 64) }
-        ensures { IsScope result self.count (enclosing self) (guarded (guards_of self.count self.unguarded)) }
+    #[tactic(auto, using(crate::proofs::Functions::Scopes::guards_necessity))]
+    fn guarded(&self) -> Self
+        ensures { result ≡ record { maxes = self.now.maxes; guards = guarded self.now.guards } }
     {
-        self.unguarded = 0;
-        self
+        let nodes = self.nodes;
+        Scope {
+            count: self.count,
+            unguarded: 0,
+            nodes,
+        }
     }
 
     // The max node of the variable of a depth.
+    #[tactic(auto, using(
+        crate::proofs::Functions::Scopes::guards_length,
+        crate::proofs::Functions::Scopes::number_at
+    ))]
     fn max_of(&self, depth: u8) -> u8
-        requires { (self.now.count ≤ 64) × (depth < self.now.count) × (length self.now.nodes ≡ 64) }
-        ensures { result ≡ get_or (enclosing self.now) depth 0 }
+        requires { depth < length self.now.guards }
+        ensures { result ≡ get_or self.now.maxes depth 0 }
     {
         self.nodes[self.count - 1 - depth as usize]
     }
@@ -85,7 +118,7 @@ impl Scope {
 // The necessity at `at`, whose body is a pattern number.
 fn read_necessity(bytes: &[u8], patterns: usize, at: usize) -> Result<Record, Refusal>
     requires { at < length bytes.now }
-    ensures { as_outcome result ≡ record_of (necessity_at bytes.now patterns at) }
+    ensures { record_of result ≡ necessity_at bytes.now patterns at }
 {
     if bytes.len() <= at + 1 {
         return Err(Fault::FileEnds.at(bytes.len()));
@@ -100,19 +133,24 @@ fn read_necessity(bytes: &[u8], patterns: usize, at: usize) -> Result<Record, Re
     })
 }
 
-// The variable at `at`, whose body is a depth, inside so many max nodes of which the innermost `unguarded` are unguarded.
-fn read_variable(bytes: &[u8], maxes: usize, unguarded: usize, at: usize) -> Result<Record, Refusal>
-    requires { (at < length bytes.now) × (unguarded ≤ maxes) }
-    ensures { as_outcome result ≡ record_of (variable_at bytes.now (guards_of maxes unguarded) at) }
+// The variable at `at`, whose body is a depth, inside the max nodes of a scope.
+#[tactic(auto, using(
+    crate::proofs::Functions::Scopes::guards_length,
+    crate::proofs::Functions::Scopes::unguarded_at,
+    crate::proofs::Functions::Scopes::guarded_at
+))]
+fn read_variable(bytes: &[u8], scope: &Scope, at: usize) -> Result<Record, Refusal>
+    requires { at < length bytes.now }
+    ensures { record_of result ≡ variable_at bytes.now scope.now.guards at }
 {
     if bytes.len() <= at + 1 {
         return Err(Fault::FileEnds.at(bytes.len()));
     }
     let depth = bytes[at + 1];
-    if maxes <= depth as usize {
+    if scope.count <= depth as usize {
         return Err(Fault::NamesNothing.at(at));
     }
-    if (depth as usize) < unguarded {
+    if (depth as usize) < scope.unguarded {
         return Err(Fault::Unguarded.at(at));
     }
     Ok(Record {
@@ -127,11 +165,9 @@ fn read_node(
     patterns: usize,
     at: usize,
     left: usize,
-    maxes: usize,
-    unguarded: usize,
+    scope: &Scope,
 ) -> Result<Record, Refusal>
-    requires { unguarded ≤ maxes }
-    ensures { as_outcome result ≡ record_of (node_at bytes.now patterns at left (guards_of maxes unguarded)) }
+    ensures { record_of result ≡ node_at bytes.now patterns at left scope.now.guards }
 {
     if bytes.len() <= at {
         return Err(Fault::FileEnds.at(bytes.len()));
@@ -147,7 +183,7 @@ fn read_node(
     }
     let symbol = match kind {
         Kind::Necessity => return read_necessity(bytes, patterns, at),
-        Kind::Variable => return read_variable(bytes, maxes, unguarded, at),
+        Kind::Variable => return read_variable(bytes, scope, at),
         Kind::Falsity => Symbol::Falsity,
         Kind::Both => Symbol::Both,
         Kind::Max => Symbol::Max,
@@ -165,41 +201,28 @@ pub(crate) fn read_formula(
     patterns: usize,
     at: usize,
     left: usize,
-    scope: Scope,
+    scope: &Scope,
     nodes: &mut [Node; 64],
 ) -> Result<Rest, Refusal>
-    requires { Fit left scope }
-    ensures answer { as_outcome result ≡ rest_of (formula_of bytes.now patterns at left (guards_of scope.count scope.unguarded)) }
-    ensures written { Written (formula_of bytes.now patterns at left (guards_of scope.count scope.unguarded)) (64 - left) (enclosing scope) nodes.old nodes.new }
+    requires { length scope.now.guards + left ≤ 64 }
+    ensures { Reads (formula_of bytes.now patterns at left scope.now.guards) (64 - left) scope.now.maxes nodes.old nodes.new result }
 {
-    let Record { symbol, next } = read_node(
-        bytes,
-        patterns,
-        at,
-        left,
-        scope.count,
-        scope.unguarded,
-    )?;
+    let record = read_node(bytes, patterns, at, left, scope)?;
+    let next = record.next;
     let k = 64 - left;
     let others = left - 1;
-    match symbol {
+    match record.symbol {
         Symbol::Truth => nodes[k] = Node::Truth,
         Symbol::Falsity => nodes[k] = Node::Falsity,
         Symbol::Variable(depth) => nodes[k] = Node::Variable(scope.max_of(depth)),
         Symbol::Necessity(pattern) => {
             nodes[k] = Node::Necessity(pattern);
-            return read_formula(bytes, patterns, next, others, scope.guarded(), nodes);
+            return read_formula(bytes, patterns, next, others, &scope.guarded(), nodes);
         }
         Symbol::Max => {
             nodes[k] = Node::Max;
-            return read_formula(
-                bytes,
-                patterns,
-                next,
-                others,
-                scope.inside_max(k as u8),
-                nodes,
-            );
+            let inner = scope.inside_max(k as u8);
+            return read_formula(bytes, patterns, next, others, &inner, nodes);
         }
         Symbol::Both => {
             let first = read_formula(bytes, patterns, next, others, scope, nodes)?;

@@ -104,7 +104,7 @@ pub fn read_rule(bytes: &[u8]) -> Result<NumberedRule, Refusal>
     let head = patterns::read_patterns(bytes)?;
     let mut nodes = [Node::Truth; 64];
     let scope = formulas::Scope::outermost();
-    let rest = formulas::read_formula(bytes, head.count, head.next, 64, scope, &mut nodes)?;
+    let rest = formulas::read_formula(bytes, head.count, head.next, 64, &scope, &mut nodes)?;
     if rest.next < bytes.len() {
         return Err(Fault::Misplaced.at(rest.next));
     }

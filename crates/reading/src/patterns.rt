@@ -66,6 +66,7 @@ fn is_pattern(bytes: &[u8], at: usize) -> bool
 }
 
 // The patterns that a file begins with.
+#[tactic(auto, using(crate::proofs::Functions::Heads::patterns_begun_one))]
 pub(crate) fn read_patterns(bytes: &[u8]) -> Result<Head, Refusal>
     ensures { as_outcome result ≡ head_of (patterns_at 32 bytes.now 0) }
 {

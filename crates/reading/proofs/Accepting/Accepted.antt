@@ -13,9 +13,8 @@ use Rattle.reading.specs.Rule.{Rule, RuleWithinLimits, encode_patterns, encode_f
 use Rattle.reading.specs.File.{Outcome, accepted, refused, is_pattern, patterns_at, Parsed, formula_of, end_of_file, rule_of}
 use Rattle.reading.specs.Numbered.{numbered, reading_of}
 use Rattle.reading.specs.Promises.{AcceptsEncodings, OneRule, AnswersAccepted}
-use Rattle.reading.specs.declared.FileRead.TheVariants.{Accepted}
-use Rattle.reading.specs.declared.Reading.{Reading}
-use Rattle.reading.proofs.Basics.Outcomes.{accepted_is, and_then-accepted, and_then-accepts, refuse_accepted}
+use Rattle.reading.specs.declared.NumberedRule.{NumberedRule}
+use Rattle.reading.proofs.Basics.Outcomes.{accepted_is, never_accepted, and_then-accepted, and_then-accepts, refuse_accepted}
 use Rattle.reading.proofs.Basics.Places.{first_byte, rest_after}
 use Rattle.reading.proofs.Accepting.PatternBytes.{node_no_pattern, PatternsStand, patterns_accept}
 use Rattle.reading.proofs.Accepting.Sound.{FormulaStands}
@@ -97,13 +96,12 @@ one_rule r r' w w' e =
     accepted_is (sym read ∙ read')
 
 -- the encoding of a rule is read as that rule, by number
-pub reading_of-encoding : (r : Rule) → RuleWithinLimits r → reading_of (rule_of (encode r)) ≡ record { answer = Accepted; rule = numbered r }
+pub reading_of-encoding : (r : Rule) → RuleWithinLimits r → reading_of (rule_of (encode r)) ≡ accepted (numbered r)
 reading_of-encoding r w = ap reading_of ((accepts_encodings (encode r) (encoding_is_bytes r w) r).1 (w, refl))
 
 pub answers_accepted : AnswersAccepted
-answers_accepted s bytes = (λ e. on (rule_of s) refl e, λ (r, w, is, rule). rw is (ap (λ (x : Reading). x.answer) (reading_of-encoding r w)))
+answers_accepted s bytes n = (on (rule_of s) refl, λ (r, w, is, rule). rw (is, rule) (reading_of-encoding r w))
   where
-    on : (o : Outcome Rule) → rule_of s ≡ o → (reading_of o).answer ≡ Accepted
-        → (r : Rule) × RuleWithinLimits r × (s ≡ encode r) × ((reading_of (rule_of s)).rule ≡ numbered r)
-    on (accepted r) e a = let h = (accepts_encodings s bytes r).0 e in (r, h.0, h.1, rw e)
-    on (refused number place) e a = let z : ◌≡◌ {A = ℕ} 0 1 = cc in absurd (omega arith)
+    on : (o : Outcome Rule) → rule_of s ≡ o → reading_of o ≡ accepted n → (r : Rule) × RuleWithinLimits r × (s ≡ encode r) × (n ≡ numbered r)
+    on (accepted r) e a = let h = (accepts_encodings s bytes r).0 e in (r, h.0, h.1, sym (accepted_is a))
+    on (refused number place) e a = absurd (never_accepted a)

@@ -1,6 +1,6 @@
 -- A node record is accepted exactly where a node is left and the record's bytes, within its limits, stand at its place: kind by kind, the checks that
 -- the record passes say so.
-use mathlib.Core.Path.{◌≡◌, refl, sym, ap, subst, ◌∙◌}
+use mathlib.Core.Path.{◌≡◌, refl, subst, ◌∙◌}
 use mathlib.Core.Bool.{true, false, cond, not, ◌||◌}
 use mathlib.Core.Logic.{◌↔◌}
 use mathlib.Core.List.{List}
@@ -12,8 +12,6 @@ use borrow.Author.Tests.{ltb-false, leb-false, eqb-false, lt-leb, ne_eqb, not-fa
 use Rattle.reading.specs.Rule.{Guards, Symbol, Truth, Falsity, Both, Necessity, Max, Variable, kind_byte}
 use Rattle.reading.specs.Rule.{pattern_kind, truth_kind, falsity_kind, both_kind, necessity_kind, max_kind, variable_kind}
 use Rattle.reading.specs.File.{Outcome, accepted, NodeRecord, necessity_at, variable_at, bare_at, node_at}
-use Rattle.reading.specs.Representations.{node_read}
-use Rattle.reading.specs.declared.formulas.NodeRead.TheVariants as NodeRead
 use Rattle.reading.proofs.Basics.Outcomes.{accepted_is, refuse_accepted, or_eq_false}
 use Rattle.reading.proofs.Basics.Places.{Byte}
 use Rattle.reading.proofs.Accepting.Checks.{necessity_accepted, variable_accepted}
@@ -80,22 +78,6 @@ module _ (s : List ℕ) (n at left : ℕ) (g : Guards) where
       node_of-kind pos b refl refl ∙ necessity_accepted s n at a.inside (rw a.is h) ∙ rw a.is
   node_read_lem pos (of_variable h guard b a) =
       node_of-kind pos b refl refl ∙ variable_accepted s g at a.inside (rw a.is h) (rw a.is guard) ∙ rw a.is
-
-  -- a kind that is none of the others is that of a record without a body
-  bare_node : {k : ℕ} → NodeKind k → Byte s at k → 0 < left → (k ≡ necessity_kind → ⊥) → (k ≡ variable_kind → ⊥)
-      → NodeRead.Read (record { kind = k; body = 0; next = at + 1 }) ≡ node_read (node_at s n at left g)
-  bare_node (bare_kind bare_truth) b pos no-necessity no-variable = sym (ap node_read (bare_read bare_truth b pos))
-  bare_node (bare_kind bare_falsity) b pos no-necessity no-variable = sym (ap node_read (bare_read bare_falsity b pos))
-  bare_node (bare_kind bare_both) b pos no-necessity no-variable = sym (ap node_read (bare_read bare_both b pos))
-  bare_node (bare_kind bare_max) b pos no-necessity no-variable = sym (ap node_read (bare_read bare_max b pos))
-  bare_node necessity_kind_lem b pos no-necessity no-variable = absurd (no-necessity refl)
-  bare_node variable_kind_lem b pos no-necessity no-variable = absurd (no-variable refl)
-
-  pub node_bare : at < length s → (get_or s at 0 ≡ 0 → ⊥) → get_or s at 0 ≤ variable_kind → (get_or s at 0 ≡ pattern_kind → ⊥) → (left ≡ 0 → ⊥)
-      → (get_or s at 0 ≡ necessity_kind → ⊥) → (get_or s at 0 ≡ variable_kind → ⊥)
-      → NodeRead.Read (record { kind = get_or s at 0; body = 0; next = at + 1 }) ≡ node_read (node_at s n at left g)
-  node_bare i some known node l no-necessity no-variable =
-      bare_node (node_kind (get_or s at 0) some known node) (record { inside = i; is = refl }) (omega arith) no-necessity no-variable
 
   -- ---- what is read stands
 

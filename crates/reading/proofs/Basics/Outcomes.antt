@@ -18,6 +18,9 @@ module _ {A : Type 0} where
   pub never_refused : {number place : ℕ} {a : A} → accepted a ≡ refused number place → ⊥
   never_refused e = let z : ◌≡◌ {A = ℕ} 0 1 = cc in omega arith
 
+  pub refused_same : {number place number' place' : ℕ} → ◌≡◌ {A = Outcome A} (refused number place) (refused number' place') → (number ≡ number') × (place ≡ place')
+  refused_same e = (cc, cc)
+
 -- ---- a check
 
 -- what is accepted was refused by no check

@@ -9,27 +9,27 @@ use native.Mathlib.Numerals.{add-one}
 use lib.ListN.{length, get_or, set, replicate, length-append, length-replicate, get_or-replicate, get_or-append}
 use lib.Seq.{get_or-set_same, get_or-set_other}
 use Rattle.reading.specs.Rule.{Guards, guarded}
-use Rattle.reading.specs.Representations.{last_first, guards_of}
+use Rattle.reading.specs.Scopes.{last_first, guards_of}
 
 -- ---- numbers
 
-pub get_or-last_first : (n : ℕ) (ns : List ℕ) (d : ℕ) → d < n → get_or (last_first n ns) d 0 ≡ get_or ns (n - 1 - d) 0
+pub number_at : (n : ℕ) (ns : List ℕ) (d : ℕ) → d < n → get_or (last_first n ns) d 0 ≡ get_or ns (n - 1 - d) 0
 unfolding last_first
-get_or-last_first zero ns d h = absurd (omega arith)
-get_or-last_first (suc n) ns zero h = let e : suc n - 1 - 0 ≡ n = omega arith in rw e
-get_or-last_first (suc n) ns (suc d) h =
-    let e : suc n - 1 - suc d ≡ n - 1 - d = omega arith in rw e (get_or-last_first n ns d (omega arith))
+number_at zero ns d h = absurd (omega arith)
+number_at (suc n) ns zero h = let e : suc n - 1 - 0 ≡ n = omega arith in rw e
+number_at (suc n) ns (suc d) h =
+    let e : suc n - 1 - suc d ≡ n - 1 - d = omega arith in rw e (number_at n ns d (omega arith))
 
 -- a store past the first n changes none of them
-last_first-past : (n i : ℕ) (ns : List ℕ) (v : ℕ) → n ≤ i → last_first n (set ns i v) ≡ last_first n ns
+numbers_past : (n i : ℕ) (ns : List ℕ) (v : ℕ) → n ≤ i → last_first n (set ns i v) ≡ last_first n ns
 unfolding last_first
-last_first-past zero i ns v h = refl
-last_first-past (suc n) i ns v h = rw (get_or-set_other ns i n v 0 (λ e. omega arith), last_first-past n i ns v (omega arith))
+numbers_past zero i ns v h = refl
+numbers_past (suc n) i ns v h = rw (get_or-set_other ns i n v 0 (λ e. omega arith), numbers_past n i ns v (omega arith))
 
 -- one more max, at the end of the array, is the innermost
-pub last_first-push : (n : ℕ) (ns : List ℕ) (v : ℕ) → n < length ns → last_first (n + 1) (set ns n v) ≡ v ∷ last_first n ns
+pub numbers_max : (n : ℕ) (ns : List ℕ) (v : ℕ) → n < length ns → last_first (n + 1) (set ns n v) ≡ v ∷ last_first n ns
 unfolding last_first
-last_first-push n ns v h = rw (add-one n, get_or-set_same ns n v 0 h, last_first-past n n ns v (omega arith))
+numbers_max n ns v h = rw (add-one n, get_or-set_same ns n v 0 h, numbers_past n n ns v (omega arith))
 
 -- ---- guards
 

@@ -16,9 +16,9 @@ use Rattle.reading.specs.Numbered.{no_extent}
 use Rattle.reading.specs.Promises.{CoversMeans, MeasuresPattern, ToldBySet}
 use Rattle.reading.specs.declared.Pattern.{Pattern}
 use Rattle.reading.specs.declared.Extent.{Extent}
-use Rattle.reading.specs.declared.Lowest.TheVariants.{Code, Absent}
+use Rattle.std.specs.Prelude.{Some, None}
 use Rattle.reading.proofs.Measures.Bits.{bit_over, is_set, trailing_is_least, trailing_lt, ones_is_count}
-use Rattle.reading.proofs.Measures.Counting.{least_is, least_holds, least_min, least_none, count_below-none, count_below-le}
+use Rattle.reading.proofs.Measures.Counting.{least_is, least_holds, least_min, least_none, count_below-none}
 use Rattle.reading.proofs.Measures.NamedSlots.{named_means, named_extent, lowest_slot-lt}
 use Rattle.reading.proofs.Measures.SlotSets.{measures_slots}
 use Rattle.reading.proofs.Measures.TwoEnds.{sets_of_slots}
@@ -53,16 +53,16 @@ no_extent_lem p none =
 
 -- ---- the lowest code as a case
 
-absent_code : (low : ℕ) → Absent ≡ Code low → ⊥
+absent_code : (low : ℕ) → None ≡ Some low → ⊥
 absent_code low e = let z : ◌≡◌ {A = ℕ} 0 1 = cc in omega arith
 
-code_same : (a b : ℕ) → Code a ≡ Code b → a ≡ b
+code_same : (a b : ℕ) → Some a ≡ Some b → a ≡ b
 code_same a b e = cc
 
-lowest_least : (p : Pattern) (low : ℕ) → lowest_of p ≡ Code low → (least 256 (covers p) < 256) × (least 256 (covers p) ≡ low)
+lowest_least : (p : Pattern) (low : ℕ) → lowest_of p ≡ Some low → (least 256 (covers p) < 256) × (least 256 (covers p) ≡ low)
 lowest_least p low e = on (least 256 (covers p)) (dec_le 256 (least 256 (covers p))) e
   where
-    on : (m : ℕ) → Dec (256 ≤ m) → cond (ltb m 256) (Code m) Absent ≡ Code low → (m < 256) × (m ≡ low)
+    on : (m : ℕ) → Dec (256 ≤ m) → cond (ltb m 256) (Some m) None ≡ Some low → (m < 256) × (m ≡ low)
     on m (yes h) e = absurd (absent_code low (rw (le-ltb m 256 h) at e))
     on m (no h) e = (lt_of_not-le h, code_same m low (rw (lt-ltb m 256 (lt_of_not-le h)) at e))
 
@@ -105,7 +105,7 @@ module _ (p : Pattern) (ok : WellFormedPattern p) where
     least_lt : least 256 (covers p) < 256
     least_lt = rw least_code (omega (arith, lowest_kind, slot_inside))
 
-    lowest_code : lowest_of p ≡ Code (least 256 (covers p))
+    lowest_code : lowest_of p ≡ Some (least 256 (covers p))
     lowest_code = rw (lt-ltb _ _ least_lt)
 
   no_kind : Dec (1 ≤ p.mask) → (0 < p.mask → ⊥) → p.mask ≡ 0
@@ -121,11 +121,11 @@ module _ (p : Pattern) (ok : WellFormedPattern p) where
     );
     empty = (covers_none p, λ none. no_kind (dec_le 1 p.mask) (λ some. true≢false (sym (least_holds 256 (covers p) (least_lt some)) ∙ none _)));
     round_lowest = λ low e h. round low (lowest_least p low e) h (dec_le 1 p.mask);
-    by_zeros = λ some. lowest_code some ∙ ap Code (least_code some);
+    by_zeros = λ some. lowest_code some ∙ ap Some (least_code some);
     by_ones = code_count;
   }
     where
-      least_covered : (low : ℕ) → lowest_of p ≡ Code low → (covers p low ≡ true) × ((code : ℕ) → covers p code ≡ true → low ≤ code)
+      least_covered : (low : ℕ) → lowest_of p ≡ Some low → (covers p low ≡ true) × ((code : ℕ) → covers p code ≡ true → low ≤ code)
       least_covered low e =
           let (inside, is) = lowest_least p low e in
           (rw is at (least_holds 256 (covers p) inside), λ code t. omega (arith, least_min 256 (covers p) code t))
@@ -134,7 +134,7 @@ module _ (p : Pattern) (ok : WellFormedPattern p) where
       uncovered low i min h true e = absurd (omega (arith, min i e))
       uncovered low i min h false e = e
 
-      least_lowest : (low : ℕ) → covers p low ≡ true → ((code : ℕ) → covers p code ≡ true → low ≤ code) → lowest_of p ≡ Code low
+      least_lowest : (low : ℕ) → covers p low ≡ true → ((code : ℕ) → covers p code ≡ true → low ≤ code) → lowest_of p ≡ Some low
       least_lowest low t min =
           let inside = covered_lt low t in
           let is = least_is 256 low (covers p) inside t (λ i h. uncovered low i min h (covers p i) refl) in
@@ -163,13 +163,10 @@ module _ (p : Pattern) (word : ℕ) (set : IsSlotSet (named p.first p.last) word
           λ h. let (kind, slot) = means.0 h in (kind, exactly.1 (omega arith, slot)),
           λ (kind, slot). means.1 (kind, (exactly.0 slot).1),
         );
-    lowest = λ ok some. lowest_code p ok some ∙ ap Code (least_by_set ok some);
+    lowest = λ ok some. lowest_code p ok some ∙ ap Some (least_by_set ok some);
     count = count_by_set;
   }
 
-  -- neither is past the 256 codes
+  -- it is one of the 256 codes
   pub lowest_fits : WellFormedPattern p → 0 < p.mask → count_trailing_zeros 8 p.mask * 32 + count_trailing_zeros 32 word < 256
   lowest_fits ok some = omega (arith, least_lt p ok some, least_by_set ok some)
-
-  pub count_fits : WellFormedPattern p → ones p.mask * ones word ≤ 256
-  count_fits ok = rw (count_by_set ok) at (count_below-le 256 (covers p))

@@ -1,15 +1,15 @@
--- The arrays of a numbered rule: by a node's number its kind and its argument, and by a pattern's number the pattern and its extent. Each array is a
--- list with an element for each node or pattern, filled up; so an index in the list finds the list's element.
+-- The arrays of a numbered rule: by a node's number the node, and by a pattern's number the pattern with its extent. Each array is a list with an
+-- element for each node or pattern, filled up; so an index in the list finds the list's element.
 use mathlib.Core.Path.{◌≡◌, refl, ◌∙◌}
 use mathlib.Core.List.{List, [], ◌∷◌, ◌++◌, map}
 use Prim.Native.Nat.{ℕ, zero, suc, ◌-◌, ◌≤◌}
 use native.Mathlib.Omega.{arith}
 use lib.ListN.{length, get_or, replicate, length-append, length-replicate, get_or-map}
-use Rattle.reading.specs.Pattern.{extent_of}
 use Rattle.reading.specs.Rule.{Formula, truth, falsity, both, necessity, max, variable, size, WellFormed, Rule}
-use Rattle.reading.specs.Numbered.{kind, argument, number_of, kinds, args, padded, numbered, no_pattern, no_extent}
+use Rattle.reading.specs.Numbered.{node_of, number_of, nodes, padded, listed, no_pattern, none_listed, numbered}
 use Rattle.reading.specs.Promises.{NumbersNodes, NumbersPatterns}
 use Rattle.reading.specs.Nodes.{EnclosingMax, no_max, Node, first, second, after, body}
+use Rattle.reading.specs.declared.Node.TheVariants.{Truth}
 use Rattle.reading.specs.Nodes.{Resolves, is_truth, is_falsity, is_both, is_necessity, is_max, is_variable}
 use Rattle.reading.proofs.Measures.Extents.{no_extent_lem}
 use Rattle.reading.proofs.Numbering.NodeLaws.{node_exists, node_fits, Around, max_around, guards_around, well_formed_at, variable_bound}
@@ -34,44 +34,36 @@ module _ {A : Type 0} (x : A) where
   pub padded_long : (n : ℕ) (l : List A) → length l ≤ n → length (padded n x l) ≡ n
   padded_long n l h = length-append l (replicate (n - length l) x) ∙ rw (length-replicate (n - length l) x) (omega arith)
 
--- ---- kinds and arguments
+-- ---- nodes
 
-pub kinds_size : (k : ℕ) (ms : List ℕ) (f : Formula) → length (kinds k ms f) ≡ size f
-kinds_size = listed_size number_of (λ k ms f. kind f)
-
-pub args_size : (k : ℕ) (ms : List ℕ) (f : Formula) → length (args k ms f) ≡ size f
-args_size = listed_size number_of argument
+pub nodes_size : (k : ℕ) (ms : List ℕ) (f : Formula) → length (nodes k ms f) ≡ size f
+nodes_size = listed_size number_of node_of
 
 module _ (r : Rule) {k : ℕ} {ms : List EnclosingMax} where
-  pub node_kind : {f : Formula} → Node r.formula k ms f → get_or (numbered r).kinds k 0 ≡ kind f
-  node_kind n = padded_at 0 64 (kinds 0 [] r.formula) k ∙ listed_at number_of (λ k ms f. kind f) r.formula 0 n
+  pub node_at_lem : {f : Formula} → Node r.formula k ms f → get_or (numbered r).nodes k Truth ≡ node_of k (map number_of ms) f
+  node_at_lem n = padded_at Truth 64 (nodes 0 [] r.formula) k ∙ listed_at number_of node_of r.formula Truth n
 
-  pub node_argument : {f : Formula} → Node r.formula k ms f → get_or (numbered r).args k 0 ≡ argument k (map number_of ms) f
-  node_argument n = padded_at 0 64 (args 0 [] r.formula) k ∙ listed_at number_of argument r.formula 0 n
-
-  -- what the kind and the argument of a node say of it
-  kind_resolves : (f : Formula) (n : ℕ) → WellFormed n [] r.formula → Node r.formula k ms f
-      → Resolves r.formula k ms (kind f) (argument k (map number_of ms) f) f
-  kind_resolves truth n w m = is_truth
-  kind_resolves falsity n w m = is_falsity
-  kind_resolves (both f g) n w m = is_both (first m) (second m)
-  kind_resolves (necessity p f) n w m = is_necessity (after m)
-  kind_resolves (max f) n w m = is_max (body m)
-  kind_resolves (variable d) n w m =
+  own_resolves : (f : Formula) (n : ℕ) → WellFormed n [] r.formula → Node r.formula k ms f
+      → Resolves r.formula k ms (node_of k (map number_of ms) f) f
+  own_resolves truth n w m = is_truth
+  own_resolves falsity n w m = is_falsity
+  own_resolves (both f g) n w m = is_both (first m) (second m)
+  own_resolves (necessity p f) n w m = is_necessity (after m)
+  own_resolves (max f) n w m = is_max (body m)
+  own_resolves (variable d) n w m =
       let a : Around r.formula k ms d = max_around m d (variable_bound n w m) in
       rw (get_or-map number_of ms d no_max) (is_variable refl a.node a.before)
 
   pub node_resolves : {f : Formula} (n : ℕ) → WellFormed n [] r.formula → Node r.formula k ms f
-      → Resolves r.formula k ms (get_or (numbered r).kinds k 0) (get_or (numbered r).args k 0) f
-  node_resolves {f} n w m = rw (node_kind m, node_argument m) (kind_resolves f n w m)
+      → Resolves r.formula k ms (get_or (numbered r).nodes k Truth) f
+  node_resolves {f} n w m = rw (node_at_lem m) (own_resolves f n w m)
 
 -- ---- patterns
 
-pub pattern_at_lem : (r : Rule) (i : ℕ) → get_or (numbered r).patterns i no_pattern ≡ get_or r.patterns i no_pattern
-pattern_at_lem r i = padded_at no_pattern 32 r.patterns i
-
-pub extent_at : (r : Rule) (i : ℕ) → get_or (numbered r).extents i no_extent ≡ extent_of (get_or r.patterns i no_pattern)
-extent_at r i = padded_at no_extent 32 (map extent_of r.patterns) i ∙ rw (← no_extent_lem no_pattern refl) (get_or-map extent_of r.patterns i no_pattern)
+pub pattern_at_lem : (r : Rule) (i : ℕ) → get_or (numbered r).patterns i none_listed ≡ listed (get_or r.patterns i no_pattern)
+pattern_at_lem r i =
+    padded_at none_listed 32 (map listed r.patterns) i
+    ∙ rw (← no_extent_lem no_pattern refl) (get_or-map listed r.patterns i no_pattern)
 
 -- ---- the promises
 
@@ -81,11 +73,10 @@ numbers_nodes r = record {
   exists = node_exists r.formula;
   unique = node_unique;
   fits = node_fits;
-  kind_is = node_kind r;
-  argument_is = node_argument r;
+  node_is = node_at_lem r;
   well_formed = λ n w node. (well_formed_at n w node, guards_around node);
   resolves = node_resolves r;
 }
 
 pub numbers_patterns : (r : Rule) → NumbersPatterns r
-numbers_patterns r = record { counted = refl; pattern = pattern_at_lem r; extent = extent_at r }
+numbers_patterns r = record { counted = refl; pattern = pattern_at_lem r }

@@ -16,14 +16,10 @@ use Rattle.reading.specs.Faults.{file_ended, pattern_cut, node_cut, no_kind, aft
 use Rattle.reading.specs.Faults.{unguarded}
 use Rattle.reading.specs.Numbered.{reading_of}
 use Rattle.reading.specs.Promises.{RefusesAtTheFault, HasOneFault}
-use Rattle.reading.specs.Representations.{record_at, pattern_read, node_of, node_read}
+use Rattle.reading.specs.Representations.{record_at}
 use Rattle.reading.specs.declared.Pattern.{Pattern}
-use Rattle.reading.specs.declared.FileRead.TheVariants.{Refused}
-use Rattle.reading.specs.declared.patterns.PatternRead.TheVariants as PatternRead
-use Rattle.reading.specs.declared.formulas.NodeRead.TheVariants as NodeRead
 use Rattle.reading.proofs.Basics.ByteLaws.{byte_at}
-use Rattle.reading.proofs.Basics.Outcomes.{refuse_refused, never_refused, by_case-refused}
-use Rattle.reading.proofs.Basics.Cases.{pattern_cases, node_cases, acceptance_of, acceptance_refused}
+use Rattle.reading.proofs.Basics.Outcomes.{refuse_refused, never_refused, refused_same}
 use Rattle.reading.proofs.Accepting.Checks as checks
 use Rattle.reading.proofs.Basics.Places.{Byte}
 use Rattle.reading.proofs.Refusing.Contexts.{guards, Consumes, done, consumes_same}
@@ -54,9 +50,9 @@ module _ (s : List ℕ) {number place : ℕ} where
 -- ---- at a node
 
 module _ {s : List ℕ} {at n m : ℕ} {g : Guards} {due : List Guards} (h : ReadTo s at n m (g ∷ due)) where
-  node_refused : {number place : ℕ} → (m ≡ 0 → is_pattern s at ≡ false) → NodeRead.Refused number place ≡ node_read (node_at s n at (64 - m) g)
+  node_refused : {number place : ℕ} → (m ≡ 0 → is_pattern s at ≡ false) → node_at s n at (64 - m) g ≡ refused number place
       → head_at s 32 0 0 ≡ refused number place
-  node_refused none e = head_at_to_node h none ∙ due_refused s (64 - m) n at g due (by_case-refused node_cases node_of (node_at s n at (64 - m) g) _ _ e)
+  node_refused none e = head_at_to_node h none ∙ due_refused s (64 - m) n at g due e
 
   ended_refused : at ≡ length s → head_at s 32 0 0 ≡ refused 1 (length s)
   ended_refused e =
@@ -79,17 +75,17 @@ module _ {s : List ℕ} {at n m : ℕ} {g : Guards} {due : List Guards} (h : Rea
 
   -- a necessity or a variable, of which its own checks tell
   module _ {number place : ℕ} (few : m < 64) where
-    necessity_refused : KindAt s at (λ k. k ≡ necessity_kind) → NodeRead.Refused number place ≡ node_read (necessity_at s n at)
+    necessity_refused : KindAt s at (λ k. k ≡ necessity_kind) → necessity_at s n at ≡ refused number place
         → head_at s 32 0 0 ≡ refused number place
     necessity_refused (inside, is) e =
         node_refused (λ z. other_kind s at (λ one. omega arith))
-        (checks.node_necessity s n at (64 - m) g inside (λ z. omega arith) (omega arith) (λ z. omega arith) (λ z. omega arith) is _ e)
+        (checks.node_necessity s n at (64 - m) g inside (λ z. omega arith) (omega arith) (λ z. omega arith) (λ z. omega arith) is ∙ e)
 
-    variable_refused : KindAt s at (λ k. k ≡ variable_kind) → NodeRead.Refused number place ≡ node_read (variable_at s g at)
+    variable_refused : KindAt s at (λ k. k ≡ variable_kind) → variable_at s g at ≡ refused number place
         → head_at s 32 0 0 ≡ refused number place
     variable_refused (inside, is) e =
         node_refused (λ z. other_kind s at (λ one. omega arith))
-        (checks.node_variable s n at (64 - m) g inside (λ z. omega arith) (omega arith) (λ z. omega arith) (λ z. omega arith) is _ e)
+        (checks.node_variable s n at (64 - m) g inside (λ z. omega arith) (omega arith) (λ z. omega arith) (λ z. omega arith) is ∙ e)
 
   cut_refused : KindAt s at HasBody → m < 64 → length s < at + 2 → head_at s 32 0 0 ≡ refused 1 (length s)
   cut_refused (inside, inl is) few cut = necessity_refused few (inside, is) (checks.necessity_cut s n at (omega arith))
@@ -120,7 +116,7 @@ module _ {s : List ℕ} {at n m : ℕ} {g : Guards} {due : List Guards} (h : Rea
       (variable_refused few (inside, is)) (λ guard. none (read_front (next_node h refl few here (bound, guard))).begins) bound
     where
       on : (c : Bool) → get_or g (get_or s (at + 1) 0) false ≡ c
-          → (NodeRead.Refused 7 at ≡ node_read (variable_at s g at) → head_at s 32 0 0 ≡ refused 7 at)
+          → (variable_at s g at ≡ refused 7 at → head_at s 32 0 0 ≡ refused 7 at)
           → (get_or g (get_or s (at + 1) 0) false ≡ true → ⊥) → get_or s (at + 1) 0 < length g → head_at s 32 0 0 ≡ refused 7 at
       on true e say never bound = absurd (never e)
       on false e say never bound = say (checks.not_guarded s g at (omega arith) bound e)
@@ -155,15 +151,11 @@ module _ {s : List ℕ} {at n : ℕ} {due : List Guards} (h : ReadTo s at n 0 du
   pattern_refused : {number place : ℕ} → record_at (pattern_format s) (32 - n) at ≡ refused number place → head_at s 32 0 0 ≡ refused number place
   pattern_refused e = head_at_to_pattern h ∙ head_refused s (32 - n) n at (rw (lt-ltb at (length s) kind.0, kind.1)) e
 
-  pattern_case_refused : {number place : ℕ} → PatternRead.Refused number place ≡ pattern_read (record_at (pattern_format s) (32 - n) at)
-      → head_at s 32 0 0 ≡ refused number place
-  pattern_case_refused e = pattern_refused (by_case-refused pattern_cases (λ p. p) (record_at (pattern_format s) (32 - n) at) _ _ e)
-
   pattern_33_refused : n ≡ 32 → head_at s 32 0 0 ≡ refused 4 at
-  pattern_33_refused full = pattern_case_refused (checks.no_pattern-left s at (32 - n) (omega arith))
+  pattern_33_refused full = pattern_refused (checks.no_pattern-left s at (32 - n) (omega arith))
 
   pattern_cut_refused : n < 32 → length s < at + 4 → head_at s 32 0 0 ≡ refused 1 (length s)
-  pattern_cut_refused few cut = pattern_case_refused (checks.pattern_cut s at (32 - n) (λ z. omega arith) (omega arith))
+  pattern_cut_refused few cut = pattern_refused (checks.pattern_cut s at (32 - n) (λ z. omega arith) (omega arith))
 
   -- whole and one of the 32, it can be refused with 5 only
   unfit_refused_with_5 : {number place : ℕ} → n < 32 → at + 4 ≤ length s
@@ -202,12 +194,10 @@ fault_refused s bytes (names_nothing u kind few whole none) = let (g, due, h) = 
 fault_refused s bytes (unguarded u kind few whole none begins) =
     let (g, due, h) = read_to_unfinished u in unguarded_refused h kind few whole none begins
 
-answer_is : (o : Outcome Rule) → (reading_of o).answer ≡ acceptance_of o
-answer_is (accepted r) = refl
-answer_is (refused number place) = refl
-
-pub answer_refused : (o : Outcome Rule) (number place : ℕ) → (o ≡ refused number place) ↔ ((reading_of o).answer ≡ Refused number place)
-answer_refused o number place = rw (answer_is o) (acceptance_refused o number place)
+pub answer_refused : (o : Outcome Rule) (number place : ℕ) → (o ≡ refused number place) ↔ (reading_of o ≡ refused number place)
+answer_refused (accepted r) number place = (λ e. absurd (never_refused e), λ e. absurd (never_refused e))
+answer_refused (refused m at) number place =
+    (λ e. let (is, there) = refused_same e in rw (is, there), λ e. let (is, there) = refused_same e in rw (is, there))
 
 pub refuses_at_the_fault : RefusesAtTheFault
 refuses_at_the_fault s bytes number place =
@@ -216,4 +206,4 @@ refuses_at_the_fault s bytes number place =
     (λ e. fault_found s bytes (forth (hear e)), λ fault. say (back (fault_refused s bytes fault)))
 
 pub has_one_fault : HasOneFault
-has_one_fault s bytes = one_fault (reading_of (rule_of s)).answer (refuses_at_the_fault s bytes)
+has_one_fault s bytes = one_fault (reading_of (rule_of s)) (refuses_at_the_fault s bytes)

@@ -1,26 +1,18 @@
--- An answer is one value: where each refusal is due to the clauses with its number and place, no two clauses differ in these.
-use mathlib.Core.Path.{◌≡◌, refl, sym}
+-- An outcome is one value: where each refusal is due to the clauses with its number and place, no two clauses differ in these.
+use mathlib.Core.Path.{◌≡◌, refl, sym, ◌∙◌}
 use mathlib.Core.Logic.{◌↔◌}
 use Prim.Native.Nat.{ℕ}
-use native.Mathlib.Omega.{arith}
+use Rattle.reading.specs.File.{Outcome, accepted, refused}
 use Rattle.reading.specs.Promises.{OneFault}
-use Rattle.reading.specs.declared.FileRead.{FileRead}
-use Rattle.reading.specs.declared.FileRead.TheVariants.{Accepted, Refused}
+use Rattle.reading.proofs.Basics.Outcomes.{never_accepted, never_refused, refused_same}
 
-answers_apart : {number place : ℕ} → Accepted ≡ Refused number place → ⊥
-answers_apart e = let z : ◌≡◌ {A = ℕ} 0 1 = cc in omega arith
-
-refused_same : {answer : FileRead} {number place number' place' : ℕ} → answer ≡ Refused number place → answer ≡ Refused number' place'
-    → (number ≡ number') × (place ≡ place')
-refused_same e e' = (cc, cc)
-
-pub one_fault : {Holds : (number place : ℕ) → Type 0} (answer : FileRead)
-    → ((number place : ℕ) → (answer ≡ Refused number place) ↔ Holds number place) → OneFault answer Holds
-one_fault Accepted exactly = record {
-  one = λ {number} {place} fault other. absurd (answers_apart ((exactly number place).1 fault));
-  none = (λ e number place fault. answers_apart ((exactly number place).1 fault), λ h. refl);
+pub one_fault : {A : Type 0} {Holds : (number place : ℕ) → Type 0} (said : Outcome A)
+    → ((number place : ℕ) → (said ≡ refused number place) ↔ Holds number place) → OneFault said Holds
+one_fault (accepted a) exactly = record {
+  one = λ {number} {place} fault other. absurd (never_refused ((exactly number place).1 fault));
+  none = (λ (x, e) number place fault. never_refused ((exactly number place).1 fault), λ h. (a, refl));
 }
-one_fault (Refused m at) exactly = record {
-  one = λ {number} {place} {number'} {place'} fault other. refused_same ((exactly number place).1 fault) ((exactly number' place').1 other);
-  none = (λ e. absurd (answers_apart (sym e)), λ h. absurd (h m at ((exactly m at).0 refl)));
+one_fault (refused m at) exactly = record {
+  one = λ {number} {place} {number'} {place'} fault other. refused_same (sym ((exactly number place).1 fault) ∙ (exactly number' place').1 other);
+  none = (λ (x, e). absurd (never_accepted e), λ h. absurd (h m at ((exactly m at).0 refl)));
 }

@@ -8,12 +8,11 @@ use native.Mathlib.Decide.{dec_le}
 use native.Mathlib.Omega.{arith}
 use lib.ListN.{length, get_or, take}
 use Rattle.reading.specs.Pattern.{WellFormedPattern}
-use Rattle.reading.specs.File.{rule_of}
+use Rattle.reading.specs.File.{refused, rule_of}
 use Rattle.reading.specs.Faults.{pattern, BeginsRule, Unfinished, KindAt, IsPattern, Fault, file_ended, pattern_cut, node_cut, no_kind, after_rule}
 use Rattle.reading.specs.Faults.{late_pattern, pattern_33, node_65, bad_pattern, names_nothing, unguarded}
 use Rattle.reading.specs.Numbered.{reading_of}
 use Rattle.reading.specs.Promises.{RefusesPattern}
-use Rattle.reading.specs.declared.FileRead.TheVariants.{Refused}
 use Rattle.reading.proofs.Basics.ByteLaws.{byte_at}
 use Rattle.reading.proofs.Accepting.Checks.{pattern_of_bytes}
 use Rattle.reading.proofs.Refusing.ReadTo.{Stands, read_front, next_pattern, pattern_well_formed}
@@ -72,7 +71,7 @@ refuses_pattern s bytes at n u kind few whole = (
   λ unfit. faults.1 (bad_pattern u kind few whole (λ begins. unfit_not_formed _ _ _ unfit (begins_formed s u kind few whole begins))),
 )
   where
-    faults : ((reading_of (rule_of s)).answer ≡ Refused 5 at) ↔ Fault s 5 at
+    faults : (reading_of (rule_of s) ≡ refused 5 at) ↔ Fault s 5 at
     faults = refuses_at_the_fault s bytes 5 at
 
     forth : (BeginsRule (take (at + 4) s) → ⊥) → UnfitAt s at ⊎ WellFormedPattern (pattern_of_bytes s at) → UnfitAt s at

@@ -3,8 +3,8 @@ use Rattle.std.proofs.Common.{◌-◌}
 use Rattle.reading.proofs.Functions.Heads.{PatternsBegun}
 use Rattle.reading.proofs.patterns.read_patterns.Given as goal
 
-abbrev pub invariant-loop-found : goal.invariant-loop-found
-invariant-loop-found l = PatternsBegun l.bytes l.list l.extents l.at l.n
+abbrev pub invariant-loop-list : goal.invariant-loop-list
+invariant-loop-list l = PatternsBegun l.bytes l.list l.at l.count
 
-abbrev pub decreases-loop-found : goal.decreases-loop-found
-decreases-loop-found l = 32 - l.n
+abbrev pub decreases-loop-list : goal.decreases-loop-list
+decreases-loop-list l = 32 - l.count
