@@ -1,7 +1,7 @@
 -- What the enums, structures and arrays of private functions stand for, and how far a loop over records has read. No public contract cites these.
 use Rattle.std.specs.Prelude.{ℕ, ◌-◌, ◌≤◌, ◌≡◌, List, ◌++◌, map, length, eqb, Result}
 use Rattle.std.proofs.lemmas.List.Edits.{sets}
-use Rattle.reading.specs.File.{Outcome, accepted, refused, refuse, and_then, RecordFormat, Records, records_at, NodeRecord, Parsed}
+use Rattle.reading.specs.File.{Outcome, accepted, refuse, and_then, RecordFormat, Records, records_at, NodeRecord, Parsed}
 use Rattle.reading.specs.Refusals.{as_outcome}
 use Rattle.reading.specs.Rule.{Symbol, Truth, Falsity, Both, Necessity, Max, Variable}
 use Rattle.reading.specs.Numbered.{nodes, padded, listed, none_listed}
@@ -10,7 +10,6 @@ use Rattle.reading.specs.declared.Node.{Node}
 use Rattle.reading.specs.declared.refusals.Refusal.{Refusal}
 use Rattle.reading.specs.declared.patterns.Head.{Head}
 use Rattle.reading.specs.declared.formulas.Symbol.{Symbol as Symbol'}
-use Rattle.reading.specs.declared.formulas.Symbol.TheVariants as Symbol'
 use Rattle.reading.specs.declared.formulas.Record.{Record}
 use Rattle.reading.specs.declared.formulas.Rest.{Rest}
 

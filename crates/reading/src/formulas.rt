@@ -5,10 +5,9 @@ ghost use Rattle.reading.specs.File.{necessity_at, variable_at, node_at, formula
 ghost use Rattle.reading.specs.Refusals.{as_outcome};
 ghost use Rattle.reading.specs.Representations.{record_of, Reads};
 
-use std::marker::Model;
-
 use crate::kind::Kind;
 use crate::{Fault, Node, Refusal};
+use std::marker::Model;
 
 /// The max nodes around a record, outermost first. The innermost `unguarded` of them have no necessity below them yet.
 #[derive(Drop)]
@@ -56,10 +55,7 @@ pub(crate) struct Rest {
 
 impl Scope {
     /// Inside no max.
-    #[tactic(auto, unfolding(
-        crate::specs::Scopes::last_first,
-        crate::specs::Scopes::guards_of
-    ))]
+    #[tactic(auto, unfolding(crate::specs::Scopes::last_first, crate::specs::Scopes::guards_of))]
     pub(crate) fn outermost() -> Self
         ensures { result ≡ record { maxes = []; guards = [] } }
     {
@@ -71,11 +67,7 @@ impl Scope {
     }
 
     // Inside one more max, node k.
-    #[tactic(auto, using(
-        crate::proofs::Functions::Scopes::guards_length,
-        crate::proofs::Functions::Scopes::guards_max,
-        crate::proofs::Functions::Scopes::numbers_max
-    ))]
+    #[tactic(auto, using(crate::proofs::Functions::Scopes::guards_length, crate::proofs::Functions::Scopes::guards_max, crate::proofs::Functions::Scopes::numbers_max))]
     fn inside_max(&self, k: u8) -> Self
         requires { length self.now.guards < 64 }
         ensures { result ≡ record { maxes = k ∷ self.now.maxes; guards = false ∷ self.now.guards } }
@@ -95,18 +87,16 @@ impl Scope {
         ensures { result ≡ record { maxes = self.now.maxes; guards = guarded self.now.guards } }
     {
         let nodes = self.nodes;
+        let unguarded = 0;
         Scope {
             count: self.count,
-            unguarded: 0,
+            unguarded,
             nodes,
         }
     }
 
     // The max node of the variable of a depth.
-    #[tactic(auto, using(
-        crate::proofs::Functions::Scopes::guards_length,
-        crate::proofs::Functions::Scopes::number_at
-    ))]
+    #[tactic(auto, using(crate::proofs::Functions::Scopes::guards_length, crate::proofs::Functions::Scopes::number_at))]
     fn max_of(&self, depth: u8) -> u8
         requires { depth < length self.now.guards }
         ensures { result ≡ get_or self.now.maxes depth 0 }
@@ -134,11 +124,7 @@ fn read_necessity(bytes: &[u8], patterns: usize, at: usize) -> Result<Record, Re
 }
 
 // The variable at `at`, whose body is a depth, inside the max nodes of a scope.
-#[tactic(auto, using(
-    crate::proofs::Functions::Scopes::guards_length,
-    crate::proofs::Functions::Scopes::unguarded_at,
-    crate::proofs::Functions::Scopes::guarded_at
-))]
+#[tactic(auto, using(crate::proofs::Functions::Scopes::guards_length, crate::proofs::Functions::Scopes::unguarded_at, crate::proofs::Functions::Scopes::guarded_at))]
 fn read_variable(bytes: &[u8], scope: &Scope, at: usize) -> Result<Record, Refusal>
     requires { at < length bytes.now }
     ensures { record_of result ≡ variable_at bytes.now scope.now.guards at }

@@ -70,16 +70,14 @@ fn is_pattern(bytes: &[u8], at: usize) -> bool
 pub(crate) fn read_patterns(bytes: &[u8]) -> Result<Head, Refusal>
     ensures { as_outcome result ≡ head_of (patterns_at 32 bytes.now 0) }
 {
+    let pattern = Pattern {
+        mask: 0,
+        first: 0,
+        last: 0,
+    };
     let none = Listed {
-        pattern: Pattern {
-            mask: 0,
-            first: 0,
-            last: 0,
-        },
-        extent: Extent {
-            lowest: None,
-            count: 0,
-        },
+        pattern,
+        extent: extent(pattern),
     };
     let mut list = [none; 32];
     let mut count = 0;

@@ -13,7 +13,6 @@ use Rattle.reading.specs.Rule.{Rule, RuleWithinLimits, encode_patterns, encode_f
 use Rattle.reading.specs.File.{Outcome, accepted, refused, is_pattern, patterns_at, Parsed, formula_of, end_of_file, rule_of}
 use Rattle.reading.specs.Numbered.{numbered, reading_of}
 use Rattle.reading.specs.Promises.{AcceptsEncodings, OneRule, AnswersAccepted}
-use Rattle.reading.specs.declared.NumberedRule.{NumberedRule}
 use Rattle.reading.proofs.Basics.Outcomes.{accepted_is, never_accepted, and_then-accepted, and_then-accepts, refuse_accepted}
 use Rattle.reading.proofs.Basics.Places.{first_byte, rest_after}
 use Rattle.reading.proofs.Accepting.PatternBytes.{node_no_pattern, PatternsStand, patterns_accept}

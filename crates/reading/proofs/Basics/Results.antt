@@ -1,6 +1,6 @@
 -- A number tells its fault, so an outcome tells its result.
 use mathlib.Core.Path.{◌≡◌, refl, sym, ap, ap₂, ◌∙◌}
-use mathlib.Core.List.{List, [], ◌∷◌}
+use mathlib.Core.List.{[], ◌∷◌}
 use Prim.Native.Nat.{ℕ}
 use lib.ListN.{get_or}
 use Rattle.std.specs.Prelude.{Result, Ok, Err, IsErrAnd}
@@ -19,9 +19,9 @@ use Rattle.reading.proofs.Basics.Outcomes.{accepted_is, never_accepted, never_re
 -- the fault of a number
 fault_of : ℕ → Fault
 fault_of n = get_or (
-  FileEnds ∷ FileEnds ∷ UnknownKind ∷ Misplaced ∷ TooManyRecords ∷ NoSuchSlot ∷ NamesNothing ∷ Unguarded ∷ Unsatisfiable ∷ TooManyEquations
-  ∷ TableTooShort ∷ ModelEnds ∷ BadModelRecord ∷ NoSuchState ∷ TooManySteps ∷ NoRoom ∷ Unfit ∷ AlreadyViolated ∷ TooManyForPage ∷ DutyIsFull
-  ∷ AlreadyOnDuty ∷ NotOnDuty ∷ PairsEnd ∷ NoSuchPair ∷ TooManyPairs ∷ []) n FileEnds
+    FileEnds ∷ FileEnds ∷ UnknownKind ∷ Misplaced ∷ TooManyRecords ∷ NoSuchSlot ∷ NamesNothing ∷ Unguarded ∷ Unsatisfiable ∷ TooManyEquations
+    ∷ TableTooShort ∷ ModelEnds ∷ BadModelRecord ∷ NoSuchState ∷ TooManySteps ∷ NoRoom ∷ Unfit ∷ AlreadyViolated ∷ TooManyForPage ∷ DutyIsFull
+    ∷ AlreadyOnDuty ∷ NotOnDuty ∷ PairsEnd ∷ NoSuchPair ∷ TooManyPairs ∷ []) n FileEnds
 
 fault_is : (f : Fault) → fault_of (number f) ≡ f
 unfolding fault_of

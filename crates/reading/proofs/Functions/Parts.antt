@@ -2,15 +2,15 @@
 -- left of the parts.
 use mathlib.Core.Path.{◌≡◌, refl, sym, ap, ◌∙◌}
 use mathlib.Core.Bool.{false}
-use mathlib.Core.List.{List, [], ◌∷◌, ◌++◌}
+use mathlib.Core.List.{List, [], ◌∷◌}
 use Prim.Native.Nat.{ℕ, suc, ◌+◌, ◌-◌, ◌≤◌, ◌<◌}
 use native.Mathlib.Omega.{arith}
-use lib.ListN.{length, get_or, set}
+use lib.ListN.{length, set}
 use lib.Seq.{sets}
 use Rattle.std.specs.Prelude.{Result, Ok, Err}
 use Rattle.reading.specs.Rule as Rule
 use Rattle.reading.specs.Rule.{Formula, both, necessity, max, size, Guards, guarded, Symbol}
-use Rattle.reading.specs.File.{Outcome, accepted, refused, and_then, NodeRecord, node_at, Parsed, parsed, under, parts_by, formula_of}
+use Rattle.reading.specs.File.{Outcome, accepted, refused, and_then, node_at, Parsed, parsed, under, parts_by, formula_of}
 use Rattle.reading.specs.Numbered.{nodes}
 use Rattle.reading.specs.Refusals.{number, as_outcome}
 use Rattle.reading.specs.Representations.{Reads}
@@ -18,7 +18,7 @@ use Rattle.reading.specs.declared.Node.{Node}
 use Rattle.reading.specs.declared.Node.TheVariants.{Both, Necessity, Max}
 use Rattle.reading.specs.declared.refusals.Refusal.{Refusal}
 use Rattle.reading.specs.declared.formulas.Rest.{Rest}
-use Rattle.reading.proofs.Basics.Outcomes.{accepted_is, never_accepted, never_refused, and_then-accepted}
+use Rattle.reading.proofs.Basics.Outcomes.{accepted_is, never_accepted, never_refused}
 use Rattle.reading.proofs.Accepting.Steps.{formula_step, formula_sound}
 use Rattle.reading.proofs.Accepting.NodeBytes.{NodeStands, bare, of_variable, node_accepts}
 use Rattle.reading.proofs.Numbering.NumberedLaws.{nodes_size}

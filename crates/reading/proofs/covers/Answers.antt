@@ -1,6 +1,6 @@
 -- The kind is out of the mask, or the slot's bit in the set of slots decides.
-use Rattle.std.proofs.Common.{◌≡◌, arith, eq-eqb, ne_eqb}
-use Rattle.reading.specs.Pattern.{kind_of, slot_of, bit, covers}
+use Rattle.std.proofs.Common.{eq-eqb, ne_eqb}
+use Rattle.reading.specs.Pattern.{slot_of, bit, covers}
 use Rattle.reading.proofs.Measures.Codes.{slot_lt}
 use Rattle.reading.proofs.Measures.SlotSets.{member}
 use Rattle.reading.proofs.covers.Goals as goal
