@@ -11,6 +11,7 @@ use Rattle.synthesis.proofs.Tables.Equations.{answers_count}
 use Rattle.synthesis.proofs.Reasons.Explained.{reasons_exactly}
 use Rattle.boundary.specs.Results.{kept_value}
 use Rattle.boundary.specs.Promises.{KeptIsNoNode}
+use Rattle.std.specs.Prelude.{Some}
 
 pub kept_is_no_node : KeptIsNoNode
 kept_is_no_node s w c m bytes e = on (synthesis_of most s) refl

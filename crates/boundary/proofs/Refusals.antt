@@ -20,7 +20,7 @@ use Rattle.synthesis.specs.Reason.{followed, opened_falsities, opened_after, exp
 use Rattle.models.specs.Phone.{phone_of}
 use Rattle.models.specs.Faults as Models
 use Rattle.models.specs.Judging.{with_model, judging_of}
-use Rattle.models.specs.Pairs.{pairs_of, matching_of, MatchedAs, paper_answer}
+use Rattle.models.specs.Pairs.{pairs_of, matching_of, MatchedAs, paper_answer, MatchAnswer}
 use Rattle.models.specs.PairFaults.{PairFault, pair_cut, no_such_state, one_too_many}
 use Rattle.models.proofs.Files.FileFaults.{model_refused, refuses_at_the_fault}
 use Rattle.models.proofs.Matchings.PairLists.{refuses_at_the_pair}

@@ -14,13 +14,16 @@ use Rattle.synthesis.specs.Reason.{explanation_of, reason_of}
 use Rattle.running.specs.Running.{result_of}
 use Rattle.running.proofs.RunCases.{run_cases}
 use Rattle.models.specs.Judging.{RuleAndModel, JudgedAs}
-use Rattle.models.specs.Pairs.{paper_answer}
+use Rattle.models.specs.Pairs.{paper_answer, MatchAnswer, said, refused_first, refused_second, refused_pairs}
 use Rattle.boundary.specs.declared.MatchResult.{MatchResult}
 use Rattle.boundary.specs.Results.{Result, counted_result, kept_value, reason_result, judged_result, matched_result, checked_number, state_of}
 use Rattle.boundary.specs.Promises.{CountTold, TellsCounts, TellsReason, TellsJudgment, TellsMatch, TellsRun}
 use Rattle.boundary.proofs.Refusals.{Numbered, synthesis_numbered, short_numbered, filling_numbered, short_filling-numbered}
 use Rattle.boundary.proofs.Refusals.{judging_numbered, matching_numbered, explanation_numbered, preview_numbered, preview_filling-numbered}
 use Rattle.boundary.proofs.KeptValue.{kept_is_no_node}
+use Rattle.std.specs.Prelude.{Option, Some, None}
+use Rattle.models.specs.declared.Judgment.{Judgment}
+use Rattle.models.specs.declared.Judgment.TheVariants.{Meets, Breaks}
 
 -- answers that can be read back have the same result only where they are the same
 told_apart : {A R : Type 0} (result : A → R) (back : R → A) {x y : A} → back (result x) ≡ x → back (result y) ≡ y → (result x ≡ result y) ↔ (x ≡ y)

@@ -1,16 +1,18 @@
 -- What this crate promises, as statements over the definitions; proofs/ has a theorem of each of these types. They are about what a C program gets: it
 -- tells the answer of the library, whole.
-use Rattle.std.specs.Prelude.{ℕ, ◌≤◌, ◌<◌, ◌≡◌, ◌↔◌, List}
+use Rattle.std.specs.Prelude.{ℕ, ◌≤◌, ◌<◌, ◌≡◌, ◌↔◌, List, Option, Some, None}
 use Rattle.reading.specs.Rule.{Bytes}
-use Rattle.reading.specs.File.{Outcome}
+use Rattle.reading.specs.File.{Outcome, accepted, refused}
 use Rattle.synthesis.specs.Monitor.{mark, most}
 use Rattle.synthesis.specs.Building.{Synthesis, synthesis_of, filling_of, preview_of, preview_filling_of, short_of, short_filling_of, counted_of}
 use Rattle.synthesis.specs.Reason.{explanation_of, reason_of}
 use Rattle.running.specs.Running.{run_of, result_of}
 use Rattle.running.specs.declared.RunResult.{RunResult}
 use Rattle.models.specs.Judging.{judging_of, JudgedAs}
-use Rattle.models.specs.Pairs.{matching_of, MatchedAs}
+use Rattle.models.specs.Pairs.{matching_of, MatchedAs, MatchAnswer, said, refused_first, refused_second, refused_pairs}
 use Rattle.boundary.specs.Results.{Result, counted_result, reason_result, judged_result, matched_result, state_of, IsRun}
+use Rattle.models.specs.declared.Judgment.{Judgment}
+use Rattle.models.specs.declared.Judgment.TheVariants.{Meets, Breaks}
 
 -- ---- a number and a value
 

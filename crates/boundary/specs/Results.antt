@@ -1,10 +1,13 @@
 -- The answers of the layers as a C program gets them: 0 or the number of a refusal, and beside it one value: what the answer says, or the
 -- place of the refusal. Matching says besides which of its inputs it refuses.
-use Rattle.std.specs.Prelude.{ℕ, ◌≡◌}
-use Rattle.reading.specs.File.{Outcome}
+use Rattle.std.specs.Prelude.{ℕ, ◌≡◌, Option, Some, None}
+use Rattle.reading.specs.File.{Outcome, accepted, refused}
 use Rattle.running.specs.Running.{start, moved, Run, result_of}
 use Rattle.running.specs.declared.State.{State}
 use Rattle.boundary.specs.declared.MatchResult.{MatchResult}
+use Rattle.models.specs.declared.Judgment.{Judgment}
+use Rattle.models.specs.declared.Judgment.TheVariants.{Meets, Breaks}
+use Rattle.models.specs.Pairs.{MatchAnswer, said, refused_first, refused_second, refused_pairs}
 
 -- a number and a value
 pub record Result : Type 0 where

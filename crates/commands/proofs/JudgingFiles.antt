@@ -14,6 +14,8 @@ use Rattle.models.proofs.Judgments.JudgingOrder.{judging_within_lem, judges_in_o
 use Rattle.models.proofs.Judgments.JudgingLaws.{judges_exactly}
 use Rattle.commands.specs.Printing.{program_limit, JudgesFiles}
 use Rattle.commands.specs.Promises.{MeetsExactly, JudgedTexts}
+use Rattle.reading.specs.File.{Outcome, accepted, refused}
+use Rattle.models.specs.declared.Judgment.{Judgment}
 
 judged_with_room : (s f : List ℕ) (answer : Outcome Judgment) → JudgesFiles s f answer → (capacity : ℕ) → 256 * program_limit ≤ capacity
     → JudgedAs (judging_of program_limit s capacity f) answer

@@ -4,7 +4,7 @@ use Prim.Native.Nat.{◌≤◌}
 use mathlib.Core.Path.{◌≡◌, refl, sym}
 use mathlib.Core.Bool.{Bool, true, false, cond}
 use native.Mathlib.Omega.{arith}
-use Rattle.reading.specs.File.{rule_of}
+use Rattle.reading.specs.File.{rule_of, Outcome, accepted, refused}
 use Rattle.reading.specs.Numbered.{reading_of}
 use Rattle.synthesis.specs.Monitor.{mark, most}
 use Rattle.synthesis.specs.Building.{synthesis_of, counted_of, table_after}

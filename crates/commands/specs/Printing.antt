@@ -1,7 +1,7 @@
 -- The text that is due to an answer, and how far printing it came. That each line that is counted was written, no contract can say.
 use Rattle.std.specs.Prelude.{ℕ, suc, ◌≡◌, Bool, true, false, cond, List, map, length}
 use Rattle.reading.specs.Pattern.{extent_of}
-use Rattle.reading.specs.File.{Outcome, accepted, refused, and_then, rule_of}
+use Rattle.reading.specs.File.{Outcome, accepted, refused, and_then, rule_of, by_case}
 use Rattle.reading.specs.Numbered.{reading_of}
 use Rattle.reading.specs.declared.NumberedRule.{NumberedRule}
 use Rattle.synthesis.specs.Monitor.{mark}
@@ -10,6 +10,9 @@ use Rattle.models.specs.Judging.{with_model, JudgedAs}
 use Rattle.listing.specs.Lines.{refusal_line, judgment_line, listing}
 use Rattle.listing.specs.Positions.{listing_line_at, lines_from}
 use Rattle.commands.specs.declared.EquationsResult.{EquationsResult}
+use Rattle.reading.specs.Refusals.{as_outcome}
+use Rattle.models.specs.declared.Judgment.{Judgment}
+use Rattle.models.specs.declared.Judgment.TheVariants.{Meets, Breaks}
 
 -- The most equations of a rule that a program takes. The library takes `most`.
 abbrev pub program_limit : ℕ

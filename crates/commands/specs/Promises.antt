@@ -1,7 +1,7 @@
 -- What this crate promises, as statements over the definitions; proofs/ has a theorem of each of these types.
 use Rattle.std.specs.Prelude.{◌≡◌, true, List, ℕ, min, ◌+◌, ◌*◌, ◌≤◌, length, take}
 use Rattle.reading.specs.Rule.{Rule, Bytes}
-use Rattle.reading.specs.File.{accepted, and_then, rule_of}
+use Rattle.reading.specs.File.{accepted, and_then, rule_of, Outcome, refused}
 use Rattle.reading.specs.Numbered.{reading_of}
 use Rattle.synthesis.specs.Monitor.{mark, most}
 use Rattle.synthesis.specs.Building.{synthesis_of, filling_of, counted_of, table_after, preview_of, preview_filling_of}
@@ -18,6 +18,9 @@ use Rattle.commands.specs.declared.EquationsResult.{EquationsResult}
 use Rattle.commands.specs.declared.SiftResult.{SiftResult}
 use Rattle.commands.specs.Printing.{program_limit, text_for, judged_text, JudgesFiles, printed, Shows}
 use Rattle.commands.specs.Sifting.{UnderRule, Sifts}
+use Rattle.reading.specs.Refusals.{as_outcome}
+use Rattle.models.specs.declared.Judgment.{Judgment}
+use Rattle.models.specs.declared.Judgment.TheVariants.{Meets, Breaks}
 
 -- ---- the programs' limit
 

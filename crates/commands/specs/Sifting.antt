@@ -2,7 +2,7 @@
 -- and that the kept ones are written, no contract can say.
 use Rattle.std.specs.Prelude.{ℕ, ◌≤◌, ◌≡◌, ◌⊎◌, List, length}
 use Rattle.reading.specs.Rule.{Bytes}
-use Rattle.reading.specs.File.{Outcome}
+use Rattle.reading.specs.File.{Outcome, accepted}
 use Rattle.synthesis.specs.Monitor.{mark, most}
 use Rattle.synthesis.specs.Building.{Synthesis, synthesis_of, counted_of, table_after}
 use Rattle.running.specs.Running.{run_of, checked_of, result_of}
@@ -10,6 +10,7 @@ use Rattle.running.specs.Calls.{Call, History, outcome_of, Calls, OnTable}
 use Rattle.running.specs.declared.State.{State}
 use Rattle.commands.specs.Printing.{program_limit}
 use Rattle.commands.specs.declared.SiftResult.{SiftResult}
+use Rattle.reading.specs.Refusals.{as_outcome}
 
 -- a state in which some such calls end
 abbrev pub EndsCalls : (May : History → Call → Type 0) → State → Type 0

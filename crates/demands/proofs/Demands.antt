@@ -56,6 +56,7 @@ use Rattle.demands.proofs.UnfitTables.{unfit_not_fit}
 use Rattle.demands.proofs.RefusedCalls.{run_refused, run_fit, judge_refused}
 use Rattle.demands.proofs.RefusedMatches.{match_first_refused, match_second_refused, match_pairs_refused}
 use Rattle.demands.proofs.RefusedOnDuty.{come_refused, go_refused, check_refused, duty_run_refused}
+use Rattle.reading.specs.File.{accepted}
 
 -- ---- demand 1
 

@@ -24,6 +24,7 @@ use Rattle.demands.specs.Outcomes.{running, RefusedIff}
 use Rattle.demands.specs.Refusals.{CountRefused, RunRefused, short_buffer, unfit, JudgeRefused, in_filling, in_model}
 use Rattle.demands.proofs.Refused.{fill_refused_within}
 use Rattle.demands.proofs.UnfitTables.{unfit_not_fit, not_fit_unfit}
+use Rattle.models.specs.declared.Judgment.{Judgment}
 
 -- ---- running
 

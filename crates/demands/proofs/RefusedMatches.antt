@@ -3,12 +3,12 @@ use Prim.Native.Nat.{ℕ}
 use mathlib.Core.Path.{◌≡◌, ap}
 use mathlib.Core.List.{List}
 use Rattle.reading.specs.Rule.{Bytes}
-use Rattle.reading.specs.File.{accepted}
+use Rattle.reading.specs.File.{accepted, refused}
 use Rattle.models.specs.Phone.{Phone, PhoneWithinLimits, encode_phone, phone_of}
 use Rattle.models.specs.Faults.{Fault as ModelFault}
 use Rattle.models.specs.Judging.{stored, model_reading_of}
 use Rattle.models.specs.declared.PhoneModel.{PhoneModel}
-use Rattle.models.specs.Pairs.{matching_of, MatchedAs}
+use Rattle.models.specs.Pairs.{matching_of, MatchedAs, MatchAnswer, refused_first, refused_second, refused_pairs}
 use Rattle.models.specs.MatchPromises.{RefusedInOrder}
 use Rattle.models.proofs.Files.Encoding.{accepts_phones, answers_accepted}
 use Rattle.models.proofs.Files.FileFaults.{refuses_at_the_fault}

@@ -18,6 +18,7 @@ use Rattle.models.proofs.Judgments.Accepting.{counted_acceptable, acceptable_cou
 use Rattle.demands.specs.Outcomes.{counting, explaining, RefusedIff}
 use Rattle.demands.specs.Refusals.{ExplainRefused, in_counting, violating_scan}
 use Rattle.demands.proofs.Refused.{count_refused}
+use Rattle.std.specs.Prelude.{Option, Some, None}
 
 refusal_same : {number place number' place' : ℕ} → refused number place ≡ refused number' place' → (number ≡ number') × (place ≡ place')
 refusal_same e = (cc, cc)

@@ -3,7 +3,7 @@
 -- `encode_phone y` of a model within them (`reads_rule`, `reads_model`).
 use Rattle.std.specs.Prelude.{ℕ, min, ◌≤◌, ◌≡◌, ◌↔◌, ◌⊎◌, List, length}
 use Rattle.reading.specs.Rule.{Rule, RuleWithinLimits, encode, Bytes}
-use Rattle.reading.specs.File.{accepted, rule_of}
+use Rattle.reading.specs.File.{accepted, rule_of, Outcome, refused}
 use Rattle.reading.specs.Faults.{Fault as RuleFault}
 use Rattle.reading.specs.Numbered.{numbered, reading_of}
 use Rattle.synthesis.specs.Monitor.{mark, most, Monitors, lookup}
@@ -28,13 +28,15 @@ use Rattle.models.specs.Phone.{Phone, model_of, PhoneWithinLimits, encode_phone,
 use Rattle.models.specs.Faults.{Fault as ModelFault}
 use Rattle.models.specs.Judging.{stored, model_reading_of, JudgedAs}
 use Rattle.models.specs.Promises.{EnforcesRule, Acceptable, FillsWithRoom, JudgedExactly}
-use Rattle.models.specs.Pairs.{most_pairs, matching_of, MatchedAs}
+use Rattle.models.specs.Pairs.{most_pairs, matching_of, MatchedAs, MatchAnswer, refused_first, refused_second, refused_pairs}
 use Rattle.models.specs.MatchPromises.{MatchesExactly, AcceptsPairs, RepeatsHarmless, MatchedAlike, ModelsJudgedAlike, SomeListMatches}
 use Rattle.demands.specs.Outcomes.{counting, explaining, filling, table_filled, counting_within, filling_within, table_filled_within, preview_counting, preview_filling, preview_table_filled}
 use Rattle.demands.specs.Outcomes.{short_counting, short_filling, short_table_filled, running, judging, table_after_judging, judging_within, table_after_judging_within, RefusedIff, IfRefused}
 use Rattle.demands.specs.Outcomes.{coming_on, going_off, running_on_duty}
 use Rattle.demands.specs.Refusals.{DeskRefused, WithinRefused, PageRefused, ExplainRefused, FillRefused, RunRefused, JudgeRefused}
 use Rattle.demands.specs.Refusals.{ComeRefused, GoRefused, DutyRunRefused, SecondRefused, PairsRefused}
+use Rattle.models.specs.declared.Judgment.{Judgment}
+use Rattle.models.specs.declared.Judgment.TheVariants.{Meets, Breaks}
 
 -- ---- demand 1
 

@@ -18,6 +18,7 @@ use Rattle.models.specs.Phone.{Phone, PhoneWithinLimits, encode_phone}
 use Rattle.models.specs.Faults.{Fault as ModelFault}
 use Rattle.models.specs.PairFaults.{PairFault}
 use Rattle.models.specs.Promises.{Acceptable}
+use Rattle.reading.specs.File.{Outcome, accepted}
 
 -- counting the equations of a rule file, where a rule with over `limit` of them is refused with the number `beyond`
 pub data CountRefused (limit beyond : ℕ) (s : List ℕ) : (number place : ℕ) → Type 1 where

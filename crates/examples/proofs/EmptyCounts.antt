@@ -5,7 +5,7 @@ use mathlib.Core.Path.{◌≡◌, refl, ◌∙◌}
 use mathlib.Core.Bool.{Bool, true, false, cond, ◌&&◌}
 use mathlib.Core.List.{List, [], ◌∷◌}
 use native.Mathlib.Omega.{arith}
-use Rattle.reading.specs.File.{accepted, records_at, formula_at, formula_of, rule_of}
+use Rattle.reading.specs.File.{accepted, records_at, formula_at, formula_of, rule_of, refused}
 use Rattle.synthesis.specs.Monitor.{Answer}
 use Rattle.synthesis.specs.NodeSet.{has, empty_set}
 use Rattle.synthesis.specs.Violation.{covered_by}

@@ -9,7 +9,7 @@ use native.Mathlib.Decide.{dec_le}
 use native.Mathlib.Omega.{arith}
 use lib.ListN.{length, get_or}
 use Rattle.reading.specs.Rule.{Rule}
-use Rattle.reading.specs.File.{accepted, rule_of}
+use Rattle.reading.specs.File.{accepted, rule_of, refused}
 use Rattle.reading.proofs.Basics.AllLaws.{all_at}
 use Rattle.synthesis.specs.Monitor.{most, Answer, next}
 use Rattle.synthesis.specs.Answering.{first_of, answer_of, unsatisfiable}

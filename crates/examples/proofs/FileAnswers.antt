@@ -7,7 +7,7 @@ use mathlib.Core.List.{List}
 use native.Mathlib.Omega.{arith}
 use lib.ListN.{length, get_or}
 use Rattle.reading.specs.Rule.{Rule, Bytes}
-use Rattle.reading.specs.File.{accepted, refused, rule_of}
+use Rattle.reading.specs.File.{accepted, refused, rule_of, Outcome}
 use Rattle.synthesis.specs.Answering.{answer_of, unsatisfiable}
 use Rattle.synthesis.specs.Monitor.{mark, most, row_of}
 use Rattle.synthesis.specs.Table.{entries_of}

@@ -10,7 +10,7 @@ use Rattle.reading.specs.Rule.{All}
 use Rattle.reading.specs.File.{accepted, refused, records_at}
 use Rattle.enforcement.specs.Model.{Label, silent, code, Bisimulation}
 use Rattle.models.specs.Phone.{Phone, label_of, StepIn, model_of, states_of, phone_of}
-use Rattle.models.specs.Pairs.{Pair, pairs_at, pairs_of, Listed, Matches, matching_of}
+use Rattle.models.specs.Pairs.{Pair, pairs_at, pairs_of, Listed, Matches, matching_of, said, refused_pairs}
 use Rattle.models.specs.declared.Step.{Step}
 use Rattle.examples.specs.ModelExamples.{step, still_phone}
 use Rattle.examples.specs.PatternMeaning.{repeating_phone}

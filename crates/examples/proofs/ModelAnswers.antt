@@ -14,6 +14,7 @@ use Rattle.models.proofs.Judgments.JudgingOrder.{judging_accepts}
 use Rattle.examples.specs.Examples.{ReadAs}
 use Rattle.examples.specs.ModelExamples.{JudgesIn, Judges}
 use Rattle.examples.proofs.FileAnswers.{reads_filling}
+use Rattle.models.specs.declared.Judgment.TheVariants.{Meets, Breaks}
 
 -- a refusal is the only answer
 pub judges_refused : (s : List ℕ) (capacity : ℕ) (f : List ℕ) (number place : ℕ) → judging_of most s capacity f ≡ refused number place

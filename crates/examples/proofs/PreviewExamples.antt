@@ -17,6 +17,7 @@ use Rattle.examples.proofs.NumberPool.{number_pool, pool_table}
 use Rattle.examples.proofs.RefusalExamples.{refusal_examples}
 use Rattle.examples.proofs.TableExamples.{needs}
 use Rattle.examples.proofs.FamilyExamples.{family_examples}
+use Rattle.reading.specs.File.{Outcome, accepted, refused}
 
 module _ (s : List ℕ) where
   shown : (n : ℕ) → counted_of (synthesis_of most s) ≡ accepted n → n ≤ preview_limit → ShownOnPage s n

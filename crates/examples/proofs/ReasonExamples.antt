@@ -4,7 +4,7 @@ use mathlib.Core.Path.{◌≡◌, refl, ap}
 use mathlib.Core.List.{List, [], ◌∷◌}
 use native.Mathlib.Omega.{arith}
 use Rattle.reading.specs.Pattern.{bit, covers, least}
-use Rattle.reading.specs.File.{records_at, formula_at, formula_of, rule_of}
+use Rattle.reading.specs.File.{records_at, formula_at, formula_of, rule_of, accepted}
 use Rattle.reading.specs.Nodes.{whole, first, second, after, body}
 use Rattle.synthesis.specs.Monitor.{most}
 use Rattle.synthesis.specs.Answering.{first_of, answer_of, unsatisfiable}

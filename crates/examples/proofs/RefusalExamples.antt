@@ -5,7 +5,7 @@ use mathlib.Core.List.{List, [], ◌∷◌}
 use native.Mathlib.Omega.{arith}
 use Rattle.reading.specs.Pattern.{bit, covers}
 use Rattle.reading.specs.Rule.{necessity, max, variable, Rule}
-use Rattle.reading.specs.File.{refused, records_at, formula_at, formula_of, rule_of}
+use Rattle.reading.specs.File.{refused, records_at, formula_at, formula_of, rule_of, accepted}
 use Rattle.synthesis.specs.Monitor.{most}
 use Rattle.synthesis.specs.Answering.{first_of, answer_of, unsatisfiable}
 use Rattle.synthesis.specs.Search.{explored, found}

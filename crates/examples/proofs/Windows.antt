@@ -12,7 +12,7 @@ use lib.Bits.{and_zero_r}
 use lib.Dec.{eqb}
 use borrow.Author.Tests.{eqb-true}
 use Rattle.reading.specs.Pattern.{bit, covers, least, every}
-use Rattle.reading.specs.File.{records_at, formula_at, formula_of, rule_of}
+use Rattle.reading.specs.File.{records_at, formula_at, formula_of, rule_of, accepted, refused}
 use Rattle.reading.proofs.Measures.BoundedTests.{every_is}
 use Rattle.synthesis.specs.Monitor.{next}
 use Rattle.synthesis.specs.Violation.{covered_by}

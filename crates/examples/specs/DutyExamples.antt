@@ -14,6 +14,7 @@ use Rattle.running.specs.SpellPromises.{OrderlyDay}
 use Rattle.running.specs.declared.OnDuty.{OnDuty}
 use Rattle.running.specs.declared.Duty.{Duty}
 use Rattle.examples.specs.Examples.{pattern, rule}
+use Rattle.reading.specs.File.{Outcome, accepted, refused}
 
 -- ---- the rules
 

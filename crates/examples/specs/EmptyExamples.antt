@@ -1,9 +1,9 @@
 -- Patterns with nothing in them, by rules that aren't in the paper: what is measured, read and listed of them; that a necessity with one is a node like any
 -- other, also where equations are counted; and what two rules that differ only after one have in common, and what they don't.
-use Rattle.std.specs.Prelude.{ℕ, zero, suc, ◌≤◌, ◌≡◌, List, [], ◌∷◌, ◌++◌, map, length}
+use Rattle.std.specs.Prelude.{ℕ, zero, suc, ◌≤◌, ◌≡◌, List, [], ◌∷◌, ◌++◌, map, length, Some}
 use Rattle.reading.specs.Pattern.{extent_of}
 use Rattle.reading.specs.Rule.{Formula, truth, falsity, both, necessity, max, variable, Rule}
-use Rattle.reading.specs.File.{accepted, rule_of}
+use Rattle.reading.specs.File.{accepted, rule_of, refused}
 use Rattle.reading.specs.declared.Pattern.{Pattern}
 use Rattle.reading.specs.declared.Lowest.TheVariants.{Absent}
 use Rattle.synthesis.specs.Violation.{ViolatesRule}

@@ -7,6 +7,7 @@ use Rattle.synthesis.specs.Monitor.{mark, most, dropped, next, row_of, lookup}
 use Rattle.synthesis.specs.Building.{synthesis_of, counted_of, table_left}
 use Rattle.examples.specs.Examples.{pattern, rule, ReadAs, pool_file}
 use Rattle.examples.specs.RefusalExamples.{times}
+use Rattle.reading.specs.File.{accepted, refused}
 
 -- n times "after a code of pattern 0", then tt
 unfoldable pub chain : (n : ℕ) → Formula

@@ -4,7 +4,7 @@ use Rattle.std.specs.Prelude.{ℕ, ◌≡◌, ◌↔◌, List, [], ◌∷◌}
 use Rattle.reading.specs.File.{accepted}
 use Rattle.enforcement.specs.Model.{Bisimulation, Bisimilar}
 use Rattle.models.specs.Phone.{Phone, model_of, phone_of}
-use Rattle.models.specs.Pairs.{Pair, Listed, Matches, matching, matching_of, MatchedAs}
+use Rattle.models.specs.Pairs.{Pair, Listed, Matches, matching, matching_of, MatchedAs, MatchAnswer, said, refused_first, refused_second, refused_pairs}
 use Rattle.examples.specs.ModelExamples.{step}
 use Rattle.examples.specs.PatternMeaning.{repeating_phone}
 use Rattle.examples.specs.RoundExample.{repeating_file}

@@ -2,7 +2,7 @@
 -- tells some definitions from others.
 use Rattle.std.specs.Prelude.{ℕ, suc, ◌≤◌, ◌≡◌, ◌↔◌, List, [], ◌∷◌, length}
 use Rattle.reading.specs.Rule.{falsity, necessity, Rule}
-use Rattle.reading.specs.File.{accepted}
+use Rattle.reading.specs.File.{accepted, Outcome}
 use Rattle.synthesis.specs.Violation.{ViolatesRule}
 use Rattle.synthesis.specs.Monitor.{mark, most, lookup}
 use Rattle.synthesis.specs.Building.{table_left}
@@ -11,6 +11,8 @@ use Rattle.models.specs.Phone.{Phone, model_of, phone_of}
 use Rattle.models.specs.Judging.{judging_of, JudgedAs}
 use Rattle.models.specs.declared.Step.{Step}
 use Rattle.examples.specs.Examples.{pattern, rule, ReadAs, pool_file, pool_rule}
+use Rattle.models.specs.declared.Judgment.{Judgment}
+use Rattle.models.specs.declared.Judgment.TheVariants.{Meets, Breaks}
 
 -- label 256 is silent
 abbrev pub step : (from label to : ℕ) → Step

@@ -7,6 +7,7 @@ use Rattle.synthesis.specs.Building.{table_left}
 use Rattle.listing.specs.Text.{text}
 use Rattle.examples.specs.Examples.{pattern, rule, ReadAs, pool_listing}
 use Rattle.examples.specs.NumberingExamples.{Numbers}
+use Rattle.reading.specs.File.{accepted}
 
 -- ---- the variable of either max
 

@@ -7,6 +7,7 @@ use Rattle.synthesis.specs.Building.{equations_of, table_left}
 use Rattle.listing.specs.Text.{text}
 use Rattle.listing.specs.Lines.{listing}
 use Rattle.examples.specs.Examples.{pattern, rule, ReadAs}
+use Rattle.reading.specs.File.{accepted}
 
 -- a file's rule, its equations as sets of nodes in their order, and what is listed of every table that filling leaves
 pub record Numbers (s : List ℕ) (r : Rule) (sets lines : List ℕ) : Type 0 where

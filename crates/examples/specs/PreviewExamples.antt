@@ -5,6 +5,7 @@ use Rattle.synthesis.specs.Building.{synthesis_of, filling_of, counted_of, table
 use Rattle.examples.specs.Examples.{pool_file, PoolTable}
 use Rattle.examples.specs.TableExamples.{Needs}
 use Rattle.examples.specs.FamilyExamples.{chain_file, window_file}
+use Rattle.reading.specs.File.{accepted, refused}
 
 -- The page and the desk count n equations, and the page fills a table that has the entries for them. With fewer it is 10 at 0.
 pub record ShownOnPage (s : List ℕ) (n : ℕ) : Type 0 where

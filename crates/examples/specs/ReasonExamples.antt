@@ -1,10 +1,11 @@
 -- Why scans are dropped: by the number-pool rule, by a rule whose lowest ff node comes in through a variable, and by one of whose two ff nodes each scan
 -- opens at most one.
-use Rattle.std.specs.Prelude.{ℕ, ◌≡◌, List, [], ◌∷◌}
+use Rattle.std.specs.Prelude.{ℕ, ◌≡◌, List, [], ◌∷◌, Option, Some, None}
 use Rattle.reading.specs.Rule.{truth, falsity, both, necessity, max, variable, Rule}
 use Rattle.synthesis.specs.Monitor.{most}
 use Rattle.synthesis.specs.Reason.{ViolatesAt, only_falsity, explanation_of, reason_of}
 use Rattle.examples.specs.Examples.{pattern, rule, ReadAs, pool_file, pool_rule}
+use Rattle.reading.specs.File.{Outcome, accepted, refused}
 
 -- what is said of a scan after others, under a rule file
 abbrev pub reason : (s w : List ℕ) → (c : ℕ) → Outcome (Option ℕ)

@@ -2,7 +2,7 @@
 -- apply at a record, the earlier one in the table is due. Those of the paper's small files stand in specs/Examples.antt.
 use Rattle.std.specs.Prelude.{ℕ, zero, suc, ◌≡◌, List, [], ◌∷◌, ◌++◌}
 use Rattle.reading.specs.Rule.{necessity, max, variable}
-use Rattle.reading.specs.File.{refused}
+use Rattle.reading.specs.File.{refused, accepted}
 use Rattle.models.specs.Phone.{phone_of}
 use Rattle.examples.specs.Examples.{pattern, rule, Refuses, ReadAs}
 use Rattle.examples.specs.ModelExamples.{JudgesPool}

@@ -1,9 +1,9 @@
 -- Slots that go round, by the rule "after an issue of slots 30 to 2, ff". The paper has no such rule. What it means, what is dropped under it, for what
 -- reason, and which models meet it: at 31, a slot from first on, at 2, a slot up to last, and at 29, which is neither.
-use Rattle.std.specs.Prelude.{ℕ, suc, ◌≤◌, ◌≡◌, List, [], ◌∷◌, ◌++◌, length}
+use Rattle.std.specs.Prelude.{ℕ, suc, ◌≤◌, ◌≡◌, List, [], ◌∷◌, ◌++◌, length, Some, None}
 use Rattle.reading.specs.Pattern.{covers, extent_of}
 use Rattle.reading.specs.Rule.{Rule}
-use Rattle.reading.specs.File.{accepted}
+use Rattle.reading.specs.File.{accepted, Outcome}
 use Rattle.synthesis.specs.Monitor.{mark, most}
 use Rattle.synthesis.specs.Violation.{ViolatesRule}
 use Rattle.synthesis.specs.Building.{table_left}
@@ -16,6 +16,8 @@ use Rattle.examples.specs.NumberingExamples.{Numbers}
 use Rattle.examples.specs.PatternMeaning.{never, repeating_phone}
 use Rattle.examples.specs.ReasonExamples.{reason}
 use Rattle.examples.specs.ModelExamples.{Judges}
+use Rattle.models.specs.declared.Judgment.{Judgment}
+use Rattle.models.specs.declared.Judgment.TheVariants.{Meets, Breaks}
 
 -- ---- patterns
 

@@ -1,5 +1,5 @@
 -- The short table, by rules that aren't in the paper and by the number-pool rule, which has no two equations that drop alike.
-use Rattle.std.specs.Prelude.{ℕ, ◌*◌, ◌≤◌, ◌≡◌, List, [], ◌∷◌, ◌++◌, map, length}
+use Rattle.std.specs.Prelude.{ℕ, ◌*◌, ◌≤◌, ◌≡◌, List, [], ◌∷◌, ◌++◌, map, length, Some}
 use Rattle.reading.specs.Pattern.{extent_of}
 use Rattle.reading.specs.Rule.{truth, falsity, both, necessity, Rule}
 use Rattle.synthesis.specs.Violation.{ViolatesRule}
@@ -10,6 +10,7 @@ use Rattle.listing.specs.Text.{text}
 use Rattle.listing.specs.Lines.{listing}
 use Rattle.examples.specs.Examples.{pattern, rule, ReadAs, pool_file, pool_rule, pool_listing}
 use Rattle.examples.specs.ReasonExamples.{reason}
+use Rattle.reading.specs.File.{accepted}
 
 -- what the filling of the short table leaves
 abbrev pub short_table : (s table : List ℕ) → List ℕ

@@ -1,7 +1,7 @@
 -- Where refusal 10 stands: after all that is wrong with a rule and before all that is wrong with a model, and for the long and the short table by
 -- the count of each. Shown by files of the paper, and by one whose two tables differ.
 use Rattle.std.specs.Prelude.{ℕ, ◌<◌, ◌≡◌, List, [], ◌∷◌}
-use Rattle.reading.specs.File.{Outcome}
+use Rattle.reading.specs.File.{Outcome, accepted, refused}
 use Rattle.synthesis.specs.Monitor.{most}
 use Rattle.synthesis.specs.Building.{Synthesis, filling_of, counted_of, short_filling_of}
 use Rattle.examples.specs.Examples.{pool_file}

@@ -6,6 +6,7 @@ use Rattle.reading.specs.declared.Extent.{Extent}
 use Rattle.synthesis.specs.Monitor.{mark, Answer, cases, row_of, meaning}
 use Rattle.listing.specs.Text.{text, decimal}
 use Rattle.listing.specs.Runs.{CodeRun, runs}
+use Rattle.reading.specs.File.{refused}
 
 -- ---- one line
 

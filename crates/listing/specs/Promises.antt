@@ -13,6 +13,7 @@ use Rattle.listing.specs.Text.{text, digit, decimal}
 use Rattle.listing.specs.Runs.{CodeRun, runs, RunTo}
 use Rattle.listing.specs.Lines.{line, pattern_line, listing}
 use Rattle.listing.specs.Positions.{extents_of, listing_line_at, lines_from}
+use Rattle.reading.specs.File.{accepted}
 
 -- 1. Read line by line from position 0 on, up to an empty line, the text is the listing; so many lines are enough. A rule is any value
 -- whose array has 32 extents;

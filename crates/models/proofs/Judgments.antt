@@ -1,4 +1,5 @@
 -- What is said of a rule and a model, and what the table of a rule enforces.
+use Rattle.models.specs.declared.Judgment.{Judgment}
 pub mod TablesEnforce
 pub mod Accepting
 pub mod JudgingOrder

@@ -8,6 +8,8 @@ use Rattle.synthesis.specs.Building.{Synthesis, filling_of}
 use Rattle.enforcement.specs.Model.{SatisfiesDecided}
 use Rattle.models.specs.Phone.{Phone, no_step, model_of, phone_of}
 use Rattle.models.specs.declared.PhoneModel.{PhoneModel}
+use Rattle.models.specs.declared.Judgment.{Judgment}
+use Rattle.models.specs.declared.Judgment.TheVariants.{Meets, Breaks}
 
 -- ---- reading
 

@@ -1,11 +1,12 @@
 -- What the crate's own enums stand for. No public contract cites these.
 use Rattle.std.specs.Prelude.{ℕ}
-use Rattle.reading.specs.File.{Outcome, by_case}
+use Rattle.reading.specs.File.{Outcome, by_case, accepted, refused}
 use Rattle.models.specs.declared.Step.{Step}
 use Rattle.models.specs.declared.records.StatesRead.{StatesRead}
 use Rattle.models.specs.declared.records.StatesRead as StatesRead'
 use Rattle.models.specs.declared.records.StepRead.{StepRead}
 use Rattle.models.specs.declared.records.StepRead as StepRead'
+use Rattle.models.specs.declared.Judgment.{Judgment}
 
 -- ---- the case of each outcome; a refusal has the paper's number and place
 

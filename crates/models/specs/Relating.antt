@@ -4,7 +4,7 @@ use Rattle.std.specs.Prelude.{ℕ, ◌<◌, ◌≡◌, ◌↔◌, ◌⊎◌, Lis
 use Rattle.reading.specs.File.{Outcome, accepted, refused, by_case}
 use Rattle.synthesis.specs.NodeSet.{Has}
 use Rattle.models.specs.Phone.{no_step, WellFormedStep}
-use Rattle.models.specs.Pairs.{Pair, Listed}
+use Rattle.models.specs.Pairs.{Pair, Listed, MatchAnswer, said, refused_first, refused_second, refused_pairs}
 use Rattle.models.specs.declared.Step.{Step}
 use Rattle.models.specs.declared.PhoneModel.{PhoneModel}
 use Rattle.models.specs.declared.pairing.PairRead.{PairRead}

@@ -9,7 +9,7 @@ use native.Mathlib.Omega.{arith}
 use lib.Dec.{eqb}
 use lib.ListN.{length, drop}
 use lib.Seq.{take-append_seam, take_at}
-use Rattle.reading.specs.File.{accepted, refused}
+use Rattle.reading.specs.File.{accepted, refused, Outcome}
 use Rattle.synthesis.specs.Monitor.{kept, verdicts, ended}
 use Rattle.synthesis.proofs.Monitors.Runs.{verdicts_length}
 use Rattle.running.specs.Lists.{filter}

@@ -15,6 +15,7 @@ use Rattle.running.proofs.Conservation.{run_conserved, refused_conserved}
 use Rattle.running.proofs.Leaving.{run_fronts}
 use Rattle.running.proofs.SoundStates.{duty_of-rules}
 use Rattle.running.proofs.DutyRuns.{duty_run_ways, duty_run_fit, duty_run_unfit, no_short, fit_after}
+use Rattle.reading.specs.File.{accepted, refused}
 
 -- ---- two calls
 

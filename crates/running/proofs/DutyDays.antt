@@ -23,6 +23,7 @@ use Rattle.running.proofs.DutyRuns.{duty_run_ways, fit_after}
 use Rattle.running.proofs.Alongside.{Along, none, along_same, along_change, along_last, along_filter}
 use Rattle.running.proofs.Standing.{Alike, run_along}
 use Rattle.running.proofs.Days.{ran_on, came_on, went_off, Kept, kept_by_event}
+use Rattle.reading.specs.File.{Outcome, accepted, refused}
 
 -- ---- the rules of a desk along its spells
 

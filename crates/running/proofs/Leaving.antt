@@ -7,7 +7,7 @@ use mathlib.Core.List.{List}
 use native.Mathlib.Omega.{arith}
 use lib.ListN.{length, drop, length-append, length-drop}
 use lib.Seq.{take-append_seam, drop-append_seam}
-use Rattle.reading.specs.File.{accepted}
+use Rattle.reading.specs.File.{accepted, refused}
 use Rattle.reading.proofs.Basics.AllLaws.{all-get_or}
 use Rattle.synthesis.specs.Monitor.{Answer, kept, verdicts}
 use Rattle.synthesis.proofs.Monitors.Runs.{verdicts_length}

@@ -7,7 +7,7 @@ use mathlib.Core.List.{List, [], ◌∷◌, ◌++◌}
 use native.Mathlib.Omega.{arith}
 use lib.ListN.{length, get_or, take, drop, take-append-drop, length-take}
 use Rattle.reading.specs.Rule.{Rule, Bytes}
-use Rattle.reading.specs.File.{accepted, rule_of}
+use Rattle.reading.specs.File.{accepted, rule_of, Outcome, refused}
 use Rattle.synthesis.specs.Violation.{ViolatesRule}
 use Rattle.synthesis.specs.Monitor.{ended, lookup}
 use Rattle.synthesis.specs.Building.{synthesis_of, counted_of}
@@ -28,6 +28,7 @@ use Rattle.running.specs.Promises.{Sifted, reason_after, Reasoned, ReasonsOfRuns
 use Rattle.running.proofs.WithVerdicts.{with_append}
 use Rattle.running.proofs.Histories.{OneRun, one_run}
 use Rattle.running.proofs.DemandTwo.{state_renames, drops_exactly, short_drops_exactly}
+use Rattle.std.specs.Prelude.{Option, Some, None}
 
 -- ---- what was kept
 

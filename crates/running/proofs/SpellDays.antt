@@ -23,6 +23,7 @@ use Rattle.running.proofs.Standing.{Stands, Lent, stands_first, stands_safe, sta
 use Rattle.running.proofs.DutyDrops.{run_drops_by_spells}
 use Rattle.running.proofs.Days.{ran_on, Kept, kept_after, fit_not_refused}
 use Rattle.running.proofs.DutyDays.{AtDesk, nobody_at, ran_at, came_at, went_at, served}
+use Rattle.reading.specs.File.{accepted, refused}
 
 -- the scans kept in a spell don't violate its rule
 abbrev pub Safe : Spell → Type 0

@@ -1,7 +1,7 @@
 -- Calls of a run one after the other, each with the state that the last one handed back, and what their caller then has.
 use Rattle.std.specs.Prelude.{ℕ, ◌*◌, ◌≡◌, ◌⊎◌, cond, List, [], ◌∷◌, ◌++◌, eqb, length, take}
 use Rattle.reading.specs.Rule.{Bytes}
-use Rattle.reading.specs.File.{Outcome, refused}
+use Rattle.reading.specs.File.{Outcome, refused, accepted}
 use Rattle.running.specs.Running.{start, Run, run_of, result_of, output_after, verdicts_after}
 use Rattle.running.specs.declared.State.{State}
 

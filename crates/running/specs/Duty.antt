@@ -5,10 +5,11 @@ use Rattle.reading.specs.File.{Outcome, accepted, refused, refuse}
 use Rattle.reading.specs.Numbered.{padded}
 use Rattle.synthesis.specs.Monitor.{Answer, dropped, next, cases, lookup}
 use Rattle.running.specs.Lists.{any, all, filter}
-use Rattle.running.specs.Running.{start, moved, fits, has_room, RunOver, run_by, checked_of, occurrences}
+use Rattle.running.specs.Running.{start, moved, fits, has_room, RunOver, run_by, checked_of, occurrences, Returned}
 use Rattle.running.specs.declared.OnDuty.{OnDuty}
 use Rattle.running.specs.declared.Duty.{Duty}
 use Rattle.running.specs.declared.Changed.{Changed}
+use Rattle.reading.specs.Refusals.{as_outcome}
 
 -- ---- who is on duty
 

@@ -2,7 +2,7 @@
 -- limit on equations and the mark for dropped are any; with `most` and `mark` these are the terms of the contracts of `come_on`, `go_off`,
 -- `check_on_duty` and `run_on_duty`.
 use Rattle.std.specs.Prelude.{ℕ, suc, ◌+◌, ◌*◌, ◌≤◌, ◌<◌, ◌≡◌, ◌↔◌, ◌⊎◌, true, List, [], ◌∷◌, ◌++◌, length, get_or, drop, replicate}
-use Rattle.reading.specs.File.{Outcome, accepted}
+use Rattle.reading.specs.File.{Outcome, accepted, refused}
 use Rattle.synthesis.specs.Joined.{Some}
 use Rattle.synthesis.specs.Monitor.{dropped, next, meaning}
 use Rattle.synthesis.specs.Table.{WellFormedTable}

@@ -6,6 +6,7 @@ use Rattle.synthesis.specs.Monitor.{Answer, dropped, next, cases, kept, verdicts
 use Rattle.running.specs.Lists.{all}
 use Rattle.running.specs.declared.State.{State}
 use Rattle.running.specs.declared.RunResult.{RunResult}
+use Rattle.reading.specs.Refusals.{as_outcome}
 
 -- ---- one scan
 

@@ -3,7 +3,7 @@
 -- and the mark for dropped are any.
 use Rattle.std.specs.Prelude.{ℕ, ◌+◌, ◌*◌, ◌≤◌, ◌<◌, ◌≡◌, ◌↔◌, ◌⊎◌, List, [], ◌∷◌, ◌++◌, map, length, get_or, take, drop}
 use Rattle.reading.specs.Rule.{Rule, All, WellFormedRule, Bytes}
-use Rattle.reading.specs.File.{Outcome}
+use Rattle.reading.specs.File.{Outcome, accepted, refused}
 use Rattle.synthesis.specs.Violation.{ViolatesRule}
 use Rattle.synthesis.specs.Joined.{joined, Some}
 use Rattle.synthesis.specs.Monitor.{ended, Monitors, lookup}

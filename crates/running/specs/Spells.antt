@@ -2,7 +2,7 @@
 -- on duty the scans kept in it. All of it is told from what the calls are handed and what they hand back; no equation is looked at.
 use Rattle.std.specs.Prelude.{ℕ, ◌*◌, ◌≡◌, ◌⊎◌, not, List, [], ◌∷◌, ◌++◌, map, eqb, length, take, drop}
 use Rattle.reading.specs.Rule.{Rule, All, Bytes}
-use Rattle.reading.specs.File.{Outcome}
+use Rattle.reading.specs.File.{Outcome, accepted, refused}
 use Rattle.synthesis.specs.Monitor.{Monitors, lookup}
 use Rattle.running.specs.Lists.{filter}
 use Rattle.running.specs.Running.{RunOver, output_after, verdicts_after}

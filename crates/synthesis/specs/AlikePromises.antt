@@ -1,8 +1,8 @@
 -- What this crate promises of patterns with nothing in them, as statements over the definitions; proofs/ has a theorem of each of these types. The limit on
 -- equations and the mark for dropped are any, the limit up to the mark.
-use Rattle.std.specs.Prelude.{ℕ, suc, ◌+◌, ◌<◌, ◌≡◌, ◌↔◌, List}
+use Rattle.std.specs.Prelude.{ℕ, suc, ◌+◌, ◌<◌, ◌≡◌, ◌↔◌, List, Option, Some, None}
 use Rattle.reading.specs.Rule.{Formula, necessity, size, Rule, Bytes}
-use Rattle.reading.specs.File.{accepted, rule_of}
+use Rattle.reading.specs.File.{accepted, rule_of, Outcome, refused}
 use Rattle.reading.specs.Nodes.{EnclosingMax, Node}
 use Rattle.synthesis.specs.Violation.{covered_by, ViolatesRule}
 use Rattle.synthesis.specs.Alike.{CoversNone, RulesAlike, DifferAfterEmpty, AfterEmpty}

@@ -1,5 +1,5 @@
 -- What the crate's own functions say of the plan for a table, and of what is read off it.
-use Rattle.std.specs.Prelude.{ℕ, ◌≤◌, ◌<◌, ◌≡◌, List, length, take}
+use Rattle.std.specs.Prelude.{ℕ, ◌≤◌, ◌<◌, ◌≡◌, List, length, take, Option}
 use Rattle.reading.specs.File.{Outcome, accepted, refused, by_case}
 use Rattle.synthesis.specs.Monitor.{mark, most, lookup}
 use Rattle.synthesis.specs.Answering.{answer_of}

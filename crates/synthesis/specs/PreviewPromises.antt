@@ -2,7 +2,7 @@
 -- are in the terms of the contracts of `count_preview`, `fill_preview`, `count` and `fill`; those that name the desk rest on `LimitsAgree` of specs/LimitPromises.antt.
 use Rattle.std.specs.Prelude.{ℕ, ◌*◌, ◌≤◌, ◌<◌, ◌≡◌, ◌↔◌, List, [], length}
 use Rattle.reading.specs.Rule.{Rule, Bytes}
-use Rattle.reading.specs.File.{Outcome, accepted, rule_of}
+use Rattle.reading.specs.File.{Outcome, accepted, rule_of, refused}
 use Rattle.synthesis.specs.Violation.{ViolatesRule}
 use Rattle.synthesis.specs.Monitor.{mark, most, row_of}
 use Rattle.synthesis.specs.Building.{Synthesis, synthesis_of, filling_of, counted_of, table_after, table_left, Fills}

@@ -1,6 +1,6 @@
 -- Why a scan is dropped: the ff nodes at which a list of codes violates a rule, and what the desk is told. Nodes are numbered from 0 in reading order, and
 -- patterns aren't nodes. The limit on equations is any; the paper's is `most`.
-use Rattle.std.specs.Prelude.{ℕ, suc, ◌+◌, ◌≤◌, ◌<◌, ◌≡◌, true, cond, List, [], ◌∷◌, eqb, length, get_or, take}
+use Rattle.std.specs.Prelude.{ℕ, suc, ◌+◌, ◌≤◌, ◌<◌, ◌≡◌, true, cond, List, [], ◌∷◌, eqb, length, get_or, take, Option, Some, None}
 use Rattle.reading.specs.Pattern.{least}
 use Rattle.reading.specs.Rule.{Formula, truth, falsity, both, necessity, max, variable, size, Rule}
 use Rattle.reading.specs.File.{Outcome, accepted, refused, and_then, by_case}

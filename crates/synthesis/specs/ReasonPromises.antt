@@ -1,8 +1,8 @@
 -- What this crate promises of reasons, as statements over the definitions. The limit on equations is any; with `most` these are the terms of the contract
 -- of `explain`.
-use Rattle.std.specs.Prelude.{ℕ, ◌<◌, ◌≡◌, ◌↔◌, ◌⊎◌, List, [], ◌∷◌, ◌++◌, length}
+use Rattle.std.specs.Prelude.{ℕ, ◌<◌, ◌≡◌, ◌↔◌, ◌⊎◌, List, [], ◌∷◌, ◌++◌, length, Option, Some, None}
 use Rattle.reading.specs.Rule.{size, WellFormed, Rule, Bytes}
-use Rattle.reading.specs.File.{accepted, rule_of}
+use Rattle.reading.specs.File.{accepted, rule_of, Outcome, refused}
 use Rattle.synthesis.specs.Violation.{ViolatesRule}
 use Rattle.synthesis.specs.Monitor.{ended, lookup}
 use Rattle.synthesis.specs.Opening.{IsFalsity}

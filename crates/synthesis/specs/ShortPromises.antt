@@ -3,7 +3,7 @@
 -- `count_short` and `fill_short`.
 use Rattle.std.specs.Prelude.{ℕ, ◌≤◌, ◌<◌, ◌≡◌, ◌↔◌, List, length}
 use Rattle.reading.specs.Rule.{Rule, Bytes}
-use Rattle.reading.specs.File.{accepted, rule_of}
+use Rattle.reading.specs.File.{accepted, rule_of, refused}
 use Rattle.synthesis.specs.Monitor.{kept, verdicts, Monitors, row_of, lookup}
 use Rattle.synthesis.specs.Table.{WellFormedTable}
 use Rattle.synthesis.specs.Merging.{DropAlike, tabulate}

@@ -10,7 +10,7 @@ use native.Mathlib.Omega.{arith}
 use lib.Dec.{ltb}
 use lib.ListN.{length}
 use Rattle.reading.specs.Rule.{Rule, Bytes}
-use Rattle.reading.specs.File.{Outcome, accepted, refuse, rule_of}
+use Rattle.reading.specs.File.{Outcome, accepted, refuse, rule_of, refused}
 use Rattle.reading.proofs.Accepting.Accepted.{accepts_encodings}
 use Rattle.synthesis.specs.Violation.{ViolatesRule}
 use Rattle.synthesis.specs.Answering.{unsatisfiable}

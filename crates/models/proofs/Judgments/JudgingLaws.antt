@@ -16,6 +16,8 @@ use Rattle.models.specs.Judging.{RuleAndModel, judging_of, JudgedAs, table_judge
 use Rattle.models.specs.Promises.{JudgedExactly, JudgesExactly, JudgingLeaves, RefusedUnchanged}
 use Rattle.models.proofs.Phones.DecidedSets.{decided_satisfies}
 use Rattle.models.proofs.Judgments.JudgingOrder.{judging_accepts}
+use Rattle.models.specs.declared.Judgment.{Judgment}
+use Rattle.models.specs.declared.Judgment.TheVariants.{Meets, Breaks}
 
 -- what is judged is the file's rule and the file's model
 pub judging_case : {limit mark : ℕ} {s table : List ℕ} {r : Rule} {n : ℕ} {left : List ℕ} → Fills limit mark s table r n left

@@ -5,7 +5,7 @@ use mathlib.Core.Path.{◌≡◌, refl}
 use mathlib.Core.Logic.{◌⊎◌, inl, inr}
 use mathlib.Core.List.{List}
 use lib.ListN.{length}
-use Rattle.reading.specs.File.{accepted, refused, and_then}
+use Rattle.reading.specs.File.{accepted, refused, and_then, Outcome}
 use Rattle.reading.proofs.Basics.Outcomes.{and_then-accepts}
 use Rattle.synthesis.specs.Building.{Synthesis, synthesis_of, filling_of, counted_of}
 use Rattle.synthesis.specs.Promises.{FillsAsCounted}
@@ -15,6 +15,8 @@ use Rattle.models.specs.Judging.{RuleAndModel, with_model, judging_of, JudgedAs}
 use Rattle.models.specs.Promises.{JudgesInOrder}
 use Rattle.models.proofs.Files.Encoding.{phone_accepted}
 use Rattle.models.proofs.Files.FileFaults.{model_refused}
+use Rattle.models.specs.declared.Judgment.{Judgment}
+use Rattle.models.specs.declared.Judgment.TheVariants.{Meets, Breaks}
 
 module _ (limit : ℕ) (s : List ℕ) (capacity : ℕ) where
   pub judging_refused : {number place : ℕ} → filling_of limit s capacity ≡ refused number place → (f : List ℕ)

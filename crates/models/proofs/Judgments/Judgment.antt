@@ -29,6 +29,7 @@ use Rattle.models.proofs.Phones.PhoneCodes.{phone_codes}
 use Rattle.models.proofs.Phones.DecidedSets.{decided_satisfies}
 use Rattle.models.proofs.Judgments.JudgingOrder.{judging_refused, judging_model_refused}
 use Rattle.models.proofs.Judgments.JudgingLaws.{judging_case}
+use Rattle.models.specs.declared.Judgment.TheVariants.{Meets, Breaks}
 
 -- ---- the answer and the table
 

@@ -22,6 +22,7 @@ use Rattle.models.specs.Promises.{InOrder, MeetAlike, JudgedAlike}
 use Rattle.models.proofs.Files.FileFaults.{model_refused}
 use Rattle.models.proofs.Judgments.JudgingOrder.{judges_in_order}
 use Rattle.models.proofs.Judgments.JudgingLaws.{judging_case, judged_same}
+use Rattle.models.specs.declared.Judgment.{Judgment}
 
 pub meet_alike : MeetAlike
 meet_alike r r' alike = satisfied_alike r r' (violated_alike r r' alike)

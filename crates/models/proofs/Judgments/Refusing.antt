@@ -6,6 +6,8 @@ use Rattle.synthesis.specs.Building.{synthesis_of, filling_of, counted_of}
 use Rattle.synthesis.proofs.Tables.SynthesisOutcomes.{fills_as_counted}
 use Rattle.synthesis.proofs.Tables.Equations.{answers_count}
 use Rattle.models.specs.Readings.{rule_refusal, model_refusal, refusal_before}
+use Rattle.reading.specs.File.{Outcome, accepted, refused}
+use Rattle.models.specs.declared.Judgment.{Judgment}
 
 pub count_few : (limit : ℕ) (s : List ℕ) {counted : Outcome ℕ} → counted ≡ counted_of (synthesis_of limit s) → {n : ℕ} → counted ≡ accepted n → n ≤ limit
 count_few limit s counts {n} e = (answers_count limit s n (sym counts ∙ e)).few

@@ -13,7 +13,7 @@ use Rattle.enforcement.specs.Model.{Bisimilar}
 use Rattle.enforcement.proofs.BisimulationLaws.{bisimilar_alike}
 use Rattle.models.specs.Phone.{model_of, phone_of}
 use Rattle.models.specs.Judging.{judging_of, JudgedAs}
-use Rattle.models.specs.Pairs.{pairs_of, Listed}
+use Rattle.models.specs.Pairs.{pairs_of, Listed, said}
 use Rattle.models.specs.MatchPromises.{ModelsAlike, MatchedAlike, IsJudgment, ModelsJudgedAlike}
 use Rattle.models.specs.declared.PhoneModel.{PhoneModel}
 use Rattle.models.proofs.Files.Encoding.{phone_accepted}
@@ -22,6 +22,7 @@ use Rattle.models.proofs.Judgments.JudgingLaws.{judged_same}
 use Rattle.models.proofs.Matchings.PairLists.{accepts_pairs}
 use Rattle.models.proofs.Matchings.OneAnswer.{matches_exactly}
 use Rattle.models.proofs.Matchings.RefusalOrder.{refuses_pairs}
+use Rattle.models.specs.declared.Judgment.{Judgment}
 
 pub matched_alike : MatchedAlike
 matched_alike f g l told =

@@ -9,7 +9,7 @@ use lib.ListN.{length}
 use Rattle.reading.specs.File.{Outcome, accepted, refused}
 use Rattle.models.specs.Phone.{Phone, phone_of}
 use Rattle.models.specs.Judging.{model_reading_of}
-use Rattle.models.specs.Pairs.{Pair, pairs_of, matching, first_refused, second_refused, pairs_refused, matching_of, MatchedAs}
+use Rattle.models.specs.Pairs.{Pair, pairs_of, matching, first_refused, second_refused, pairs_refused, matching_of, MatchedAs, MatchAnswer, said}
 use Rattle.models.specs.Relating.{Relates, RelatedAs, MatchedBy, first_refusal, second_refusal, pairs_refusal}
 use Rattle.models.specs.declared.PhoneModel.{PhoneModel}
 use Rattle.models.specs.declared.ModelReading.{ModelReading}

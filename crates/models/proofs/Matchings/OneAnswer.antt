@@ -8,6 +8,7 @@ use Rattle.models.specs.Phone.{Phone}
 use Rattle.models.specs.Pairs.{Pair, Listed, Matches, Matching, matching, first_refused, second_refused, pairs_refused, matching_of, MatchedAs}
 use Rattle.models.specs.MatchPromises.{MatchedExactly, MatchesExactly, AnswersOnce, RepeatsHarmless}
 use Rattle.models.proofs.Matchings.AnswerLaws.{matching_accepts}
+use Rattle.models.specs.Pairs.{MatchAnswer}
 
 -- ---- one answer
 

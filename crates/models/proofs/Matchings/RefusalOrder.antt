@@ -11,6 +11,7 @@ use Rattle.models.specs.Judging.{model_reading_of}
 use Rattle.models.specs.Pairs.{Pair, pairs_of, Matching, matching, first_refused, second_refused, pairs_refused, matching_of, MatchedAs, paper_answer}
 use Rattle.models.specs.MatchPromises.{RefusedInOrder, RefusesPairs, RefusesByNumber}
 use Rattle.models.proofs.Matchings.PairLists.{accepts_pairs, refuses_at_the_pair}
+use Rattle.models.specs.Pairs.{MatchAnswer, said}
 
 -- two cases that are apart
 apart : {A : Type 0} → ◌≡◌ {A = ℕ} 0 1 → A

@@ -14,6 +14,8 @@ use Rattle.synthesis.specs.AlikePromises.{ExplainedAlike, ExplainsAlike}
 use Rattle.synthesis.proofs.Reasons.Explained.{reasons_exactly}
 use Rattle.synthesis.proofs.EmptyPatterns.AlikeLaws.{alike_back, violated_alike}
 use Rattle.synthesis.proofs.EmptyPatterns.SameTables.{long_counted_alike}
+use Rattle.reading.specs.File.{Outcome, accepted, refused}
+use Rattle.std.specs.Prelude.{Option, Some, None}
 
 -- ---- from one rule to the other
 

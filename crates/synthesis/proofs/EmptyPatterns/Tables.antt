@@ -19,6 +19,7 @@ use Rattle.synthesis.proofs.Quotients.OnlyTable.{short_is_only}
 use Rattle.synthesis.proofs.Reasons.Explained.{reasons_exactly}
 use Rattle.synthesis.proofs.EmptyPatterns.AlikeLaws.{violated_alike}
 use Rattle.synthesis.proofs.EmptyPatterns.Places.{no_place_after_empty}
+use Rattle.reading.specs.File.{Outcome, accepted, refused}
 
 -- ---- reasons
 

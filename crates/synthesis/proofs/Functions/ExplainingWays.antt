@@ -23,6 +23,7 @@ use Rattle.synthesis.proofs.Tables.SynthesisOutcomes.{counted_refuses}
 use Rattle.synthesis.proofs.Reasons.Following.{followed_cong}
 use Rattle.synthesis.proofs.Functions.GraphLaws.{graph_answers, graph_opens}
 use Rattle.synthesis.proofs.Functions.FillingWays.{CountedPlan}
+use Rattle.std.specs.Prelude.{Option}
 
 -- ---- a plan that is refused
 

@@ -6,7 +6,7 @@ use mathlib.Core.List.{List, ◌∷◌}
 use native.Mathlib.Omega.{arith}
 use lib.ListN.{length, take, replicate}
 use Rattle.reading.specs.Rule.{All}
-use Rattle.reading.specs.File.{accepted}
+use Rattle.reading.specs.File.{accepted, refused}
 use Rattle.synthesis.specs.Monitor.{mark, most, Answer, lookup}
 use Rattle.synthesis.specs.Table.{WellFormedTable, filled}
 use Rattle.synthesis.specs.Merging.{up_to, merged, rounds, firsts}

@@ -9,7 +9,7 @@ use native.Mathlib.Omega.{arith}
 use lib.Dec.{ltb}
 use lib.ListN.{length}
 use borrow.Author.Tests.{lt-ltb, le-ltb, ltb-true}
-use Rattle.reading.specs.File.{Outcome, accepted, and_then}
+use Rattle.reading.specs.File.{Outcome, accepted, and_then, refused}
 use Rattle.reading.proofs.Basics.Outcomes.{accepted_is, refuse_refused, and_then-refused, never_refused}
 use Rattle.synthesis.specs.Monitor.{lookup}
 use Rattle.synthesis.specs.Table.{WellFormedTable}

@@ -8,7 +8,7 @@ use mathlib.Core.List.{List, [], ◌∷◌, ◌++◌}
 use native.Mathlib.Omega.{arith}
 use lib.ListN.{length, take}
 use Rattle.reading.specs.Rule.{WellFormed, Rule, RuleWithinLimits}
-use Rattle.reading.specs.File.{accepted, rule_of}
+use Rattle.reading.specs.File.{accepted, rule_of, Outcome, refused}
 use Rattle.reading.proofs.Basics.Outcomes.{accepted_is}
 use Rattle.reading.proofs.Accepting.Accepted.{accepts_encodings}
 use Rattle.reading.proofs.Numbering.NodeLaws.{node_fits}
@@ -27,6 +27,7 @@ use Rattle.synthesis.proofs.Reasons.OpenedPlaces.{places_opened}
 use Rattle.synthesis.proofs.Reasons.LowestNodes.{least_map, least_unique, said_of_opened}
 use Rattle.synthesis.proofs.Reasons.Following.{Follows, all_kept, first_dropped, follows}
 use Rattle.synthesis.proofs.Tables.SynthesisOutcomes.{synthesis_accepts, counted_accepts, counted_refuses, accepts_as}
+use Rattle.std.specs.Prelude.{Option, Some, None}
 
 -- ---- answers told apart
 

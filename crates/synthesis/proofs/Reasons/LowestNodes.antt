@@ -20,6 +20,7 @@ use Rattle.synthesis.specs.Reason.{Least, OpensFalsity, LowestOpened, lowest_rea
 use Rattle.synthesis.proofs.Unfolding.NodeSetLaws.{has_none, has_common, has_true, true_has, nonempty_member}
 use Rattle.synthesis.proofs.Unfolding.NodeWise.{falsities_has}
 use Rattle.synthesis.proofs.Unfolding.AnsweringLaws.{reached_leads}
+use Rattle.std.specs.Prelude.{Option, Some, None}
 
 -- ---- the least member of a set
 

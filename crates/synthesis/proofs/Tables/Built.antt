@@ -8,7 +8,7 @@ use mathlib.Core.List.{List}
 use native.Mathlib.Omega.{arith}
 use lib.ListN.{length, get_or, replicate, length-replicate}
 use Rattle.reading.specs.Rule.{Rule, RuleWithinLimits, encode, Bytes}
-use Rattle.reading.specs.File.{Outcome, accepted, rule_of}
+use Rattle.reading.specs.File.{Outcome, accepted, rule_of, refused}
 use Rattle.reading.proofs.Accepting.Encoding.{encoding_is_bytes}
 use Rattle.reading.proofs.Accepting.Accepted.{accepts_encodings}
 use Rattle.synthesis.specs.Monitor.{kept, verdicts, ended, Monitors, row_of, lookup}

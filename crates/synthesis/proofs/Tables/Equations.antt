@@ -9,7 +9,7 @@ use native.Mathlib.Decide.{dec_lt}
 use native.Mathlib.Omega.{arith}
 use lib.ListN.{length, get_or}
 use Rattle.reading.specs.Rule.{Formula, necessity, Rule, Bytes}
-use Rattle.reading.specs.File.{accepted, rule_of}
+use Rattle.reading.specs.File.{accepted, rule_of, refused}
 use Rattle.reading.proofs.Basics.Outcomes.{accepted_is}
 use Rattle.reading.specs.Nodes.{EnclosingMax, Node}
 use Rattle.reading.proofs.Accepting.Accepted.{accepts_encodings}

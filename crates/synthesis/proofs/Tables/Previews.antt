@@ -5,7 +5,7 @@ use mathlib.Core.Path.{◌≡◌, sym, ◌∙◌, ap}
 use mathlib.Core.List.{List}
 use native.Mathlib.Omega.{arith}
 use lib.ListN.{length}
-use Rattle.reading.specs.File.{Outcome, and_then}
+use Rattle.reading.specs.File.{Outcome, and_then, accepted}
 use Rattle.synthesis.specs.Monitor.{mark, most, row_of}
 use Rattle.synthesis.specs.Building.{Synthesis, synthesis_of, in_table, filling_of, counted_of, table_after}
 use Rattle.synthesis.specs.Building.{preview_limit, preview_of, preview_filling_of}
