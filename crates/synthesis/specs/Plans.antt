@@ -1,5 +1,5 @@
 -- What the crate's own functions say of the plan for a table, and of what is read off it.
-use Rattle.std.specs.Prelude.{ℕ, ◌≤◌, ◌<◌, ◌≡◌, List, length, take}
+use Rattle.std.specs.Prelude.{ℕ, ◌≤◌, ◌<◌, ◌≡◌, List, length}
 use Rattle.reading.specs.File.{Outcome, accepted, refused, by_case}
 use Rattle.reading.specs.declared.FileRead.{FileRead}
 use Rattle.reading.specs.declared.FileRead.TheVariants.{Accepted, Refused}
@@ -7,7 +7,7 @@ use Rattle.synthesis.specs.Monitor.{mark, most, lookup}
 use Rattle.synthesis.specs.Answering.{answer_of}
 use Rattle.synthesis.specs.Table.{WellFormedTable}
 use Rattle.synthesis.specs.Building.{Synthesis, synthesis_of, counted_of, page_number, numbered_answer, classes_of, shortened, short_of}
-use Rattle.synthesis.specs.Arrays.{IsGraph, Distinct, ClassesNumbered}
+use Rattle.synthesis.specs.Arrays.{IsGraph, ClassesNumbered}
 use Rattle.synthesis.specs.declared.Counted.{Counted}
 use Rattle.synthesis.specs.declared.Counted.TheVariants as counted
 use Rattle.synthesis.specs.declared.Plan.{Plan}
@@ -31,10 +31,8 @@ counted_on_page (counted.Refused number place) = counted.Refused (page_number nu
 pub record PlanFor (y : Synthesis) (p : Plan) : Type 0 where
   pub graph_is : IsGraph y.rule p.graph
   pub answer_is : y.answer ≡ answer_of y.rule
-  pub found_is : take (length y.equations) p.found ≡ y.equations
-  pub distinct : Distinct y.equations
+  pub found_is : p.found.equations ≡ y.equations
   pub few : length y.equations ≤ most
-  pub found_length : length p.found ≡ most
 
 abbrev pub CanFill : Outcome Synthesis → Plan → Type 0
 CanFill (accepted y) p = PlanFor y p
