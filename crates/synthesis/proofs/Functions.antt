@@ -1,5 +1,5 @@
 -- What the proofs of the functions use.
-pub mod HoldsLaws
+pub mod FoundLaws
 pub mod FillingRows
 pub mod Gathering
 pub mod SetsByTest

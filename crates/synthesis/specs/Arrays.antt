@@ -1,5 +1,5 @@
 -- What the crate's own functions say of their arrays.
-use Rattle.std.specs.Prelude.{ℕ, suc, ◌/◌, ◌≤◌, ◌<◌, ◌≡◌, ◌↔◌, ◌⊎◌, Bool, true, false, cond, List, [], ◌∷◌, map, length, get_or, take}
+use Rattle.std.specs.Prelude.{ℕ, suc, ◌/◌, ◌≤◌, ◌<◌, ◌≡◌, ◌↔◌, Bool, true, false, cond, List, [], ◌∷◌, map, length, get_or, take, Result, MatchResult, ⊤}
 use Rattle.reading.specs.Rule.{Formula, necessity, max, size, Rule, RuleWithinLimits}
 use Rattle.reading.specs.Nodes.{EnclosingMax, Node}
 use Rattle.reading.specs.Numbered.{numbered}
@@ -7,7 +7,7 @@ use Rattle.reading.specs.Pattern.{covers}
 use Rattle.reading.specs.declared.Pattern.{Pattern}
 use Rattle.reading.specs.declared.NumberedRule.{NumberedRule}
 use Rattle.synthesis.specs.Violation.{covered_by}
-use Rattle.synthesis.specs.Monitor.{Answer}
+use Rattle.synthesis.specs.Monitor.{Answer, most}
 use Rattle.synthesis.specs.Search.{index_of}
 use Rattle.synthesis.specs.Merging.{firsts}
 use Rattle.synthesis.specs.NodeSet.{Has, has, empty_set, singleton, union, intersection}
@@ -103,35 +103,40 @@ pub record IsGraph (r : Rule) (g : Graph) : Type 0 where
   pub falsities_are : g.falsities ≡ falsities 0 r.formula
   pub after_is : AfterAll r g.after
   pub enabled_is : Enabled r g.enabled
-  pub after_length : length g.after ≡ 64
-  pub enabled_length : length g.enabled ≡ 256
 
 -- the union of those sets of a list whose indices are in `live`
 abbrev pub gathered : List ℕ → (live : ℕ) → ℕ
 gathered [] live = empty_set
 gathered (x ∷ xs) live = union (cond (has live 0) x empty_set) (gathered xs (live / 2))
 
--- The answer of the equation e to the code c from the arrays of a graph: `after` for each node, `enabled` for each code.
-unfoldable pub answer_by : (after enabled : List ℕ) (falsities e c : ℕ) → Answer ℕ
-answer_by after enabled falsities e c = answer_from falsities (gathered after (intersection e (get_or enabled c 0)))
+-- the nodes that the equation e reaches under the code c, by a graph
+abbrev pub reached_by : Graph → (e c : ℕ) → ℕ
+reached_by g e c = gathered g.after (intersection e (get_or g.enabled c 0))
+
+-- the answer of the equation e to the code c, by a graph
+unfoldable pub answer_by : Graph → (e c : ℕ) → Answer ℕ
+answer_by g e c = answer_from g.falsities (reached_by g e c)
 
 -- ---- the search
-
--- how many hints there are
-abbrev pub hint_count : ℕ
-hint_count = 4096
-
--- i is a place of e in the list; or the list's length, where e isn't in it
-abbrev pub IsPlaceOf : ℕ → List ℕ → (i : ℕ) → Type 0
-IsPlaceOf e l i = ((i < length l) × (get_or l i 0 ≡ e)) ⊎ ((i ≡ length l) × (index_of e l ≡ i))
 
 -- distinct numbers: each stands at its own index
 abbrev pub Distinct : List ℕ → Type 0
 Distinct l = (i : ℕ) → i < length l → index_of (get_or l i 0) l ≡ i
 
--- The first n elements of the array are the list; or the list is over the limit, and n is one more than the limit.
-abbrev pub Holds : (limit : ℕ) → List ℕ → (n : ℕ) → List ℕ → Type 0
-Holds limit a n l = ((n ≤ limit) × (take n a ≡ l)) ⊎ ((n ≡ suc limit) × (limit < length l))
+-- the equations found so far, and the most that there may be
+pub record Found : Type 0 where
+  pub limit : ℕ
+  pub equations : List ℕ
+
+-- The first elements of an array are these equations.
+pub record FoundWithin (limit count : ℕ) (array : List ℕ) : Type 0 where
+  pub few : count ≤ limit
+  pub small : limit ≤ most
+  pub distinct : Distinct (take count array)
+
+-- The search has come to a list of equations; or that is over the limit.
+abbrev pub FoundFrom : {E : Type 0} → Found → Result ⊤ E → Found → (equations : List ℕ) → Type 0
+FoundFrom before result after l = MatchResult result (λ _. after ≡ record { limit = before.limit; equations = l }) (λ _. before.limit < length l)
 
 -- ---- merging
 

@@ -1,10 +1,10 @@
 // Why a scan is dropped.
-ghost use Rattle.std.specs.Prelude.{◌≡◌, length};
+ghost use Rattle.std.specs.Prelude.{◌≡◌};
 ghost use Rattle.synthesis.specs.Reason.{lowest_reason, followed};
 ghost use Rattle.synthesis.specs.Arrays.{answer_by};
 ghost use Rattle.synthesis.specs.Plans.{followed_of, unexplained_of};
 
-use crate::search::reached;
+use crate::graph::Graph;
 use crate::{Counted, Reason};
 
 // Where scans lead: to an equation, or to the refusal of the first that is dropped.
@@ -14,27 +14,16 @@ pub(crate) enum Followed {
     Refused(u8, usize),
 }
 
-// Follows scans from an equation.
-pub(crate) fn follow(
-    after: &[u64],
-    enabled: &[u64],
-    falsities: u64,
-    first: u64,
-    scans: &[u8],
-) -> Followed
-    requires { (length after.now ≡ 64) × (length enabled.now ≡ 256) }
-    ensures { result ≡ followed_of
-        (followed (answer_by after.now enabled.now falsities) first 0 scans.now) }
+// Follows scans from the first equation.
+pub(crate) fn follow(graph: &Graph, scans: &[u8]) -> Followed
+    ensures { result ≡ followed_of (followed (answer_by graph.now) graph.now.first 0 scans.now) }
 {
-    let mut e = first;
-    let mut i = 0;
-    while i < scans.len() {
-        let set = reached(after, enabled, e, scans[i] as usize);
-        if set & falsities != 0 {
+    let mut e = graph.first;
+    for (i, scan) in scans.iter().enumerate() {
+        let Some(next) = graph.answer(e, *scan as usize) else {
             return Followed::Refused(17, i);
-        }
-        e = set;
-        i += 1;
+        };
+        e = next;
     }
     Followed::Equation(e)
 }
@@ -44,9 +33,10 @@ pub(crate) fn lowest(set: u64) -> Reason
     ensures { result ≡ lowest_reason set }
 {
     if set == 0 {
-        return Reason::Kept;
+        Reason::Kept
+    } else {
+        Reason::Node(set.trailing_zeros() as u8)
     }
-    Reason::Node(u64::trailing_zeros(set) as u8)
 }
 
 // The refusal of a rule file that has no count.

@@ -1,8 +1,9 @@
 // What the answers of a rule's equations are worked out from: sets of its nodes, node n as bit n.
-ghost use Rattle.std.specs.Prelude.{◌≡◌, ℕ, ◌+◌, ◌≤◌, ◌<◌, length, replicate};
+ghost use Rattle.std.specs.Prelude.{◌≡◌, ℕ, ◌+◌, ◌≤◌, ◌<◌, length, Some, None};
 ghost use Rattle.reading.specs.Rule.{size, Rule, falsity_kind};
+ghost use Rattle.synthesis.specs.Monitor.{cases};
 ghost use Rattle.synthesis.specs.Arrays.{RuleArrays, SomeNode, IsOpening, Linked, AfterAll, with_node, HasKind, AddedToCodes};
-ghost use Rattle.synthesis.specs.Arrays.{IsNumbered, SomeNumbered, EnabledBelow, Enabled, IsGraph};
+ghost use Rattle.synthesis.specs.Arrays.{IsNumbered, SomeNumbered, EnabledBelow, Enabled, IsGraph, gathered, reached_by, answer_by};
 
 use reading::kinds::{BOTH, FALSITY, MAX, NECESSITY, VARIABLE};
 use reading::{NumberedRule, Pattern};
@@ -17,16 +18,64 @@ pub(crate) struct Graph {
     pub(crate) enabled: [u64; 256],
 }
 
-// The graph of no rule.
-pub(crate) fn empty() -> Graph {
-    let after = [0u64; 64];
-    let enabled = [0u64; 256];
-    Graph {
-        first: 0,
-        falsities: 0,
-        after,
-        enabled,
+impl Graph {
+    // The graph of no rule.
+    pub(crate) fn empty() -> Graph {
+        Graph {
+            first: 0,
+            falsities: 0,
+            after: [0; 64],
+            enabled: [0; 256],
+        }
     }
+
+    // The graph of a rule.
+    pub(crate) fn of_rule(rule: &NumberedRule) -> Graph
+        requires { SomeNumbered rule.now 0 }
+        ensures { (r : Rule) → IsNumbered r rule.now → IsGraph r result }
+    {
+        Graph {
+            first: opening(&rule.kinds, &rule.args, &[0; 64], 0),
+            falsities: falsities(&rule.kinds, rule.nnodes),
+            after: link_all(&rule.kinds, &rule.args, rule.nnodes),
+            enabled: enable_all(rule),
+        }
+    }
+
+    // The nodes that an equation reaches under a code; with an ff node among them, the code is dropped.
+    pub(crate) fn reached(&self, e: u64, code: usize) -> u64
+        requires { code < 256 }
+        ensures { result ≡ reached_by self.now e code }
+    {
+        gather(&self.after, e & self.enabled[code])
+    }
+
+    // The next equation, or none where the code is dropped.
+    pub(crate) fn answer(&self, e: u64, code: usize) -> Option<u64>
+        requires { code < 256 }
+        ensures { result ≡ cases (answer_by self.now e code) None Some }
+    {
+        let reached = self.reached(e, code);
+        if reached & self.falsities == 0 {
+            Some(reached)
+        } else {
+            None
+        }
+    }
+}
+
+// The union of those sets whose indices are in `live`. It takes the lowest bit of what is left while there is one: no range or list of indices is there
+// to go over.
+fn gather(sets: &[u64; 64], live: u64) -> u64
+    ensures { result ≡ gathered sets.now live }
+{
+    let mut rest = live;
+    let mut all = 0;
+    while rest != 0 {
+        all |= sets[rest.trailing_zeros() as usize];
+        rest &= rest - 1;
+    }
+    all
 }
 
 // What opening node k gives, where `opened` has what opening each max before it gives.
@@ -72,17 +121,17 @@ fn link(kinds: &[u8], args: &[u8], k: usize, opened: &mut [u64], after: &mut [u6
     }
 }
 
-// Puts, for each necessity among n nodes, what opening the formula after it gives.
-fn link_all(kinds: &[u8], args: &[u8], n: usize, after: &mut [u64])
-    requires { ((k : ℕ) → k < n → SomeNode kinds.now args.now k) × (length after.old ≡ 64) }
-    ensures { (r : Rule) → RuleArrays r kinds.now args.now → size r.formula ≤ n → AfterAll r after.new }
+// For each necessity among n nodes, what opening the formula after it gives.
+fn link_all(kinds: &[u8], args: &[u8], n: usize) -> [u64; 64]
+    requires { (k : ℕ) → k < n → SomeNode kinds.now args.now k }
+    ensures { (r : Rule) → RuleArrays r kinds.now args.now → size r.formula ≤ n → AfterAll r result }
 {
-    let mut opened = [0u64; 64];
-    let mut k = 0;
-    while k < n {
-        link(kinds, args, k, &mut opened, after);
-        k += 1;
+    let mut opened = [0; 64];
+    let mut after = [0; 64];
+    for k in 0..n {
+        link(kinds, args, k, &mut opened, &mut after);
     }
+    after
 }
 
 // The set with node k, where the test holds.
@@ -90,10 +139,7 @@ fn with_node(set: u64, k: usize, holds: bool) -> u64
     requires { k < 64 }
     ensures { result ≡ with_node set k holds }
 {
-    if holds {
-        return set | (1 << k);
-    }
-    set
+    if holds { set | (1 << k) } else { set }
 }
 
 // The ff nodes among the first n.
@@ -102,73 +148,41 @@ fn falsities(kinds: &[u8], n: usize) -> u64
     ensures { HasKind falsity_kind kinds.now n result }
 {
     let mut set = 0;
-    let mut k = 0;
-    while k < n {
-        set = with_node(set, k, kinds[k] == FALSITY);
-        k += 1;
+    for (k, kind) in kinds[..n].iter().enumerate() {
+        set = with_node(set, k, *kind == FALSITY);
     }
     set
 }
 
 // Puts node k into the set of each code that the pattern covers.
-fn add_to_codes(p: Pattern, k: usize, enabled: &mut [u64])
-    requires { (k < 64) × (length enabled.old ≡ 256) }
+fn add_to_codes(p: Pattern, k: usize, enabled: &mut [u64; 256])
+    requires { k < 64 }
     ensures { AddedToCodes p k enabled.old enabled.new }
 {
-    let mut c = 0;
-    while c < 256 {
-        enabled[c] = with_node(enabled[c], k, reading::covers(p, c as u8));
-        c += 1;
+    for (code, set) in enabled.iter_mut().enumerate() {
+        *set = with_node(*set, k, reading::covers(p, code as u8));
     }
 }
 
 // Puts node k, where it is a necessity, into the set of each code that its pattern covers.
-fn enable(rule: &NumberedRule, k: usize, enabled: &mut [u64])
-    requires { SomeNumbered rule.now k × (length enabled.old ≡ 256) }
+fn enable(rule: &NumberedRule, k: usize, enabled: &mut [u64; 256])
+    requires { SomeNumbered rule.now k }
     ensures { (r : Rule) → IsNumbered r rule.now → EnabledBelow r k enabled.old → EnabledBelow r (k + 1) enabled.new }
 {
-    let kinds = rule.kinds;
-    if kinds[k] != NECESSITY {
-        return;
-    }
-    let args = rule.args;
-    let patterns = rule.patterns;
-    let i = args[k] as usize;
-    add_to_codes(patterns[i], k, enabled);
-}
-
-// Puts, for each code, the necessities whose patterns cover it.
-fn enable_all(rule: NumberedRule, enabled: &mut [u64])
-    requires { SomeNumbered rule 0 × (enabled.old ≡ replicate 256 0) }
-    ensures { (r : Rule) → IsNumbered r rule → Enabled r enabled.new }
-{
-    let n = rule.nnodes;
-    let mut k = 0;
-    while k < n {
-        enable(&rule, k, enabled);
-        k += 1;
+    if rule.kinds[k] == NECESSITY {
+        let i = rule.args[k] as usize;
+        add_to_codes(rule.patterns[i], k, enabled);
     }
 }
 
-// The graph of a rule.
-pub(crate) fn of_rule(rule: NumberedRule) -> Graph
-    requires { SomeNumbered rule 0 }
-    ensures { (r : Rule) → IsNumbered r rule → IsGraph r result }
+// For each code, the necessities whose patterns cover it.
+fn enable_all(rule: &NumberedRule) -> [u64; 256]
+    requires { SomeNumbered rule.now 0 }
+    ensures { (r : Rule) → IsNumbered r rule.now → Enabled r result }
 {
-    let kinds = rule.kinds;
-    let args = rule.args;
-    let n = rule.nnodes;
-    let opened = [0u64; 64];
-    let first = opening(&kinds, &args, &opened, 0);
-    let falsities = falsities(&kinds, n);
-    let mut after = [0u64; 64];
-    link_all(&kinds, &args, n, &mut after);
-    let mut enabled = [0u64; 256];
-    enable_all(rule, &mut enabled);
-    Graph {
-        first,
-        falsities,
-        after,
-        enabled,
+    let mut enabled = [0; 256];
+    for k in 0..rule.nnodes {
+        enable(rule, k, &mut enabled);
     }
+    enabled
 }

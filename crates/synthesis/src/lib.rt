@@ -18,6 +18,7 @@ ghost use Rattle.synthesis.specs.Plans.{refusal_of, counted_on_page, IsPlan};
 use explaining::Followed;
 use graph::Graph;
 use reading::FileRead;
+use search::Equations;
 
 // The entry of a code that is dropped.
 pub const DROPPED: u16 = 65535;
@@ -51,7 +52,7 @@ pub enum Reason {
 struct Plan {
     answer: Counted,
     graph: Graph,
-    found: [u64; MOST],
+    found: Equations,
 }
 
 // The refusal of a rule file that couldn't be read.
@@ -68,12 +69,10 @@ fn refusal(answer: FileRead) -> Counted
 fn no_plan(answer: Counted) -> Plan
     ensures { result.answer ≡ answer }
 {
-    let graph = graph::empty();
-    let found = [0u64; MOST];
     Plan {
         answer,
-        graph,
-        found,
+        graph: Graph::empty(),
+        found: Equations::new(0),
     }
 }
 
@@ -87,43 +86,25 @@ fn plan_of(rule: &[u8], limit: usize) -> Plan
     let FileRead::Accepted = answer else {
         return no_plan(refusal(answer));
     };
-    let graph = graph::of_rule(reading.rule);
+    let graph = Graph::of_rule(&reading.rule);
     if graph.first & graph.falsities != 0 {
         return no_plan(Counted::Refused(8, 0));
     }
-    let mut found = [0u64; MOST];
-    let after = graph.after;
-    let enabled = graph.enabled;
-    let count = search::search(
-        &after,
-        &enabled,
-        graph.falsities,
-        graph.first,
-        &mut found,
-        limit,
-    );
-    if limit < count {
+    let Ok(found) = search::search(&graph, limit) else {
         return no_plan(Counted::Refused(9, 0));
-    }
+    };
     Plan {
-        answer: Counted::Equations(count),
+        answer: Counted::Equations(found.len()),
         graph,
         found,
     }
-}
-
-// The limit that counts: the most, where a limit is over it.
-fn capped(limit: usize) -> usize
-    ensures { result ≡ min limit most }
-{
-    if limit < MOST { limit } else { MOST }
 }
 
 // Answers how many equations the rule of a file has, or a refusal of 1 to 9; 9 where they are over the limit. A limit over the most counts as the most.
 pub fn count_within(rule: &[u8], limit: usize) -> Counted
     ensures { result ≡ counted_of (synthesis_of (min limit most) rule.now) }
 {
-    plan_of(rule, capped(limit)).answer
+    plan_of(rule, limit.min(MOST)).answer
 }
 
 // Fills a table with a row for each of these equations, and answers how many there are. It is refused as counting is, and then with 10 where the rows
@@ -133,17 +114,15 @@ pub fn fill_within(rule: &[u8], limit: usize, table: &mut [u16]) -> Counted
     ensures table_after { table.new
         ≡ table_after mark (filling_of (min limit most) rule.now (length table.old)) table.old }
 {
-    let plan = plan_of(rule, capped(limit));
-    let answer = plan.answer;
-    let Counted::Equations(n) = answer else {
-        return answer;
+    let mut plan = plan_of(rule, limit.min(MOST));
+    let Counted::Equations(n) = plan.answer else {
+        return plan.answer;
     };
     if table.len() < 256 * n {
         return Counted::Refused(10, 0);
     }
-    let found = plan.found;
-    filling::fill_table(plan.graph, found, n, table);
-    answer
+    filling::fill_table(&plan.graph, &mut plan.found, table);
+    plan.answer
 }
 
 // The same under the most equations that a rule may have.
@@ -239,19 +218,13 @@ pub fn explain(rule: &[u8], kept: &[u8], scan: u8) -> Reason
     ensures { result ≡ reason_of (explanation_of most rule.now kept.now scan) }
 {
     let plan = plan_of(rule, MOST);
-    let answer = plan.answer;
-    let Counted::Equations(_) = answer else {
-        return explaining::unexplained(answer);
+    let Counted::Equations(_) = plan.answer else {
+        return explaining::unexplained(plan.answer);
     };
-    let graph = plan.graph;
-    let after = graph.after;
-    let enabled = graph.enabled;
-    let falsities = graph.falsities;
-    let followed = explaining::follow(&after, &enabled, falsities, graph.first, kept);
-    match followed {
+    match explaining::follow(&plan.graph, kept) {
         Followed::Equation(e) => {
-            let reached = search::reached(&after, &enabled, e, scan as usize);
-            explaining::lowest(reached & falsities)
+            let reached = plan.graph.reached(e, scan as usize);
+            explaining::lowest(reached & plan.graph.falsities)
         }
         Followed::Refused(number, place) => Reason::Refused(number, place),
     }

@@ -1,200 +1,165 @@
-// The search for the equations of a rule. They are numbered by their indices in an array. Hints say where a set may stand in it.
-ghost use Rattle.std.specs.Prelude.{◌≡◌, ◌&&◌, ℕ, ◌≤◌, ◌<◌, List, eqb, ltb, length, get_or, take};
-ghost use Rattle.synthesis.specs.Monitor.{most, cases};
-ghost use Rattle.synthesis.specs.NodeSet.{intersection};
-ghost use Rattle.synthesis.specs.Answering.{answer_from};
-ghost use Rattle.synthesis.specs.Search.{index_of, insert, explored, expanded, found};
-ghost use Rattle.synthesis.specs.Arrays.{gathered, answer_by, hint_count, IsPlaceOf, Holds};
+// The search for the equations of a rule.
+ghost use Rattle.std.specs.Prelude.{◌≡◌, ◌≤◌, ◌<◌, ◌==◌, ◌&&◌, [], eqb, ltb, length, slice_index, MatchResult};
+ghost use Rattle.std.specs.List.{position};
+ghost use Rattle.synthesis.specs.Monitor.{most};
+ghost use Rattle.synthesis.specs.Search.{insert, explored, expanded, found};
+ghost use Rattle.synthesis.specs.Arrays.{answer_by, Found, FoundFrom};
+
+use crate::MOST;
+use crate::graph::Graph;
+use std::marker::Model;
 
 // How many hints there are.
-pub(crate) const HINTS: usize = 4096;
+const HINTS: usize = 4096;
 
 // A set has two hints, at its number modulo the two largest primes up to their count.
 const HINT_MODULUS: u64 = 4093;
 
 const SECOND_MODULUS: u64 = 4091;
 
-// The union of those sets whose indices are in `live`. Each iteration takes the lowest index out: rest & (rest - 1) is rest
-// without its lowest bit.
-fn gather(sets: &[u64], live: u64) -> u64
-    requires { length sets.now ≡ 64 }
-    ensures { result ≡ gathered sets.now live }
-{
-    let mut rest = live;
-    let mut all = 0;
-    while rest != 0 {
-        let i = u64::trailing_zeros(rest) as usize;
-        all = all | sets[i];
-        rest = rest & (rest - 1);
-    }
-    all
+// There are more equations than the limit.
+#[derive(Clone, Copy)]
+pub(crate) struct OverLimit;
+
+// The equations found so far, numbered by their indices in an array of node sets, and the most that there may be. Hints say where a set may stand.
+#[derive(Drop)]
+pub(crate) struct Equations {
+    limit: usize,
+    count: usize,
+    found: [u64; MOST],
+    hints: [u16; HINTS],
 }
 
-// The nodes that an equation reaches under a code; with an ff node among them, the code is dropped.
-pub(crate) fn reached(after: &[u64], enabled: &[u64], e: u64, c: usize) -> u64
-    requires { (length after.now ≡ 64) × (c < length enabled.now) }
-    ensures { result ≡ gathered after.now (intersection e (get_or enabled.now c 0)) }
-{
-    gather(after, e & enabled[c])
+// Clauses see the limit, and the list of the equations.
+impl Model for Equations {
+    ghost use Rattle.std.specs.Prelude.{take};
+    ghost use Rattle.synthesis.specs.Arrays.{Found, FoundWithin};
+
+    ghost Value = { Found };
+
+    ghost view = { λ s. record { limit = s.limit; equations = take s.count s.found } };
+
+    ghost invariant = { λ s. FoundWithin s.limit s.count s.found };
 }
 
-// The index of a set among the first n of the list, or n.
-fn find(list: &[u64], n: usize, e: u64) -> usize
-    requires { n ≤ length list.now }
-    ensures { result ≡ index_of e (take n list.now) }
-{
-    let mut i = 0;
-    while i < n {
-        if list[i] == e {
-            return i;
+impl Equations {
+    // No equations yet.
+    pub(crate) fn new(limit: usize) -> Equations
+        requires { limit ≤ most }
+        ensures { result ≡ record { limit = limit; equations = [] } }
+    {
+        Equations {
+            limit,
+            count: 0,
+            found: [0; MOST],
+            hints: [0; HINTS],
         }
-        i += 1;
     }
-    n
+
+    // How many there are.
+    pub(crate) fn len(&self) -> usize
+        ensures value { result ≡ length self.now.equations }
+        ensures within { (result ≤ self.now.limit) × (self.now.limit ≤ most) }
+    {
+        self.count
+    }
+
+    // Equation k.
+    pub(crate) fn get(&self, k: usize) -> u64
+        requires { k < length self.now.equations }
+        ensures { result ≡ slice_index self.now.equations k }
+    {
+        self.found[..self.count][k]
+    }
+
+    // Whether a set is equation i.
+    fn stands_at(&self, i: usize, e: u64) -> bool
+        ensures { result ≡ ltb i (length self.now.equations) && eqb (slice_index self.now.equations i) e }
+    {
+        i < self.count && self.found[i] == e
+    }
+
+    // The number of an equation, if it was found. Its hints are tried first, and one is believed only where the set stands there. After a search both are
+    // what was found; or the count, which is the number that a new set gets.
+    pub(crate) fn find(&mut self, e: u64) -> Option<usize>
+        ensures value { result ≡ position (λ x. x == e) self.old.equations }
+        ensures same { self.new ≡ self.old }
+    {
+        let first = (e % HINT_MODULUS) as usize;
+        let hint = self.hints[first] as usize;
+        if self.stands_at(hint, e) {
+            return Some(hint);
+        }
+        let second = (e % SECOND_MODULUS) as usize;
+        let other = self.hints[second] as usize;
+        if self.stands_at(other, e) {
+            return Some(other);
+        }
+        let place = position(&self.found[..self.count], e);
+        let index = place.unwrap_or(self.count) as u16;
+        self.hints[first] = index;
+        self.hints[second] = index;
+        place
+    }
+
+    // Puts a set last if it is new.
+    fn insert(&mut self, e: u64) -> Result<(), OverLimit>
+        ensures { FoundFrom self.old result self.new (insert self.old.equations e) }
+    {
+        if self.find(e).is_some() {
+            return Ok(());
+        }
+        if self.count == self.limit {
+            return Err(OverLimit);
+        }
+        self.found[self.count] = e;
+        self.count += 1;
+        Ok(())
+    }
+
+    // Inserts what an equation answers to each code.
+    fn explore(&mut self, graph: &Graph, e: u64) -> Result<(), OverLimit>
+        ensures { FoundFrom self.old result self.new
+            (explored 256 (answer_by graph.now) e 256 self.old.equations) }
+    {
+        for code in 0..256 {
+            if let Some(next) = graph.answer(e, code) {
+                self.insert(next)?;
+            }
+        }
+        Ok(())
+    }
+
+    // Explores equation k, if there is one.
+    fn expand(&mut self, graph: &Graph, k: usize) -> Result<(), OverLimit>
+        ensures { FoundFrom self.old result self.new (expanded 256 (answer_by graph.now) k self.old.equations) }
+    {
+        if k < self.count {
+            let e = self.found[k];
+            return self.explore(graph, e);
+        }
+        Ok(())
+    }
 }
 
-// Whether a set stands at an index among the first n of the list.
-fn stands_at(list: &[u64], n: usize, i: usize, e: u64) -> bool
-    requires { n ≤ length list.now }
-    ensures { result ≡ ltb i n && eqb (get_or list.now i 0) e }
+// The place of a set in a list.
+fn position(list: &[u64], e: u64) -> Option<usize>
+    ensures { result ≡ position (λ x. x == e) list.now }
 {
-    if i < n {
-        return list[i] == e;
-    }
-    false
+    list.iter().position(|x| *x == e)
 }
 
-// A place of a set among the first n of the list, or n. Its hints are tried first, and one is believed only where the set stands there. After a search
-// both are what was found; n, where a new set may be put next.
-pub(crate) fn find_by_hint(list: &[u64], hints: &mut [u16], n: usize, e: u64) -> usize
-    requires { (n ≤ most) × (n ≤ length list.now) × (length hints.old ≡ hint_count) }
-    ensures { IsPlaceOf e (take n list.now) result }
+// Finds the equations from the first on.
+pub(crate) fn search(graph: &Graph, limit: usize) -> Result<Equations, OverLimit>
+    requires { limit ≤ most }
+    ensures { MatchResult result
+        (λ s. s ≡ record { limit = limit; equations = found 256 (answer_by graph.now) limit graph.now.first })
+        (λ _. limit < length (found 256 (answer_by graph.now) limit graph.now.first)) }
 {
-    let first = (e % HINT_MODULUS) as usize;
-    let hint = hints[first] as usize;
-    if stands_at(list, n, hint, e) {
-        return hint;
+    let mut equations = Equations::new(limit);
+    equations.insert(graph.first)?;
+    for k in 0..limit {
+        equations.expand(graph, k)?;
     }
-    let second = (e % SECOND_MODULUS) as usize;
-    let other = hints[second] as usize;
-    if stands_at(list, n, other, e) {
-        return other;
-    }
-    let i = find(list, n, e);
-    let index = i as u16;
-    hints[first] = index;
-    hints[second] = index;
-    i
-}
-
-// Puts a set after the first n of the list if it is new. One more than the limit says that there was no room for it.
-fn insert(list: &mut [u64], hints: &mut [u16], limit: usize, n: usize, e: u64) -> usize
-    requires { (limit ≤ most) × (limit ≤ length list.old) × (length hints.old ≡ hint_count) }
-    ensures { (l : List ℕ) → Holds limit list.old n l → Holds limit list.new result (insert l e) }
-{
-    if limit < n {
-        return n;
-    }
-    let i = find_by_hint(list, hints, n, e);
-    if i < n {
-        return n;
-    }
-    if n == limit {
-        return limit + 1;
-    }
-    list[n] = e;
-    n + 1
-}
-
-// Inserts the next equation, unless the set of reached nodes has an ff node.
-fn insert_answer(
-    list: &mut [u64],
-    hints: &mut [u16],
-    limit: usize,
-    n: usize,
-    falsities: u64,
-    reached: u64,
-) -> usize
-    requires { (limit ≤ most) × (limit ≤ length list.old) × (length hints.old ≡ hint_count) }
-    ensures { (l : List ℕ) → Holds limit list.old n l
-        → Holds limit list.new result (cases (answer_from falsities reached) l (insert l)) }
-{
-    if reached & falsities != 0 {
-        return n;
-    }
-    insert(list, hints, limit, n, reached)
-}
-
-// Explores what an equation answers to each code, and inserts what is new.
-fn explore(
-    after: &[u64],
-    enabled: &[u64],
-    falsities: u64,
-    list: &mut [u64],
-    hints: &mut [u16],
-    limit: usize,
-    n: usize,
-    e: u64,
-) -> usize
-    requires { (length after.now ≡ 64) × (length enabled.now ≡ 256) × (limit ≤ most) × (limit ≤ length list.old)
-        × (length hints.old ≡ hint_count) }
-    ensures { (l : List ℕ) → Holds limit list.old n l
-        → Holds limit list.new result (explored 256 (answer_by after.now enabled.now falsities) e 256 l) }
-{
-    let mut m = n;
-    let mut c: usize = 0;
-    while c < 256 {
-        let e2 = reached(after, enabled, e, c);
-        m = insert_answer(list, hints, limit, m, falsities, e2);
-        c += 1;
-    }
-    m
-}
-
-// Expands equation k, if there is one: explores what it answers to each code.
-fn expand(
-    after: &[u64],
-    enabled: &[u64],
-    falsities: u64,
-    list: &mut [u64],
-    hints: &mut [u16],
-    limit: usize,
-    n: usize,
-    k: usize,
-) -> usize
-    requires { (length after.now ≡ 64) × (length enabled.now ≡ 256) × (limit ≤ most) × (limit ≤ length list.old)
-        × (length hints.old ≡ hint_count) }
-    ensures { (l : List ℕ) → Holds limit list.old n l
-        → Holds limit list.new result (expanded 256 (answer_by after.now enabled.now falsities) k l) }
-{
-    if limit < n {
-        return n;
-    }
-    if n <= k {
-        return n;
-    }
-    let e = list[k];
-    explore(after, enabled, falsities, list, hints, limit, n, e)
-}
-
-// Finds the equations from the first on, and says how many there are; one more than the limit where they are over it.
-pub(crate) fn search(
-    after: &[u64],
-    enabled: &[u64],
-    falsities: u64,
-    first: u64,
-    list: &mut [u64],
-    limit: usize,
-) -> usize
-    requires { (length after.now ≡ 64) × (length enabled.now ≡ 256) × (limit ≤ most) × (limit ≤ length list.old) }
-    ensures { Holds limit list.new result (found 256 (answer_by after.now enabled.now falsities) limit first) }
-{
-    let mut hints = [0u16; HINTS];
-    let mut n = insert(list, &mut hints, limit, 0, first);
-    let mut k: usize = 0;
-    while k < limit {
-        n = expand(after, enabled, falsities, list, &mut hints, limit, n, k);
-        k += 1;
-    }
-    n
+    Ok(equations)
 }

@@ -22,7 +22,7 @@ pub(crate) fn short_plan_of(rule: &[u8], long: &mut [u16]) -> ShortPlan
     requires { length long.old ≡ 256 * most }
     ensures { IsShortPlan rule.now result long.new }
 {
-    let plan = plan_of(rule, MOST);
+    let mut plan = plan_of(rule, MOST);
     let mut firsts = [0u16; MOST];
     let mut numbers = [0u16; MOST];
     let answer = plan.answer;
@@ -34,8 +34,7 @@ pub(crate) fn short_plan_of(rule: &[u8], long: &mut [u16]) -> ShortPlan
             numbers,
         };
     };
-    let found = plan.found;
-    fill_table(plan.graph, found, equations, long);
+    fill_table(&plan.graph, &mut plan.found, long);
     let count = number_classes(long, equations, &mut firsts, &mut numbers);
     ShortPlan {
         answer: Counted::Equations(count),

@@ -5,7 +5,6 @@ use mathlib.Core.Path.{◌≡◌, sym, ◌∙◌, ap}
 use mathlib.Core.List.{List}
 use native.Mathlib.Omega.{arith}
 use lib.Bits.{bit_and}
-use lib.ListN.{get_or}
 use Rattle.reading.specs.Rule.{Bytes}
 use Rattle.reading.specs.File.{Outcome, accepted, refused}
 use Rattle.reading.proofs.Basics.Outcomes.{Distinct, by_case-value, by_case-refused}
@@ -13,7 +12,7 @@ use Rattle.synthesis.specs.Monitor.{most}
 use Rattle.synthesis.specs.NodeSet.{intersection}
 use Rattle.synthesis.specs.Answering.{first_of, answer_of}
 use Rattle.synthesis.specs.Building.{synthesis_of}
-use Rattle.synthesis.specs.Arrays.{gathered, answer_by}
+use Rattle.synthesis.specs.Arrays.{reached_by, answer_by}
 use Rattle.synthesis.specs.Reason.{lowest_reason, opened_falsities, followed, explanation_of, reason_of}
 use Rattle.synthesis.specs.Plans.{IsPlan, followed_of, unexplained_of}
 use Rattle.synthesis.specs.declared.Plan.{Plan}
@@ -43,7 +42,7 @@ followed_cases = record {
 }
 
 module _ (s w : List ℕ) (bytes : Bytes w) (c : ℕ) {n : ℕ} (p : Plan) (counted : CountedPlan (synthesis_of most s) p n) (f : Followed)
-    (is : f ≡ followed_of (followed (answer_by p.graph.after p.graph.enabled p.graph.falsities) p.graph.first 0 w)) where
+    (is : f ≡ followed_of (followed (answer_by p.graph) p.graph.first 0 w)) where
   -- where the scans lead
   abbrev leads : Outcome ℕ
   leads = followed (answer_of counted.synthesis.rule) (first_of counted.synthesis.rule) 0 w
@@ -65,7 +64,7 @@ module _ (s w : List ℕ) (bytes : Bytes w) (c : ℕ) {n : ℕ} (p : Plan) (coun
 
   -- none is, and they lead to the equation e
   pub kept_reason : (e : ℕ) → f ≡ Followed'.Equation e → c < 256 → (set : ℕ)
-      → set ≡ gathered p.graph.after (intersection e (get_or p.graph.enabled c 0))
+      → set ≡ reached_by p.graph e c
       → lowest_reason (bit_and set p.graph.falsities) ≡ reason_of (explanation_of most s w c)
   unfolding explanation_of
   kept_reason e q code set reached =

@@ -3,13 +3,13 @@ use Prim.Native.Nat.{ℕ, ◌*◌, ◌≤◌, ◌<◌}
 use mathlib.Core.Path.{◌≡◌, refl, sym, ◌∙◌, ap}
 use mathlib.Core.List.{List}
 use native.Mathlib.Omega.{arith}
-use lib.ListN.{length, take}
+use lib.ListN.{length}
 use Rattle.reading.specs.File.{Outcome, accepted, refused, and_then}
-use Rattle.synthesis.specs.Monitor.{mark, most, Answer}
+use Rattle.synthesis.specs.Monitor.{mark, Answer}
 use Rattle.synthesis.specs.Answering.{answer_of}
 use Rattle.synthesis.specs.Table.{filled}
 use Rattle.synthesis.specs.Building.{Synthesis, in_table, counted_of, table_after}
-use Rattle.synthesis.specs.Arrays.{answer_by, Distinct}
+use Rattle.synthesis.specs.Arrays.{answer_by}
 use Rattle.synthesis.specs.Plans.{PlanFor, CanFill, IsPlan}
 use Rattle.synthesis.specs.declared.Plan.{Plan}
 use Rattle.synthesis.proofs.Tables.FilledTables.{filled_cong}
@@ -59,32 +59,15 @@ pub plan_counted : {o : Outcome Synthesis} (p : Plan) (n : ℕ) → IsPlan o p �
 plan_counted {o} p n is e = outcome_counted o p n (sym e ∙ is.answer_is) is.fills
 
 module _ {o : Outcome Synthesis} {p : Plan} {n : ℕ} (c : CountedPlan o p n) where
-  pub counted_few : n ≤ most
-  counted_few = omega (arith, c.count_is, c.fills.few)
-
-  found_front : take n p.found ≡ c.synthesis.equations
-  found_front = ap (λ (k : ℕ). take k p.found) c.count_is ∙ c.fills.found_is
-
   -- what filling from it needs
-  pub counted_fills : (capacity : ℕ) → 256 * n ≤ capacity
-      → (length p.graph.after ≡ 64) × (length p.graph.enabled ≡ 256) × (n ≤ most) × (n ≤ length p.found) × Distinct (take n p.found)
-      × (256 * n ≤ capacity)
-  counted_fills capacity room = (
-    c.fills.graph_is.after_length,
-    c.fills.graph_is.enabled_length,
-    counted_few,
-    omega (arith, counted_few, c.fills.found_length),
-    rw found_front c.fills.distinct,
-    room,
-  )
+  pub counted_fills : (capacity : ℕ) → 256 * n ≤ capacity → 256 * length p.found.equations ≤ capacity
+  counted_fills capacity room = omega (arith, room, c.count_is, ap length c.fills.found_is)
 
   -- and what it gives
-  pub plan_filled : (table after : List ℕ)
-      → after ≡ filled mark (answer_by p.graph.after p.graph.enabled p.graph.falsities) (take n p.found) 256 table
+  pub plan_filled : (table after : List ℕ) → after ≡ filled mark (answer_by p.graph) p.found.equations 256 table
       → after ≡ filled mark c.synthesis.answer c.synthesis.equations 256 table
   plan_filled table after e =
-      let answers = answer_by p.graph.after p.graph.enabled p.graph.falsities in
       let agree = graph_answers p.graph c.fills.graph_is in
-      e ∙ ap (λ (l : List ℕ). filled mark answers l 256 table) found_front
-      ∙ filled_cong mark 256 answers (answer_of c.synthesis.rule) c.synthesis.equations (λ i c h. agree _ c) table
+      e ∙ ap (λ (l : List ℕ). filled mark (answer_by p.graph) l 256 table) c.fills.found_is
+      ∙ filled_cong mark 256 (answer_by p.graph) (answer_of c.synthesis.rule) c.synthesis.equations (λ i c h. agree _ c) table
       ∙ ap (λ (a : ℕ → ℕ → Answer ℕ). filled mark a c.synthesis.equations 256 table) (sym c.fills.answer_is)

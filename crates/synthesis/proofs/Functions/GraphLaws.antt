@@ -16,7 +16,7 @@ use Rattle.synthesis.specs.NodeSet.{Has, intersection}
 use Rattle.synthesis.specs.Opening.{IsFalsity}
 use Rattle.synthesis.specs.Answering.{falsities, reached, first_of, answer_from, answer_of}
 use Rattle.synthesis.specs.Reason.{opened_falsities}
-use Rattle.synthesis.specs.Arrays.{RuleArrays, SomeNode, SomeNumbered, IsOpening, HasKind, IsGraph, gathered, answer_by}
+use Rattle.synthesis.specs.Arrays.{RuleArrays, SomeNode, SomeNumbered, IsOpening, HasKind, IsGraph, reached_by, answer_by}
 use Rattle.synthesis.specs.declared.graph.Graph.{Graph}
 use Rattle.synthesis.proofs.Unfolding.NodeSetLaws.{same_members_same_set, has_common}
 use Rattle.synthesis.proofs.Unfolding.NodeWise.{falsities_has, reached_has}
@@ -62,10 +62,10 @@ module _ {r : Rule} (g : Graph) (is : IsGraph r g) (e c : ℕ) (code : c < 256) 
   abbrev led : ℕ
   led = reached (covered_by r.patterns) e c 0 [] r.formula
 
-  gathered_reached : (m : ℕ) → Has (gathered g.after live) m ↔ Has led m
+  gathered_reached : (m : ℕ) → Has (reached_by g e c) m ↔ Has led m
   gathered_reached m = (gathered_in_reached, reached_in_gathered)
     where
-      gathered_in_reached : Has (gathered g.after live) m → Has led m
+      gathered_in_reached : Has (reached_by g e c) m → Has led m
       gathered_in_reached h =
           let (n, shared, opened) = (gathered_has g.after live m).0 h in
           let (member, enabled) = (has_common e (get_or g.enabled c 0) n).0 shared in
@@ -73,7 +73,7 @@ module _ {r : Rule} (g : Graph) (is : IsGraph r g) (e c : ℕ) (code : c < 256) 
           (reached_has (covered_by r.patterns) r.formula e c m).1
           (n, p, ms, f, node, member, covers, subst (λ s. Has s m) (is.after_is.is n p ms f node) opened)
 
-      reached_in_gathered : Has led m → Has (gathered g.after live) m
+      reached_in_gathered : Has led m → Has (reached_by g e c) m
       reached_in_gathered h =
           let (n, p, ms, f, node, member, covers, opened) = (reached_has (covered_by r.patterns) r.formula e c m).0 h in
           (gathered_has g.after live m).1 (
@@ -82,15 +82,15 @@ module _ {r : Rule} (g : Graph) (is : IsGraph r g) (e c : ℕ) (code : c < 256) 
             subst (λ s. Has s m) (sym (is.after_is.is n p ms f node)) opened,
           )
 
-  graph_reaches : gathered g.after live ≡ led
+  graph_reaches : reached_by g e c ≡ led
   graph_reaches = same_members_same_set _ _ gathered_reached
 
   -- What the arrays of a graph answer is what the rule's equations answer.
-  pub graph_answers : answer_by g.after g.enabled g.falsities e c ≡ answer_of r e c
+  pub graph_answers : answer_by g e c ≡ answer_of r e c
   unfolding answer_by answer_of
   graph_answers = rw is.falsities_are (ap (answer_from (falsities 0 r.formula)) graph_reaches)
 
   -- The ff nodes among what they reach are those that the members open.
-  pub graph_opens : intersection (gathered g.after live) g.falsities ≡ opened_falsities r e c
+  pub graph_opens : intersection (reached_by g e c) g.falsities ≡ opened_falsities r e c
   unfolding opened_falsities
   graph_opens = rw (is.falsities_are, graph_reaches)

@@ -1,17 +1,21 @@
 -- Laws of the index of a number in a list, and of lists whose numbers are distinct, by induction on the list.
 use Prim.Native.Nat.{ℕ, zero, suc, ◌≤◌, ◌<◌}
 use mathlib.Core.Path.{◌≡◌, refl, sym, ◌∙◌, ap}
-use mathlib.Core.Logic.{inl, inr}
 use mathlib.Core.Bool.{Bool, true, false, cond, ◌&&◌, true≢false}
 use mathlib.Core.List.{List, [], ◌∷◌, ◌++◌}
 use native.Mathlib.Decide.{dec_lt}
 use native.Mathlib.Omega.{arith}
 use lib.Dec.{eqb, ltb}
-use lib.ListN.{length, get_or, take, length-append, get_or-append}
-use lib.Seq.{length-take-le, get_or-take, get_or_at}
+use lib.ListN.{length, get_or, length-append, get_or-append}
+use lib.Seq.{get_or_at}
+use Rattle.std.specs.Prelude.{◌==◌, Some, None}
+use Rattle.std.specs.List.{position}
+use Rattle.std.specs.Option.{is_some, unwrap_or}
+use Rattle.std.proofs.lemmas.Bool.Decides.{nat_tests}
+use Rattle.std.proofs.lemmas.List.Recursion.{is_position_or_len}
 use borrow.Author.Tests.{eq-eqb, eqb-true, eqb-false, ltb-true, ltb-false, lt-ltb, le-ltb}
 use Rattle.synthesis.specs.Search.{index_of, insert}
-use Rattle.synthesis.specs.Arrays.{IsPlaceOf, Distinct}
+use Rattle.synthesis.specs.Arrays.{Distinct}
 
 abbrev pub Member : ℕ → List ℕ → Type 0
 Member e l = index_of e l < length l
@@ -46,70 +50,44 @@ index_first e (x ∷ l) (suc i) h p = step_le (eqb e x) (index_of e l) i (index_
 pub member_at : (e : ℕ) (l : List ℕ) (i : ℕ) → i < length l → get_or l i 0 ≡ e → Member e l
 member_at e l i h p = omega (arith, index_first e l i h p)
 
--- ---- the index among the first n of a list
+-- ---- the index as std finds it
 
--- none of the first i of a list is e
-abbrev pub AbsentBelow : ℕ → List ℕ → ℕ → Type 0
-AbsentBelow e l i = (j : ℕ) → j < i → get_or l j 0 ≡ e → ⊥
+module _ (e : ℕ) (l : List ℕ) where
+  pub position_is : position (λ x. x == e) l ≡ cond (ltb (index_of e l) (length l)) (Some (index_of e l)) None
+  position_is =
+      ap (λ (n : ℕ). cond (ltb n (length l)) (Some n) None)
+      (sym (is_position_or_len (index_of e) (λ x. x == e) refl (λ x xs. grind (arith, nat_tests)) l))
 
-module _ (e : ℕ) (l : List ℕ) (n : ℕ) (inside : n ≤ length l) where
-  pub take_index_le : index_of e (take n l) ≤ n
-  take_index_le = omega (arith, index_le e (take n l), length-take-le n l inside)
-
-  index_not_before : (i : ℕ) → i ≤ n → AbsentBelow e l i → i ≤ index_of e (take n l)
-  index_not_before i h absent = on (dec_lt (index_of e (take n l)) i)
+  -- a place of a number among distinct ones, as a test tells it, is its index
+  pub position_at : Distinct l → (i : ℕ) → (ltb i (length l) && eqb (get_or l i 0) e) ≡ true → Some i ≡ position (λ x. x == e) l
+  position_at d i = on (ltb i (length l)) refl (eqb (get_or l i 0) e) refl
     where
-      on : Dec (index_of e (take n l) < i) → i ≤ index_of e (take n l)
-      on (yes a) =
-          let is : get_or (take n l) (index_of e (take n l)) 0 ≡ e = index_is e (take n l) (omega (arith, length-take-le n l inside)) in
-          absurd (absent (index_of e (take n l)) a (sym (get_or-take n l (index_of e (take n l)) 0 (omega arith)) ∙ is))
-      on (no a) = omega arith
+      on : (b : Bool) → ltb i (length l) ≡ b → (b' : Bool) → eqb (get_or l i 0) e ≡ b' → (b && b') ≡ true → Some i ≡ position (λ x. x == e) l
+      on true p true q t =
+          let h = ltb-true i (length l) p in
+          let index : index_of e l ≡ i = rw (eqb-true (get_or l i 0) e q) at (d i h) in
+          rw (position_is, index, p)
+      on true p false q t = absurd (true≢false (sym t))
+      on false p b' q t = absurd (true≢false (sym t))
 
-  pub take_index : (i : ℕ) → i < n → AbsentBelow e l i → get_or l i 0 ≡ e → index_of e (take n l) ≡ i
-  take_index i h absent is =
-      let within : i < length (take n l) = omega (arith, length-take-le n l inside) in
-      omega (arith, index_not_before i (omega arith) absent, index_first e (take n l) i within (get_or-take n l i 0 h ∙ is))
+  pub position_some : is_some (position (λ x. x == e) l) ≡ true → Member e l
+  position_some h = on (ltb (index_of e l) (length l)) refl (rw position_is at h)
+    where
+      on : (b : Bool) → ltb (index_of e l) (length l) ≡ b → is_some (cond b (Some (index_of e l)) None) ≡ true → Member e l
+      on true q t = ltb-true _ _ q
+      on false q t = absurd (true≢false (sym t))
 
-  pub take_absent : AbsentBelow e l n → index_of e (take n l) ≡ n
-  take_absent absent = omega (arith, index_not_before n (omega arith) absent, take_index_le)
+  pub position_none : is_some (position (λ x. x == e) l) ≡ false → Member e l → ⊥
+  position_none h m =
+      let t : is_some (position (λ x. x == e) l) ≡ true = rw (position_is, lt-ltb _ _ m) refl in
+      true≢false (sym t ∙ h)
 
--- ---- a place of a number
-
--- as a test tells it
-pub take_place : (e : ℕ) (l : List ℕ) (n : ℕ) → n ≤ length l → (i : ℕ) → (ltb i n && eqb (get_or l i 0) e) ≡ true → IsPlaceOf e (take n l) i
-take_place e l n inside i = on (ltb i n) refl (eqb (get_or l i 0) e) refl
-  where
-    on : (b : Bool) → ltb i n ≡ b → (b' : Bool) → eqb (get_or l i 0) e ≡ b' → (b && b') ≡ true → IsPlaceOf e (take n l) i
-    on true p true q t =
-        let h = ltb-true i n p in
-        inl (omega (arith, h, length-take-le n l inside), get_or-take n l i 0 h ∙ eqb-true (get_or l i 0) e q)
-    on true p false q t = absurd (true≢false (sym t))
-    on false p b' q t = absurd (true≢false (sym t))
-
-pub index_place : (e : ℕ) (l : List ℕ) → IsPlaceOf e l (index_of e l)
-index_place e l = on (dec_lt (index_of e l) (length l))
-  where
-    on : Dec (index_of e l < length l) → IsPlaceOf e l (index_of e l)
-    on (yes h) = inl (h, index_is e l h)
-    on (no h) = inr (omega (arith, index_le e l), refl)
-
-module _ (e : ℕ) (l : List ℕ) (i : ℕ) where
-  pub place_inside : IsPlaceOf e l i → i < length l → Member e l
-  place_inside (inl p) h = member_at e l i p.0 p.1
-  place_inside (inr p) h = absurd (omega arith)
-
-  pub place_none : IsPlaceOf e l i → length l ≤ i → length l ≤ index_of e l
-  place_none (inl p) h = absurd (omega arith)
-  place_none (inr p) h = omega arith
-
-  pub place_le : IsPlaceOf e l i → i ≤ length l
-  place_le (inl p) = omega arith
-  place_le (inr p) = omega arith
-
-  -- among distinct numbers there is only one
-  pub place_index : Distinct l → IsPlaceOf e l i → i ≡ index_of e l
-  place_index d (inl p) = sym (rw p.1 at (d i p.0))
-  place_index d (inr p) = sym p.1
+  pub position_or_length : unwrap_or (position (λ x. x == e) l) (length l) ≡ index_of e l
+  position_or_length = rw position_is (on (ltb (index_of e l) (length l)) refl)
+    where
+      on : (b : Bool) → ltb (index_of e l) (length l) ≡ b → unwrap_or (cond b (Some (index_of e l)) None) (length l) ≡ index_of e l
+      on true q = refl
+      on false q = omega (arith, ltb-false _ _ q, index_le e l)
 
 -- ---- longer lists
 

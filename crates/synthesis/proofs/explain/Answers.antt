@@ -12,11 +12,11 @@ returns-in-Equation c =
     let x = c.args in
     let counted = plan_counted _ _ c.plan_of-plan.ensures c.in-Equations.is in
     c.lowest.ensures
-    ∙ kept_reason x.rule.now x.kept.now (slice_bytes x.kept.now c.type_inv.kept) x.scan _ counted _ c.follow-followed.ensures _ c.in-Equation.is
+    ∙ kept_reason x.rule.now x.kept.now (slice_bytes x.kept.now c.type_inv.kept) x.scan _ counted _ c.follow.ensures _ c.in-Equation.is
     c.ranges.scan.fits _ c.reached-reached.ensures
 
 pub returns-in-Refused : goal.returns-in-Refused
 returns-in-Refused c =
     let x = c.args in
     let counted = plan_counted _ _ c.plan_of-plan.ensures c.in-Equations.is in
-    dropped_reason x.rule.now x.kept.now (slice_bytes x.kept.now c.type_inv.kept) x.scan _ counted _ c.follow-followed.ensures _ _ c.in-Refused.is
+    dropped_reason x.rule.now x.kept.now (slice_bytes x.kept.now c.type_inv.kept) x.scan _ counted _ c.follow.ensures _ _ c.in-Refused.is

@@ -1,4 +1,3 @@
-use Rattle.std.proofs.Common.{rules, arith}
 use Rattle.reading.proofs.Basics.ByteLaws.{slice_bytes}
 use Rattle.synthesis.proofs.Functions.PlanLaws.{unread_plan, reading_read, read_some_numbered, unsatisfiable_plan, many_plan, counted_plan}
 use Rattle.synthesis.proofs.plan_of.Goals as goal
@@ -17,16 +16,14 @@ returns-then-graph-ne0 c =
     let read = reading_read s (slice_bytes s c.type_inv.rule) _ c.read_rule-reading.ensures c.in-Accepted.is in
     unsatisfiable_plan read _ c.of_rule-graph.ensures _ c.if-graph-ne0.true c.no_plan-then-graph-ne0.ensures
 
-pub returns-then-limit-count : goal.returns-then-limit-count
-returns-then-limit-count c =
+pub returns-in_default-search : goal.returns-in_default-search
+returns-in_default-search c =
     let s = c.args.rule.now in
     let read = reading_read s (slice_bytes s c.type_inv.rule) _ c.read_rule-reading.ensures c.in-Accepted.is in
-    many_plan read _ c.of_rule-graph.ensures _ c.if-graph-ne0.false _ _ c.search-count.ensures c.if-limit-count.true
-    c.no_plan-then-limit-count.ensures
+    many_plan read _ c.of_rule-graph.ensures _ c.if-graph-ne0.false c.in_default-search.ensures c.no_plan-in_default-search.ensures
 
 pub returns : goal.returns
 returns c =
     let s = c.args.rule.now in
     let read = reading_read s (slice_bytes s c.type_inv.rule) _ c.read_rule-reading.ensures c.in-Accepted.is in
-    counted_plan read _ c.of_rule-graph.ensures _ c.if-graph-ne0.false _ _ c.search-count.ensures c.requires c.if-limit-count.false
-    (search rules)
+    counted_plan read _ c.of_rule-graph.ensures _ c.if-graph-ne0.false _ c.in-Ok.ensures _ c.len.ensures.value c.len.ensures.within.0 c.len.ensures.within.1

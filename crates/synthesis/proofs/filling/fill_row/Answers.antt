@@ -1,17 +1,15 @@
-use Rattle.std.proofs.Common.{refl, arith}
+use Rattle.std.proofs.Common.{refl, ◌∙◌, arith}
 use Rattle.synthesis.specs.Monitor.{mark}
 use Rattle.synthesis.specs.Table.{entries_of}
-use Rattle.synthesis.specs.Arrays.{answer_by}
 use Rattle.synthesis.proofs.Functions.FillingRows.{entries_next}
 use Rattle.synthesis.proofs.filling.fill_row.Goals as goal
 
-pub loop-c-init : goal.loop-c-init
+pub loop-code-init : goal.loop-code-init
 unfolding entries_of
-loop-c-init c = record { in_range = omega arith; filled = refl }
+loop-code-init c = record { same = refl; filled = refl }
 
-pub loop-c-preserved : goal.loop-c-preserved
-unfolding answer_by
-loop-c-preserved c = record {
-  in_range = omega arith;
-  filled = entries_next mark _ _ _ _ _ _ c.loop-c.invariant.filled _ (omega arith) (rw c.reached-e2.ensures at c.entry.ensures);
+pub loop-code-preserved : goal.loop-code-preserved
+loop-code-preserved c = record {
+  same = c.entry.ensures.same ∙ c.loop-code.invariant.same;
+  filled = entries_next mark _ _ _ _ _ _ c.loop-code.invariant.filled _ (omega arith) (rw c.loop-code.invariant.same at c.entry.ensures.value);
 }

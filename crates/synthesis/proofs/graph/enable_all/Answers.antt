@@ -3,7 +3,7 @@ use Rattle.synthesis.proofs.Functions.EnabledLaws.{enabled_none, enabled_all}
 use Rattle.synthesis.proofs.graph.enable_all.Goals as goal
 
 pub loop-k-init : goal.loop-k-init
-loop-k-init c r num = rw c.requires.1 (enabled_none r 256)
+loop-k-init c r num = enabled_none r 256
 
 pub returns : goal.returns
 returns c r num = enabled_all (omega (arith, num.nnodes_is)) (c.loop-k.invariant r num)

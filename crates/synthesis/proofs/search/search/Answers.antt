@@ -1,11 +1,33 @@
-use Rattle.std.proofs.Common.{[], inl, refl, add-one, arith}
+use Rattle.std.proofs.Common.{◌+◌, ◌<◌, length, refl, ◌∙◌, add-one, arith}
+use Rattle.std.proofs.lemmas.Result.{MatchResult-from_err}
 use Rattle.synthesis.specs.Search.{found}
+use Rattle.synthesis.specs.Arrays.{answer_by}
+use Rattle.synthesis.proofs.Functions.FoundLaws.{found_next, found_longer}
 use Rattle.synthesis.proofs.search.search.Goals as goal
+
+pub returns-in_err-insert : goal.returns-in_err-insert
+unfolding found
+returns-in_err-insert c =
+    let x = c.args in
+    let answer = answer_by x.graph.now in
+    let over : x.limit < length (found 256 answer 0 x.graph.now.first) = rw c.new-equations.ensures at c.in_err-insert.ensures in
+    MatchResult-from_err _ _ _ c.from_residual.ensures.0 (λ _. omega (arith, over, found_longer 256 answer 0 x.limit x.graph.now.first (omega arith)))
 
 pub loop-k-init : goal.loop-k-init
 unfolding found
-loop-k-init c = record { in_range = omega arith; holds = c.insert-n.ensures [] (inl (omega arith, refl)) }
+loop-k-init c = c.in_ok-insert.ensures ∙ rw c.new-equations.ensures refl
+
+pub returns-in_err-expand : goal.returns-in_err-expand
+returns-in_err-expand c =
+    let x = c.args in
+    let k = c.loop-k.k in
+    let answer = answer_by x.graph.now in
+    let over : x.limit < length (found 256 answer (k + 1) x.graph.now.first) =
+    rw (add-one k, found_next 256 answer k x.graph.now.first) (rw c.loop-k.invariant at c.in_err-expand.ensures) in
+    MatchResult-from_err _ _ _ c.from_residual-in_err-expand.ensures.0
+    (λ _. omega (arith, over, found_longer 256 answer (k + 1) x.limit x.graph.now.first (omega arith)))
 
 pub loop-k-preserved : goal.loop-k-preserved
-unfolding found
-loop-k-preserved c = record { in_range = omega arith; holds = rw (add-one c.loop-k.k) (c.expand-n.ensures _ c.loop-k.invariant.holds) }
+loop-k-preserved c =
+    c.in_ok-expand.ensures
+    ∙ rw (add-one c.loop-k.k, found_next 256 (answer_by c.args.graph.now) c.loop-k.k c.args.graph.now.first, c.loop-k.invariant) refl

@@ -1,7 +1,7 @@
 use Rattle.std.proofs.Common.{◌<◌, ◌^◌, sym, ◌∙◌, arith}
 use Rattle.synthesis.proofs.Unfolding.NodeSetLaws.{toggled_lt, without_lowest}
 use Rattle.synthesis.proofs.Functions.Gathering.{gather_step, gather_none, has_lowest}
-use Rattle.synthesis.proofs.search.gather.Goals as goal
+use Rattle.synthesis.proofs.graph.gather.Goals as goal
 
 pub loop-rest-preserved : goal.loop-rest-preserved
 loop-rest-preserved c =

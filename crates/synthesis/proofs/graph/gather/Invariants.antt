@@ -2,7 +2,7 @@
 use Rattle.std.proofs.Common.{◌≡◌, ◌≤◌}
 use Rattle.synthesis.specs.NodeSet.{union}
 use Rattle.synthesis.specs.Arrays.{gathered}
-use Rattle.synthesis.proofs.search.gather.Given as goal
+use Rattle.synthesis.proofs.graph.gather.Given as goal
 
 abbrev pub invariant-loop-rest : goal.invariant-loop-rest
 invariant-loop-rest l = record { fewer : l.rest ≤ l.live; gathered_so_far : union l.all (gathered l.sets l.rest) ≡ gathered l.sets l.live }
