@@ -225,12 +225,10 @@ pub fn fill_short(rule: &[u8], table: &mut [u16]) -> Counted
 pub fn row(table: &[u16], k: usize) -> &[u16]
     ensures { result.now ≡ row_of 256 table.now k }
 {
-    if k < table.len() / 256 {
-        let from = 256 * k;
-        let to = from + 256;
-        return &table[from..to];
+    match table.as_chunks::<256>().0.get(k) {
+        Some(row) => row,
+        None => &[],
     }
-    &table[0..0]
 }
 
 // Answers why a scan is dropped after the scans kept so far, by the lowest ff node that it opens, or that it is kept. A refusal of 1 to 9, or 17 where
