@@ -209,15 +209,14 @@ pub fn fill_short(rule: &[u8], table: &mut [u16]) -> Counted
     let mut long = [0u16; LONGEST];
     let plan = shortening::short_plan_of(rule, &mut long);
     let answer = plan.answer;
-    let Counted::Equations(m) = answer else {
+    let Counted::Equations(_) = answer else {
         return answer;
     };
-    if table.len() < 256 * m {
+    let numbering = plan.numbering;
+    if table.len() < 256 * numbering.count {
         return Counted::Refused(10, 0);
     }
-    let firsts = plan.firsts;
-    let numbers = plan.numbers;
-    renumbering::fill_short_rows(&long, plan.equations, &firsts, m, &numbers, table);
+    numbering.fill(&long, table);
     answer
 }
 

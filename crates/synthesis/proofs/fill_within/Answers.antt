@@ -1,9 +1,9 @@
-use Rattle.std.proofs.Common.{min, refl, sym, ◌∙◌, arith}
+use Rattle.std.proofs.Common.{min, refl, sym, ◌∙◌}
 use Rattle.synthesis.specs.Monitor.{most}
 use Rattle.synthesis.specs.Building.{synthesis_of}
 use Rattle.synthesis.specs.Plans.{IsPlan}
 use Rattle.synthesis.proofs.Tables.SynthesisOutcomes.{filling_by_count}
-use Rattle.synthesis.proofs.Functions.FillingWays.{refused_leaves, too_short_leaves, filled_leaves, plan_counted, counted_fills, plan_filled}
+use Rattle.synthesis.proofs.Functions.FillingWays.{refused_leaves, too_short_leaves, filled_leaves, plan_counted, plan_filled}
 use Rattle.synthesis.proofs.fill_within.Goals as goal
 
 pub returns-in_default : goal.returns-in_default
