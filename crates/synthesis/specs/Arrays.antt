@@ -7,7 +7,8 @@ use Rattle.reading.specs.Pattern.{covers}
 use Rattle.reading.specs.declared.Pattern.{Pattern}
 use Rattle.reading.specs.declared.NumberedRule.{NumberedRule}
 use Rattle.synthesis.specs.Violation.{covered_by}
-use Rattle.synthesis.specs.Monitor.{Answer, most}
+use Rattle.synthesis.specs.Monitor.{mark, most, Answer}
+use Rattle.synthesis.specs.Table.{WellFormedTable}
 use Rattle.synthesis.specs.Search.{index_of}
 use Rattle.synthesis.specs.Merging.{firsts}
 use Rattle.synthesis.specs.NodeSet.{Has, has, empty_set, singleton, union, intersection}
@@ -148,6 +149,11 @@ pub record AreClasses (n : ℕ) (classes : List ℕ) : Type 0 where
 -- The class of each equation is that of an equation which isn't after it.
 abbrev pub ClassesEarlier : List ℕ → Type 0
 ClassesEarlier classes = (j : ℕ) → j < length classes → get_or classes j 0 ≤ j
+
+-- What a round starts from: a long table that is well formed, and classes of its equations.
+pub record CanRefine (long classes : List ℕ) : Type 0 where
+  pub well_formed : WellFormedTable most mark (length classes) long
+  pub earlier : ClassesEarlier classes
 
 -- Each of n equations has a number: where the class of the equation stands in a list.
 pub record AreNumbers (n : ℕ) (classes listed numbers : List ℕ) : Type 0 where

@@ -1,4 +1,4 @@
--- In the order in which to read them. `Arrays` and `Plans` serve the crate's own functions alone.
+-- In the order in which to read them. `Arrays`, `Numbering` and `Plans` serve the crate's own functions alone.
 pub mod Violation
 pub mod Alike
 pub mod Joined
@@ -19,4 +19,5 @@ pub mod PreviewPromises
 pub mod AlikePromises
 pub mod JoinPromises
 pub mod Arrays
+pub mod Numbering
 pub mod Plans

@@ -6,13 +6,15 @@ use Rattle.reading.specs.declared.FileRead.TheVariants.{Accepted, Refused}
 use Rattle.synthesis.specs.Monitor.{mark, most, lookup}
 use Rattle.synthesis.specs.Answering.{answer_of}
 use Rattle.synthesis.specs.Table.{WellFormedTable}
-use Rattle.synthesis.specs.Building.{Synthesis, synthesis_of, counted_of, page_number, numbered_answer, classes_of, shortened, short_of}
-use Rattle.synthesis.specs.Arrays.{IsGraph, ClassesNumbered}
+use Rattle.synthesis.specs.Building.{Synthesis, synthesis_of, counted_of, page_number, numbered_answer, classes_of, short_of}
+use Rattle.synthesis.specs.Arrays.{IsGraph}
+use Rattle.synthesis.specs.Numbering.{IsNumberingOf}
 use Rattle.synthesis.specs.declared.Counted.{Counted}
 use Rattle.synthesis.specs.declared.Counted.TheVariants as counted
 use Rattle.synthesis.specs.declared.Plan.{Plan}
 use Rattle.synthesis.specs.declared.Reason.{Reason}
 use Rattle.synthesis.specs.declared.Reason.TheVariants as Reason'
+use Rattle.synthesis.specs.declared.renumbering.Numbering.{Numbering}
 use Rattle.synthesis.specs.declared.shortening.ShortPlan.{ShortPlan}
 use Rattle.synthesis.specs.declared.explaining.Followed.{Followed}
 use Rattle.synthesis.specs.declared.explaining.Followed.TheVariants as Followed'
@@ -46,22 +48,20 @@ pub record IsPlan (o : Outcome Synthesis) (p : Plan) : Type 0 where
 -- ---- the short table
 
 -- What the short table of a synthesis is filled from: a long table that answers as its equations do, by their numbers, and the numbers of their classes.
-pub record ShortPlanFor (y : Synthesis) (p : ShortPlan) (long : List ℕ) : Type 0 where
-  pub count_is : p.equations ≡ length y.equations
-  pub well_formed : WellFormedTable most mark p.equations long
-  pub answers : (k c : ℕ) → k < p.equations → c < 256 → lookup 256 mark long k c ≡ numbered_answer y k c
-  pub numbered : ClassesNumbered p.equations (classes_of y) (length (shortened y).equations) p.firsts p.numbers
-  pub firsts_length : length p.firsts ≡ most
-  pub numbers_length : length p.numbers ≡ most
+pub record ShortPlanFor (y : Synthesis) (n : Numbering) (long : List ℕ) : Type 0 where
+  pub all : n.equations ≡ length y.equations
+  pub well_formed : WellFormedTable most mark n.equations long
+  pub answers : (k c : ℕ) → k < n.equations → c < 256 → lookup 256 mark long k c ≡ numbered_answer y k c
+  pub numbered : IsNumberingOf (classes_of y) n
 
-abbrev pub CanFillShort : Outcome Synthesis → ShortPlan → (long : List ℕ) → Type 0
-CanFillShort (accepted y) p long = ShortPlanFor y p long
-CanFillShort (refused number place) p long = Unit
+abbrev pub CanFillShort : Outcome Synthesis → Numbering → (long : List ℕ) → Type 0
+CanFillShort (accepted y) n long = ShortPlanFor y n long
+CanFillShort (refused number place) n long = Unit
 
 -- the plan of a rule file
 pub record IsShortPlan (s : List ℕ) (p : ShortPlan) (long : List ℕ) : Type 0 where
   pub answer_is : p.answer ≡ counted_of (short_of most s)
-  pub fills : CanFillShort (synthesis_of most s) p long
+  pub fills : CanFillShort (synthesis_of most s) p.numbering long
 
 -- ---- reasons
 

@@ -188,15 +188,14 @@ pub fn fill_short(rule: &[u8], table: &mut [u16]) -> Counted
     let mut long = [0u16; LONGEST];
     let plan = shortening::short_plan_of(rule, &mut long);
     let answer = plan.answer;
-    let Counted::Equations(m) = answer else {
+    let Counted::Equations(_) = answer else {
         return answer;
     };
-    if table.len() < 256 * m {
+    let numbering = plan.numbering;
+    if table.len() < 256 * numbering.count {
         return Counted::Refused(10, 0);
     }
-    let firsts = plan.firsts;
-    let numbers = plan.numbers;
-    renumbering::fill_short_rows(&long, plan.equations, &firsts, m, &numbers, table);
+    numbering.fill(&long, table);
     answer
 }
 
@@ -204,12 +203,10 @@ pub fn fill_short(rule: &[u8], table: &mut [u16]) -> Counted
 pub fn row(table: &[u16], k: usize) -> &[u16]
     ensures { result.now ≡ row_of 256 table.now k }
 {
-    if k < table.len() / 256 {
-        let from = 256 * k;
-        let to = from + 256;
-        return &table[from..to];
+    match table.as_chunks::<256>().0.get(k) {
+        Some(row) => row,
+        None => &[],
     }
-    &table[0..0]
 }
 
 // Answers why a scan is dropped after the scans kept so far, by the lowest ff node that it opens, or that it is kept. A refusal of 1 to 9, or 17 where

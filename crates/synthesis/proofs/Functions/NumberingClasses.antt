@@ -1,21 +1,19 @@
 -- Laws of the arrays that number classes, equation by equation. The first equation of a new class goes last, so the classes before it keep their
 -- numbers; any other class has a number already.
-use Prim.Native.Nat.{ℕ, suc, ◌+◌, ◌≤◌, ◌<◌}
-use mathlib.Core.Path.{◌≡◌, refl, sym, ◌∙◌, ap}
+use Prim.Native.Nat.{ℕ, suc, ◌+◌, ◌<◌}
+use mathlib.Core.Path.{◌≡◌, sym, ◌∙◌, ap}
 use mathlib.Core.List.{List, [], ◌∷◌, ◌++◌}
 use native.Mathlib.Decide.{dec_lt}
 use native.Mathlib.Numerals.{add-one}
 use native.Mathlib.Omega.{arith}
 use lib.ListN.{length, get_or, take, set, length-append}
-use lib.Seq.{get_or-set_same, get_or-set_other, get_or-take, take-suc-set}
+use lib.Seq.{get_or-set_same, get_or-set_other, take-suc-set}
 use borrow.Author.Tests.{eq-eqb, ne_eqb}
-use Rattle.reading.specs.Rule.{All}
-use Rattle.reading.proofs.Basics.AllLaws.{all_map}
 use Rattle.synthesis.specs.Search.{index_of}
 use Rattle.synthesis.specs.Merging.{firsts}
 use Rattle.synthesis.specs.Arrays.{AreNumbers, ClassesNumbered}
 use Rattle.synthesis.proofs.Numberings.Indices.{index_append, index_new}
-use Rattle.synthesis.proofs.Quotients.Firsts.{member_first, firsts_all, firsts_length}
+use Rattle.synthesis.proofs.Quotients.Firsts.{member_first}
 
 -- ---- numbers
 
@@ -37,13 +35,6 @@ module _ (classes : List ℕ) (n : ℕ) (listed numbers : List ℕ) (was : AreNu
     below = λ k h. omega (arith, was.below k h, length-append listed rest);
   }
 
-  -- the front of the array
-  pub numbers_front : AreNumbers n classes listed (take n numbers)
-  numbers_front = record {
-    is = λ k h. rw (get_or-take n numbers k 0 h) (was.is k h);
-    below = λ k h. rw (get_or-take n numbers k 0 h) (was.below k h);
-  }
-
 -- ---- the first equations
 
 module _ (classes : List ℕ) (n : ℕ) where
@@ -55,24 +46,9 @@ module _ (classes : List ℕ) (n : ℕ) where
   unfolding firsts
   firsts_old e = rw (ne_eqb (get_or classes n 0) n e)
 
--- of no equations
-pub numbered_none : (classes array numbers : List ℕ) → ClassesNumbered 0 classes 0 array numbers
-unfolding firsts
-numbered_none classes array numbers = record {
-  firsts_are = refl;
-  count_is = refl;
-  numbers_are = record { is = λ k h. absurd (omega arith); below = λ k h. absurd (omega arith) };
-}
-
 module _ (classes : List ℕ) (n m : ℕ) (array numbers : List ℕ) (was : ClassesNumbered n classes m array numbers) where
-  pub numbered_few : m ≤ n
-  numbered_few = omega (arith, was.count_is, firsts_length classes n)
-
   pub numbered_front : AreNumbers n classes (take m array) numbers
   numbered_front = rw was.firsts_are was.numbers_are
-
-  pub numbered_inside : All (λ k. k < n) (take m array)
-  numbered_inside = rw was.firsts_are (all_map (firsts classes n) (λ k f. f.below) (firsts_all classes n))
 
   -- ---- one equation more
 

@@ -1,15 +1,16 @@
 -- The rows of any table: row k is the 256 elements from 256 × k on where the table has them all, and else it has no entry.
-use Prim.Native.Nat.{ℕ, suc, ◌+◌, ◌*◌, ◌≤◌, ◌<◌}
-use mathlib.Core.Path.{◌≡◌, refl, ap, ◌∙◌}
+use Prim.Native.Nat.{ℕ, zero, suc, ◌+◌, ◌*◌, ◌/◌, ◌≤◌, ◌<◌}
+use mathlib.Core.Path.{◌≡◌, refl, sym, ap, ◌∙◌}
 use mathlib.Core.Logic.{◌⊎◌, inl, inr, ⊎_elim}
 use mathlib.Core.Bool.{Bool, true, false}
 use mathlib.Core.List.{List, []}
-use native.Mathlib.Nat.{mul-le-mul_left}
+use native.Mathlib.Nat.{add_comm, mul-zero, mul-suc, mul-le-mul_left}
 use native.Mathlib.Omega.{arith}
 use lib.Dec.{leb}
 use lib.ListN.{length, get_or, take, drop, length-take, length-drop}
-use lib.Seq.{get_or-take, get_or-drop}
+use lib.Seq.{get_or-take, get_or-drop, drop-drop}
 use borrow.Author.Tests.{leb-true, leb-false, le-leb, lt-leb}
+use Rattle.std.specs.Simd.{first_chunks}
 use Rattle.reading.proofs.Basics.ListLaws.{get_or-inside}
 use Rattle.synthesis.specs.Monitor.{row_of}
 use Rattle.synthesis.specs.Promises.{HandsBackRows}
@@ -46,6 +47,22 @@ module _ (codes : ℕ) (table : List ℕ) (k : ℕ) where
   -- one that has fewer entries isn't there
   pub row_short : length (row_of codes table k) < codes → length table < codes * k + codes
   row_short h = ⊎_elim (λ inside. absurd (omega (arith, row_length inside))) (λ outside. outside) row_whole_or_none
+
+-- ---- a row as one of the chunks into which the table is cut
+
+-- chunk k of the first m
+chunk_at : (codes m : ℕ) (table : List ℕ) (k : ℕ) (d : List ℕ) → k < m → get_or (first_chunks codes m table) k d ≡ take codes (drop (codes * k) table)
+chunk_at codes zero table k d h = absurd (omega arith)
+chunk_at codes (suc m) table zero d h = rw mul-zero
+chunk_at codes (suc m) table (suc k) d h =
+    chunk_at codes m (drop codes table) k d (omega arith) ∙ rw (drop-drop (codes * k) codes table, add_comm codes (codes * k), mul-suc codes k)
+
+module _ (table : List ℕ) (k : ℕ) where
+  pub row_is_chunk : k < length table / 256 → (d : List ℕ) → get_or (first_chunks 256 (length table / 256) table) k d ≡ row_of 256 table k
+  row_is_chunk h d = chunk_at 256 (length table / 256) table k d h ∙ sym (row_is 256 table k (omega arith))
+
+  pub row_is_none : length table / 256 ≤ k → row_of 256 table k ≡ []
+  row_is_none h = row_none 256 table k (omega arith)
 
 -- ---- its entries
 

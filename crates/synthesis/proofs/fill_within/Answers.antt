@@ -1,4 +1,4 @@
-use Rattle.std.proofs.Common.{min}
+use Rattle.std.proofs.Common.{min, refl, sym, ◌∙◌}
 use Rattle.synthesis.specs.Monitor.{most}
 use Rattle.synthesis.specs.Building.{synthesis_of}
 use Rattle.synthesis.specs.Plans.{IsPlan}

@@ -1,3 +1,4 @@
+use Rattle.std.proofs.Common.{rules}
 use Rattle.reading.proofs.Basics.ByteLaws.{slice_bytes}
 use Rattle.synthesis.proofs.Functions.PlanLaws.{unread_plan, reading_read, read_some_numbered, unsatisfiable_plan, many_plan, counted_plan}
 use Rattle.synthesis.proofs.plan_of.Goals as goal
