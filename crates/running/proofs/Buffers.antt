@@ -2,13 +2,14 @@
 -- judges. So it is after one more, whether it is dropped or kept, and at the end for the whole run.
 use Prim.Native.Nat.{ℕ, ◌+◌, ◌≤◌, ◌<◌}
 use mathlib.Core.Path.{◌≡◌, refl, sym, ◌∙◌, ap}
-use mathlib.Core.Bool.{Bool, true, false, cond}
+use mathlib.Core.Bool.{Bool, true, false, not, cond}
 use mathlib.Core.List.{List, [], ◌∷◌, ◌++◌}
 use native.Mathlib.Omega.{arith}
 use native.Mathlib.Nat.{add-zero}
 use native.Mathlib.Numerals.{add-one}
 use lib.ListN.{length, get_or, take, set, length-append, length-set}
 use lib.Seq.{take_all, take-suc, length-take-le, set-get_or}
+use Rattle.std.specs.Int.{from_bool}
 use Rattle.synthesis.specs.Monitor.{Answer, dropped, next, kept, verdicts, ended}
 use Rattle.synthesis.proofs.Monitors.Runs.{kept_last, ended_last, verdicts_last, kept_drop, ended_drop, verdicts_drop, verdicts_length}
 use Rattle.running.specs.Running.{RunOver, run_by, overlay}
@@ -37,7 +38,7 @@ module _ {S : Type 0} (answer : S → ℕ → Answer S) (s : S) (scans : List �
 -- ---- what is in the buffers
 
 -- by how much the count of kept scans grows
-pub at_most_one : (b : Bool) → cond b 0 1 ≤ 1
+at_most_one : (b : Bool) → from_bool (not b) ≤ 1
 at_most_one true = omega arith
 at_most_one false = omega arith
 
@@ -56,7 +57,7 @@ module _ {S : Type 0} (answer : S → ℕ → Answer S) (s : S) (output₀ buffe
     -- for a dropped scan the byte of the output is written back as it was
     filled_last : (i : ℕ) → length w ≡ i → keeps < length output₀ → i < length buffer₀ → (b : Bool) (s' : S)
         → answer (ended answer s w) c ≡ cond b dropped (next s')
-        → FilledBy (run_by answer s (w ++ (c ∷ []))) (set output keeps (cond b (get_or output keeps 0) c)) (set buffer i (cond b 1 0)) (keeps + cond b 0 1)
+        → FilledBy (run_by answer s (w ++ (c ∷ []))) (set output keeps (cond b (get_or output keeps 0) c)) (set buffer i (from_bool b)) (keeps + from_bool (not b))
     filled_last i l ro rb true s' d = (
       rw (kept_drop answer s w c d, add-zero) h.0,
       (rw (kept_drop answer s w c d) (set-get_or output keeps 0 ∙ h.1.0), rw (verdicts_drop answer s w c d) (buffer_last i 1 l rb)),
@@ -85,7 +86,7 @@ module _ {S : Type 0} (answer : S → ℕ → Answer S) (s : S) (output₀ buffe
     pub filled_next : (output buffer : List ℕ) (keeps i : ℕ) → Filled output buffer keeps i → i < length scans
         → length scans ≤ length output₀ → length scans ≤ length buffer₀
         → (b : Bool) (s' : S) → answer (stands_at answer s scans i) (get_or scans i 0) ≡ cond b dropped (next s')
-        → {x v k : ℕ} → x ≡ cond b (get_or output keeps 0) (get_or scans i 0) → v ≡ cond b 1 0 → k ≡ cond b 0 1
+        → {x v k : ℕ} → x ≡ cond b (get_or output keeps 0) (get_or scans i 0) → v ≡ from_bool b → k ≡ from_bool (not b)
         → Filled (set output keeps x) (set buffer i v) (keeps + k) (i + 1)
     filled_next output buffer keeps i h more ro rb b s' d ex ev ek = record {
       inside = omega arith;

@@ -8,6 +8,7 @@ use mathlib.Core.List.{List, [], ◌∷◌, ◌++◌}
 use native.Mathlib.Omega.{arith}
 use lib.ListN.{length, get_or, take, drop, length-append, length-take, length-drop, get_or-append}
 use lib.Seq.{get_or-append-add, get_or-take, get_or-drop}
+use Rattle.std.specs.List.{list_any, list_all}
 use Rattle.reading.specs.Rule.{All}
 use Rattle.reading.proofs.Basics.AllLaws.{all_at, all_of, all_map}
 use Rattle.synthesis.specs.Joined.{Some}
@@ -45,6 +46,18 @@ module _ {A : Type 0} (test : A → Bool) where
       on true false = refl
       on false true = refl
       on false false = refl
+
+  -- ---- as the library says them
+
+  pub any_is : (l : List A) → any test l ≡ list_any test l
+  unfolding any
+  any_is [] = refl
+  any_is (x ∷ l) = rw (any_is l)
+
+  pub all_is : (l : List A) → all test l ≡ list_all test l
+  unfolding all
+  all_is [] = refl
+  all_is (x ∷ l) = rw (all_is l)
 
   -- ---- what the tests mean
 

@@ -1,4 +1,4 @@
--- What a run that isn't refused has passed, by its checks one after the other, and what each outcome leaves: of a run on a table and of one on duty.
+-- What a run that isn't refused has passed, by its checks one after the other, and what each outcome leaves.
 use Prim.Native.Nat.{ℕ, ◌≤◌, ◌<◌}
 use mathlib.Core.Path.{◌≡◌, refl, sym, ◌∙◌, ap}
 use mathlib.Core.Bool.{not}
@@ -8,18 +8,14 @@ use borrow.Author.Tests.{not-false}
 use lib.ListN.{length}
 use Rattle.reading.specs.File.{Outcome, accepted, refused}
 use Rattle.reading.proofs.Basics.Outcomes.{refuse_accepted}
-use Rattle.running.specs.Lists.{all}
-use Rattle.running.specs.Running.{answer_in, fits, has_room, RunOver, run_by, run_from, run_of}
+use Rattle.running.specs.Running.{answer_in, fits, has_room, RunOver, run_from, run_of}
 use Rattle.running.specs.Running.{checked_of, result_of, overlay, output_after, verdicts_after}
-use Rattle.running.specs.Duty.{on_duty, is_sound, together, fits_at, duty_run_of}
 use Rattle.running.specs.declared.State.{State}
 use Rattle.running.specs.declared.RunResult.{RunResult}
-use Rattle.running.specs.declared.Duty.{Duty}
 use Rattle.running.proofs.Counting.{kept_dropped}
 use Rattle.running.proofs.RunCases.{run_cases}
 use Rattle.running.proofs.Tables.{fits_well_formed}
 use Rattle.running.proofs.Refusals.{has_room-lengths}
-use Rattle.running.proofs.RosterLaws.{sound_count}
 
 -- ---- what a run that isn't refused has passed
 
@@ -55,29 +51,6 @@ module _ (limit mark : ℕ) (table : List ℕ) (count : ℕ) (s : State) (scans 
       rw (ap (λ (r : RunResult). r.kept) e)
       (run_cases limit mark table count s scans output verdicts (λ o. (result_of s o).kept ≤ output) (λ r. omega arith) (λ r f. omega arith)
       (λ r f. omega (arith, (has_room-lengths scans output verdicts r).0, kept_dropped (answer_in mark table) s scans)))
-
--- the same of a run on duty
-module _ (limit mark : ℕ) (tables : List ℕ) (d : Duty) (scans : List ℕ) (output verdicts : ℕ) where
-  pub record DutyPassed : Type 0 where
-    pub output_room : length scans ≤ output
-    pub verdicts_room : length scans ≤ verdicts
-    pub few : d.count ≤ 4
-    pub is : duty_run_of limit mark tables d scans output verdicts ≡ accepted (run_by (together mark tables) (on_duty d) scans)
-
-  pub duty_passed : {checked : Outcome Unit} → checked ≡ checked_of (duty_run_of limit mark tables d scans output verdicts) → checked ≡ accepted unit → DutyPassed
-  unfolding duty_run_of
-  duty_passed e f =
-      let accepted-so = (fit_accepted (duty_run_of limit mark tables d scans output verdicts) e f).1 in
-      let (short, rest) = refuse_accepted (not (has_room scans output verdicts)) 15 0 _ accepted-so in
-      let (unsound, rest') = refuse_accepted (not (is_sound d)) 16 0 _ rest in
-      let (unfit, same) = refuse_accepted (not (all (fits_at limit mark tables) (on_duty d))) 16 0 _ rest' in
-      let room = has_room-lengths scans output verdicts (not-false _ short) in
-      record {
-        output_room = room.0;
-        verdicts_room = room.1;
-        few = sound_count d (not-false _ unsound);
-        is = accepted-so ∙ sym same;
-      }
 
 -- ---- what a run hands back, and what it leaves in the buffers
 

@@ -7,8 +7,8 @@ use native.Mathlib.Decide.{dec_lt}
 use native.Mathlib.Omega.{arith}
 use native.Mathlib.Numerals.{add-one}
 use lib.Dec.{ltb}
-use lib.ListN.{length, get_or, take, set, length-append, get_or-append}
-use lib.Seq.{take_all, take-suc, get_or_at, get_or-set_same, get_or-set_other}
+use lib.ListN.{length, get_or, take, length-append, get_or-append}
+use lib.Seq.{take_all, take-suc, get_or_at}
 use Rattle.running.specs.Lists.{any}
 use Rattle.running.specs.Duty.{vacant, in_places, moved_to}
 use Rattle.running.specs.Places.{in_place, standing}
@@ -43,7 +43,7 @@ places_at (suc n) places i h = on (dec_lt i n) (places_at n places i)
 
 -- where a list fills the first n places, these are the list
 module _ (l rest : List OnDuty) where
-  places_take : (n : ℕ) → n ≤ length l → in_places n (l ++ rest) ≡ take n l
+  pub places_take : (n : ℕ) → n ≤ length l → in_places n (l ++ rest) ≡ take n l
   unfolding in_places
   places_take zero h = refl
   places_take (suc n) h = rw (places_take n (omega arith), get_or-append l rest vacant n h) (sym (take-suc l n vacant h))
@@ -63,19 +63,12 @@ unfolding standing
 standing_length zero places equations = refl
 standing_length (suc n) places equations = length-append (standing n places equations) (_ ∷ []) ∙ rw (standing_length n places equations, add-one)
 
--- an equation behind the first i says nothing of them
-standing_set : (i k : ℕ) (places : List OnDuty) (equations : List ℕ) (e : ℕ) → i ≤ k
-    → standing i places (set equations k e) ≡ standing i places equations
-unfolding standing
-standing_set zero k places equations e h = refl
-standing_set (suc i) k places equations e h =
-    rw (standing_set i k places equations e (omega arith), get_or-set_other equations k i e 0 (λ q. omega arith))
-
--- so one that is set in the next place adds its rule
-pub standing_next : (i : ℕ) (places : List OnDuty) (equations : List ℕ) (e : ℕ) → i < length equations
-    → standing (i + 1) places (set equations i e) ≡ standing i places equations ++ (moved_to (get_or places i vacant) e ∷ [])
-standing_next i places equations e h =
-    rw (standing_more i places (set equations i e), standing_set i i places equations e (omega arith), get_or-set_same equations i e 0)
+-- rules that stand in their own equations are as they were
+pub standing_own : (n : ℕ) (places : List OnDuty) (equations : List ℕ)
+    → ((i : ℕ) → i < n → get_or equations i 0 ≡ (get_or places i vacant).equation) → standing n places equations ≡ in_places n places
+unfolding standing in_places
+standing_own zero places equations own = refl
+standing_own (suc n) places equations own = rw (standing_own n places equations (λ i h. own i (omega arith)), own n (omega arith))
 
 -- ---- the four places, each by itself
 

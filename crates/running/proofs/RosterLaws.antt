@@ -2,23 +2,24 @@
 -- of what is lent. Each is a law of lists, by induction or by what is in the library.
 use Prim.Native.Nat.{ℕ, zero, suc, ◌+◌, ◌-◌, ◌*◌, ◌≤◌, ◌<◌}
 use mathlib.Core.Path.{◌≡◌, refl, sym, ◌∙◌, ap}
-use mathlib.Core.Bool.{Bool, true, false, not, cond, ◌&&◌, ◌||◌, and-false, and-eq-true_iff}
-use mathlib.Core.List.{List, [], ◌∷◌, ◌++◌}
+use mathlib.Core.Bool.{Bool, true, false, not, cond, ◌&&◌, ◌||◌, and-false}
+use mathlib.Core.List.{List, [], ◌∷◌, ◌++◌, append-nil}
 use native.Mathlib.Omega.{arith}
-use native.Mathlib.Nat.{add-zero}
 use lib.Dec.{eqb, leb, ltb}
-use borrow.Author.Tests.{leb-true, eqb-true, eqb-false, eq-eqb, ne_eqb, lt-leb}
-use lib.ListN.{length, get_or, set, take, drop, length-append, length-drop, drop_of_length-le}
-use lib.Seq.{take_all, set-get_or}
+use borrow.Author.Tests.{eqb-true, eqb-false, eq-eqb, ne_eqb, lt-leb, le-leb}
+use lib.ListN.{length, get_or, set, take, drop, length-append, length-take, length-drop, drop_of_length-le}
+use lib.Seq.{take_all}
+use Rattle.std.proofs.lemmas.List.{take_more}
 use Rattle.reading.specs.Numbered.{padded}
 use Rattle.reading.proofs.RecordLists.RecordsRead.{set_padded}
-use Rattle.running.specs.Lists.{any}
+use Rattle.running.specs.Lists.{any, filter}
 use Rattle.running.specs.Running.{entries_in_range, is_well_formed, fits}
-use Rattle.running.specs.Duty.{vacant, in_places, on_duty, is_on, are_distinct, is_sound, without, fits_at}
+use Rattle.running.specs.Duty.{vacant, in_places, on_duty, duty_of, is_on, are_distinct, is_sound, without, fits_at}
 use Rattle.running.specs.declared.OnDuty.{OnDuty}
 use Rattle.running.specs.declared.Duty.{Duty}
 use Rattle.running.proofs.ListTests.{any_last, filter_last}
-use Rattle.running.proofs.PlaceLaws.{places_more}
+use Rattle.running.proofs.PlaceLaws.{places_take, places_length}
+use Rattle.running.proofs.SoundStates.{duty_of-rules}
 
 -- ---- the tests
 
@@ -41,42 +42,61 @@ distinct_last (x ∷ ds) d =
     rw (any_last (λ y. eqb y.number x.number) ds d, distinct_last ds d, eqb_sym d.number x.number)
     (regroup (is_on x.number ds) (eqb x.number d.number) (are_distinct ds) (is_on d.number ds))
 
-pub sound_count : (duty : Duty) → is_sound duty ≡ true → duty.count ≤ 4
-sound_count duty e = leb-true duty.count 4 ((and-eq-true_iff (leb duty.count 4) (are_distinct (on_duty duty))).0 e).0
+-- ---- the rules one by one
+
+-- the rules in the first n places are the first n of the places
+pub places_front : (n : ℕ) (places : List OnDuty) → n ≤ length places → take n places ≡ in_places n places
+places_front n places h = sym (rw append-nil at (places_take places [] n h))
+
+-- the test of a state of at most four rules
+pub sound_by : (d : Duty) → d.count ≤ 4 → length d.rules ≡ 4 → is_sound d ≡ are_distinct (take d.count d.rules)
+sound_by d few long = let inside : d.count ≤ length d.rules = omega arith in rw (le-leb d.count 4 few, places_front d.count d.rules inside)
+
+-- where a state is that in which some rules are on duty, these are the rules that it has
+pub rules_of : {d : Duty} (ds : List OnDuty) → d ≡ duty_of ds → on_duty d ≡ ds
+rules_of ds is = ap on_duty is ∙ duty_of-rules ds
+
+pub tidy_by : {d : Duty} (ds : List OnDuty) → d ≡ duty_of ds → d ≡ duty_of (on_duty d)
+tidy_by ds is = is ∙ ap duty_of (sym (rules_of ds is))
+
+-- one more of them goes into the next place
+pub pushed_is : (d : Duty) (x : OnDuty) → d ≡ duty_of (on_duty d) → d.count < 4
+    → ◌≡◌ {A = Duty} (record { rules = set d.rules d.count x; count = d.count + 1 }) (duty_of (on_duty d ++ (x ∷ [])))
+pushed_is d x tidy few =
+    let n = places_length d.count d.rules in
+    let rules : set d.rules d.count x ≡ padded 4 vacant (on_duty d ++ (x ∷ [])) =
+    ap (λ (e : Duty). set e.rules d.count x) tidy ∙ set_padded 4 d.count vacant x (on_duty d) n few
+    in
+    let count : d.count + 1 ≡ length (on_duty d ++ (x ∷ [])) = omega (arith, length-append (on_duty d) (x ∷ []), n) in
+    cc
+
+pub pushed_onto : {d d' : Duty} (ds : List OnDuty) (x : OnDuty) → d ≡ duty_of ds → d' ≡ duty_of (on_duty d ++ (x ∷ [])) → d' ≡ duty_of (ds ++ (x ∷ []))
+pushed_onto ds x is is' = is' ∙ ap (λ (es : List OnDuty). duty_of (es ++ (x ∷ []))) (rules_of ds is)
 
 -- ---- those that stay
 
-module _ (number : ℕ) (rules : List OnDuty) where
-  -- what the loop has when it has gone over the first i rules: those of them that have another number, in the first places
-  pub record Staying (places : List OnDuty) (count i : ℕ) : Type 0 where
-    pub few : count ≤ i
-    pub places_are : places ≡ padded 4 vacant (without number (in_places i rules))
-    pub count_is : count ≡ length (without number (in_places i rules))
+-- they are no more than there were
+stay_few : (number : ℕ) (ds : List OnDuty) → length (without number ds) ≤ length ds
+unfolding filter
+stay_few number [] = omega arith
+stay_few number (d ∷ ds) = on (not (eqb d.number number)) (stay_few number ds)
+  where
+    on : (b : Bool) → length (without number ds) ≤ length ds → length (cond b (d ∷ without number ds) (without number ds)) ≤ length (d ∷ ds)
+    on true few = omega arith
+    on false few = omega arith
 
-  module _ (places : List OnDuty) (count i : ℕ) (h : Staying places count i) (more : i < 4) where
-    without_more : (stays : Bool) → not (eqb (get_or rules i vacant).number number) ≡ stays
-        → without number (in_places (i + 1) rules)
-        ≡ cond stays (without number (in_places i rules) ++ (get_or rules i vacant ∷ [])) (without number (in_places i rules))
-    without_more stays q = rw (places_more i rules, filter_last, q)
+module _ (number : ℕ) (ds : List OnDuty) (i : ℕ) where
+  -- so there is a place for one more
+  pub staying_few : {d' : Duty} (d : Duty) → d' ≡ duty_of (without number (take i ds)) → d.count ≤ 4 → ds ≡ on_duty d → i < length ds → d'.count < 4
+  staying_few d is few are h =
+      let count = ap (λ (e : Duty). e.count) is in
+      let long = ap (λ (es : List OnDuty). length es) are ∙ places_length d.count d.rules in
+      omega (arith, count, long, stay_few number (take i ds), length-take i ds)
 
-    next_if : (stays : Bool) → not (eqb (get_or rules i vacant).number number) ≡ stays
-        → Staying (set places count (cond stays (get_or rules i vacant) (get_or places count vacant))) (count + cond stays 1 0) (i + 1)
-    next_if true q = record {
-      few = omega arith;
-      places_are = rw (without_more true q, h.places_are)
-          (set_padded 4 count vacant (get_or rules i vacant) (without number (in_places i rules)) (sym h.count_is) (omega arith));
-      count_is = rw (without_more true q, length-append) (ap (λ (n : ℕ). n + 1) h.count_is);
-    }
-    next_if false q = record {
-      few = omega arith;
-      places_are = rw (without_more false q) (set-get_or places count vacant ∙ h.places_are);
-      count_is = rw (without_more false q, add-zero) h.count_is;
-    }
-
-    -- what goes into the place, and by how much the count grows, is told by equations, as the calls tell it
-    pub staying_next : {x : OnDuty} {k : ℕ} → let stays = not (eqb (get_or rules i vacant).number number) in
-        x ≡ cond stays (get_or rules i vacant) (get_or places count vacant) → k ≡ cond stays 1 0 → Staying (set places count x) (count + k) (i + 1)
-    staying_next ex ek = rw (ex, ek) (next_if (not (eqb (get_or rules i vacant).number number)) refl)
+  -- the next one stays where it has another number
+  pub without_next : (b : Bool) → i < length ds → not (eqb (get_or ds i vacant).number number) ≡ b
+      → without number (take (i + 1) ds) ≡ cond b (without number (take i ds) ++ (get_or ds i vacant ∷ [])) (without number (take i ds))
+  without_next b h is = rw (take_more ds i vacant h, filter_last, is)
 
 -- ---- a table that begins at any place
 

@@ -1,10 +1,11 @@
 -- The loop over the scans under several rules: it goes by their equations, and in these the rules are where the run of all of them stands.
 use Prim.Native.Nat.{ℕ, ◌+◌, ◌≤◌, ◌<◌}
 use mathlib.Core.Path.{◌≡◌, refl, ◌∙◌}
-use mathlib.Core.Bool.{Bool, true, false, cond}
+use mathlib.Core.Bool.{Bool, true, false, not, cond}
 use mathlib.Core.List.{List, map}
 use native.Mathlib.Omega.{arith}
 use lib.ListN.{length, get_or, set, length-map}
+use Rattle.std.specs.Int.{from_bool}
 use Rattle.synthesis.specs.Monitor.{Answer, dropped, next, ended}
 use Rattle.synthesis.proofs.Monitors.Runs.{run_induction}
 use Rattle.running.specs.Duty.{in_places, some_drops, moved_by, together}
@@ -26,7 +27,7 @@ module _ (mark : ℕ) (tables : List ℕ) (n : ℕ) (rules : List OnDuty) (outpu
       → (drops : Bool) {equations' : List ℕ} → drops ≡ some_drops mark tables (standing n rules equations) (get_or scans i 0)
       → standing n rules equations'
       ≡ cond drops (standing n rules equations) (map (moved_by mark tables (get_or scans i 0)) (standing n rules equations))
-      → {x v k : ℕ} → x ≡ cond drops (get_or output keeps 0) (get_or scans i 0) → v ≡ cond drops 1 0 → k ≡ cond drops 0 1
+      → {x v k : ℕ} → x ≡ cond drops (get_or output keeps 0) (get_or scans i 0) → v ≡ from_bool drops → k ≡ from_bool (not drops)
       → After (set output keeps x) (set buffer i v) equations' (keeps + k) (i + 1)
   after_next output buffer equations keeps i h more ro rb drops ed em ex ev ek =
       let d : F at (get_or scans i 0) ≡ cond drops dropped (next onward) = rw (ed, h.stand) in

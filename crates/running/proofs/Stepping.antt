@@ -1,12 +1,13 @@
 -- The loop over the scans on one table: it goes by where a row begins, and that is the row of the equation in which the run stands.
 use Prim.Native.Nat.{ℕ, ◌+◌, ◌*◌, ◌/◌, ◌≤◌, ◌<◌}
 use mathlib.Core.Path.{◌≡◌, ◌∙◌, ap}
-use mathlib.Core.Bool.{Bool, true, false, cond}
+use mathlib.Core.Bool.{Bool, true, false, not, cond}
 use mathlib.Core.List.{List}
 use native.Mathlib.Omega.{arith}
 use native.Mathlib.Nat.{mul-div_right}
 use lib.Dec.{eqb}
 use lib.ListN.{length, get_or, set}
+use Rattle.std.specs.Int.{from_bool}
 use Rattle.synthesis.specs.Monitor.{Answer, dropped, next, row_of}
 use Rattle.running.specs.Running.{start, moved, answer_in, run_from}
 use Rattle.running.specs.declared.State.{State}
@@ -26,8 +27,8 @@ module _ (mark : ℕ) (table : List ℕ) (s : State) (output₀ buffer₀ scans 
   pub after_next : (output buffer : List ℕ) (from keeps i : ℕ) → After output buffer from keeps i → i < length scans
       → length scans ≤ length output₀ → length scans ≤ length buffer₀ → (entry : ℕ) → entry < 65536
       → entry ≡ get_or (row_of 256 table (from / 256)) (get_or scans i 0) mark
-      → {x v from' k : ℕ} → x ≡ cond (eqb entry mark) (get_or output keeps 0) (get_or scans i 0) → v ≡ cond (eqb entry mark) 1 0
-      → from' ≡ cond (eqb entry mark) from (256 * entry) → k ≡ cond (eqb entry mark) 0 1
+      → {x v from' k : ℕ} → x ≡ cond (eqb entry mark) (get_or output keeps 0) (get_or scans i 0) → v ≡ from_bool (eqb entry mark)
+      → from' ≡ cond (eqb entry mark) from (256 * entry) → k ≡ from_bool (not (eqb entry mark))
       → After (set output keeps x) (set buffer i v) from' (keeps + k) (i + 1)
   after_next output buffer from keeps i h more ro rb entry below is ex ev ef ek =
       let row : from / 256 ≡ at.equation = rw h.from_is (mul-div_right at.equation (omega arith)) in

@@ -10,10 +10,7 @@ use synthesis::{DROPPED, MOST};
 fn in_range(entry: u16, count: u16) -> bool
     ensures { result ≡ in_range mark count entry }
 {
-    if entry == DROPPED {
-        return true;
-    }
-    entry < count
+    entry == DROPPED || entry < count
 }
 
 // Whether all entries are in range. There is no way out before the last, so that many can be looked at in one step.
@@ -22,11 +19,8 @@ fn entries_in_range(entries: &[u16], count: u16) -> bool
     ensures { result ≡ entries_in_range mark count entries.now }
 {
     let mut all = true;
-    let mut i = 0;
-    while i < entries.len() {
-        let is_in = in_range(entries[i], count);
-        all = all & is_in;
-        i += 1;
+    for entry in entries {
+        all &= in_range(*entry, count);
     }
     all
 }
@@ -36,17 +30,11 @@ fn entries_in_range(entries: &[u16], count: u16) -> bool
 fn is_well_formed(table: &[u16], count: usize) -> bool
     ensures { result ≡ is_well_formed most mark table.now count }
 {
-    if count == 0 {
-        return false;
-    }
-    if MOST < count {
+    if count == 0 || MOST < count {
         return false;
     }
     let end = 256 * count;
-    if table.len() < end {
-        return false;
-    }
-    entries_in_range(&table[..end], count as u16)
+    end <= table.len() && entries_in_range(&table[..end], count as u16)
 }
 
 // Whether it is, and the state's equation is one of them.
@@ -54,20 +42,14 @@ fn is_well_formed(table: &[u16], count: usize) -> bool
 pub(crate) fn fits(table: &[u16], count: usize, state: State) -> bool
     ensures { result ≡ fits most mark table.now count state }
 {
-    if !is_well_formed(table, count) {
-        return false;
-    }
-    state.equation < count
+    is_well_formed(table, count) && state.equation < count
 }
 
 // Whether an output and verdicts of these lengths have room for every scan.
 pub(crate) fn has_room(scans: &[u8], output: usize, verdicts: usize) -> bool
     ensures { result ≡ has_room scans.now output verdicts }
 {
-    if output < scans.len() {
-        return false;
-    }
-    scans.len() <= verdicts
+    scans.len() <= output && scans.len() <= verdicts
 }
 
 // Whether a run is refused: 15 comes before 16.
@@ -82,12 +64,10 @@ pub(crate) fn check(
 ) -> Checked
     ensures { result ≡ checked_of (run_of most mark table.now count state scans.now output verdicts) }
 {
-    let room = has_room(scans, output, verdicts);
-    let is_fit = fits(table, count, state);
-    if !room {
+    if !has_room(scans, output, verdicts) {
         return Checked::Refused(15, 0);
     }
-    if !is_fit {
+    if !fits(table, count, state) {
         return Checked::Refused(16, 0);
     }
     Checked::Fit

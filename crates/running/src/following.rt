@@ -1,43 +1,30 @@
 // The loop over the scans of a call.
-ghost use Rattle.std.specs.Prelude.{◌≡◌, cond, ◌≤◌, ◌<◌, length, get_or};
+ghost use Rattle.std.specs.Prelude.{◌≡◌, ◌≤◌, ◌<◌, length, get_or};
 ghost use Rattle.synthesis.specs.Monitor.{mark, most, row_of};
 ghost use Rattle.running.specs.Running.{run_from, overlay};
 
 use crate::State;
+use std::hint::select_unpredictable;
 use synthesis::{DROPPED, row};
 
-// Where the loop ends: the state, and how many scans were kept.
-#[derive(Clone, Copy)]
-pub(crate) struct End {
-    pub(crate) state: State,
+// Where a loop over scans ends: the state, and how many scans were kept.
+#[derive(Drop)]
+pub(crate) struct End<S> {
+    pub(crate) state: S,
     pub(crate) kept: usize,
 }
 
 // The entry of an equation for a code, from the row of the equation; DROPPED where the row has none.
-pub(crate) fn entry(table: &[u16], equation: usize, code: u8) -> usize
-    ensures value { result ≡ get_or (row_of 256 table.now equation) code mark }
-    ensures upper_bound { result < 65536 }
+pub(crate) fn entry(table: &[u16], equation: usize, code: u8) -> u16
+    ensures { result ≡ get_or (row_of 256 table.now equation) code mark }
 {
     let entries = row(table, equation);
-    let at = code as usize;
+    let at = usize::from(code);
     if at < entries.len() {
-        return entries[at] as usize;
+        entries[at]
+    } else {
+        DROPPED
     }
-    DROPPED as usize
-}
-
-// One of two numbers.
-pub(crate) fn either(first: bool, a: usize, b: usize) -> usize
-    ensures { result ≡ cond first a b }
-{
-    if first { a } else { b }
-}
-
-// One of two bytes.
-pub(crate) fn either_byte(first: bool, a: u8, b: u8) -> u8
-    ensures { result ≡ cond first a b }
-{
-    if first { a } else { b }
 }
 
 // Runs over the scans. What goes from scan to scan is where the row of the equation begins. For a dropped scan the byte of the output is
@@ -48,7 +35,7 @@ pub(crate) fn follow(
     scans: &[u8],
     output: &mut [u8],
     verdicts: &mut [u8],
-) -> End
+) -> End<State>
     requires { (state.equation < most) × (length scans.now ≤ length output.old) × (length scans.now ≤ length verdicts.old) }
     ensures state_value { result.state ≡ (run_from mark table.now state scans.now).state }
     ensures kept_value { result.kept ≡ length (run_from mark table.now state scans.now).kept }
@@ -58,20 +45,18 @@ pub(crate) fn follow(
 {
     let mut from = 256 * state.equation;
     let mut kept = 0;
-    let mut i = 0;
-    while i < scans.len() {
-        let code = scans[i];
-        let entry = entry(table, from / 256, code);
-        let is_dropped = entry == DROPPED as usize;
-        from = either(is_dropped, from, 256 * entry);
-        verdicts[i] = either_byte(is_dropped, 1, 0);
-        let before = output[kept];
-        output[kept] = either_byte(is_dropped, before, code);
-        kept += either(is_dropped, 0, 1);
-        i += 1;
+    for (i, code) in scans.iter().enumerate() {
+        let entry = entry(table, from / 256, *code);
+        let is_dropped = entry == DROPPED;
+        from = select_unpredictable(is_dropped, from, 256 * usize::from(entry));
+        verdicts[i] = u8::from(is_dropped);
+        output[kept] = select_unpredictable(is_dropped, output[kept], *code);
+        kept += usize::from(!is_dropped);
     }
-    let state = State {
-        equation: from / 256,
-    };
-    End { state, kept }
+    End {
+        state: State {
+            equation: from / 256,
+        },
+        kept,
+    }
 }

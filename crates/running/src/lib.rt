@@ -13,10 +13,10 @@ ghost use Rattle.synthesis.specs.Monitor.{mark, most};
 ghost use Rattle.running.specs.Running.{start, run_of, checked_of, result_of, output_after, verdicts_after};
 ghost use Rattle.running.specs.Duty.{nobody, coming_of, going_of, changed_of, duty_run_of, duty_ran_of};
 
-use checking::{check, has_room};
+use checking::check;
 use following::follow;
-use roster::{is_on, is_sound, leave, only_first, vacant};
-use serving::{all_fit, fits_at, follow_all};
+use roster::Roster;
+use serving::{admitted, fits_at, follow_all};
 
 // The state of a run: the number of its equation.
 #[derive(Clone, Copy)]
@@ -108,24 +108,29 @@ pub fn run(
         };
     };
     let end = follow(table, state, scans, output, verdicts);
-    let state = end.state;
-    let kept = end.kept;
-    let dropped = scans.len() - kept;
+    let dropped = scans.len() - end.kept;
     RunResult {
         checked,
-        state,
-        kept,
+        state: end.state,
+        kept: end.kept,
         dropped,
     }
 }
+
+// What stands in a place that no rule has.
+const VACANT: OnDuty = OnDuty {
+    number: 0,
+    base: 0,
+    count: 0,
+    equation: 0,
+};
 
 // The state in which no rule is on duty.
 pub fn nobody() -> Duty
     ensures { result ≡ nobody }
 {
-    let none = vacant();
     Duty {
-        rules: [none; 4],
+        rules: [VACANT; 4],
         count: 0,
     }
 }
@@ -142,19 +147,17 @@ fn unchanged(number: u8, duty: Duty) -> Changed
 
 // A rule comes on under a number, with `count` equations, whose table begins at `base` of what is lent. It is the last, and in its first equation. A
 // refused call hands back the state that it was given.
-#[tactic(auto, unfolding(crate::specs::Duty::coming_of))]
+#[tactic(auto, using(crate::proofs::PlaceLaws::places_length), unfolding(crate::specs::Duty::coming_of))]
 pub fn come_on(duty: Duty, number: u8, tables: &[u16], base: usize, count: usize) -> Changed
     ensures { result ≡ changed_of duty (coming_of most mark duty number tables.now base count) }
 {
-    if !is_sound(duty) {
+    let Some(mut roster) = Roster::of(duty) else {
         return unchanged(16, duty);
-    }
-    let n = duty.count;
-    if 4 <= n {
+    };
+    if 4 <= duty.count {
         return unchanged(19, duty);
     }
-    let rules = duty.rules;
-    if is_on(rules, n, number) {
+    if roster.is_on(number) {
         return unchanged(20, duty);
     }
     let rule = OnDuty {
@@ -166,14 +169,10 @@ pub fn come_on(duty: Duty, number: u8, tables: &[u16], base: usize, count: usize
     if !fits_at(tables, rule) {
         return unchanged(16, duty);
     }
-    let mut places = only_first(rules, n);
-    places[n] = rule;
+    roster.push(rule);
     Changed {
         checked: Checked::Fit,
-        duty: Duty {
-            rules: places,
-            count: n + 1,
-        },
+        duty: roster.duty,
     }
 }
 
@@ -182,23 +181,19 @@ pub fn come_on(duty: Duty, number: u8, tables: &[u16], base: usize, count: usize
 pub fn go_off(duty: Duty, number: u8) -> Changed
     ensures { result ≡ changed_of duty (going_of duty number) }
 {
-    if !is_sound(duty) {
+    let Some(roster) = Roster::of(duty) else {
         return unchanged(16, duty);
-    }
-    let n = duty.count;
-    let rules = duty.rules;
-    if !is_on(rules, n, number) {
+    };
+    if !roster.is_on(number) {
         return unchanged(21, duty);
     }
-    let duty = leave(rules, n, number);
     Changed {
         checked: Checked::Fit,
-        duty,
+        duty: roster.without(number).duty,
     }
 }
 
 // Whether a run on duty would be refused, with an output and verdicts of these lengths.
-#[tactic(auto, unfolding(crate::specs::Duty::duty_run_of))]
 pub fn check_on_duty(
     tables: &[u16],
     duty: Duty,
@@ -208,17 +203,10 @@ pub fn check_on_duty(
 ) -> Checked
     ensures { result ≡ checked_of (duty_run_of most mark tables.now duty scans.now output verdicts) }
 {
-    if !has_room(scans, output, verdicts) {
-        return Checked::Refused(15, 0);
+    match admitted(tables, duty, scans, output, verdicts) {
+        Ok(_) => Checked::Fit,
+        Err(number) => Checked::Refused(number, 0),
     }
-    if !is_sound(duty) {
-        return Checked::Refused(16, 0);
-    }
-    let rules = duty.rules;
-    if !all_fit(tables, rules, duty.count) {
-        return Checked::Refused(16, 0);
-    }
-    Checked::Fit
 }
 
 // Runs the monitors of all rules on duty over scans: a scan is kept when none of them would drop it, and then moves all of them. The buffers are
@@ -239,25 +227,22 @@ pub fn run_on_duty(
         (duty_run_of most mark tables.now duty scans.now (length output.old) (length verdicts.old))
         verdicts.old }
 {
-    let checked = check_on_duty(tables, duty, scans, output.len(), verdicts.len());
-    let Checked::Fit = checked else {
-        return DutyRan {
-            checked,
-            duty,
-            kept: 0,
-            dropped: 0,
-        };
+    let roster = match admitted(tables, duty, scans, output.len(), verdicts.len()) {
+        Ok(roster) => roster,
+        Err(number) => {
+            return DutyRan {
+                checked: Checked::Refused(number, 0),
+                duty,
+                kept: 0,
+                dropped: 0,
+            };
+        }
     };
-    let rules = duty.rules;
-    let count = duty.count;
-    let end = follow_all(tables, rules, count, scans, output, verdicts);
-    let rules = end.rules;
-    let kept = end.kept;
-    let lost = scans.len() - kept;
+    let end = follow_all(tables, roster, scans, output, verdicts);
     DutyRan {
-        checked,
-        duty: Duty { rules, count },
-        kept,
-        dropped: lost,
+        checked: Checked::Fit,
+        duty: end.state,
+        kept: end.kept,
+        dropped: scans.len() - end.kept,
     }
 }

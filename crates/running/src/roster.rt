@@ -1,109 +1,97 @@
 // Who is on duty: the places of up to four rules.
-ghost use Rattle.std.specs.Prelude.{◌≡◌, cond, ◌≤◌};
-ghost use Rattle.reading.specs.Numbered.{padded};
-ghost use Rattle.running.specs.Duty.{vacant, in_places, duty_of, is_on, are_distinct, is_sound, without};
+ghost use Rattle.std.specs.Prelude.{◌≡◌, ◌≤◌, ◌<◌, List, [], ◌∷◌, ◌++◌, false, true, MatchOption};
+ghost use Rattle.running.specs.declared.OnDuty.{OnDuty};
+ghost use Rattle.running.specs.Duty.{nobody, on_duty, duty_of, is_on, are_distinct, is_sound, without};
 
-use crate::following::either;
-use crate::{Duty, OnDuty};
+use crate::{Duty, OnDuty, nobody};
 
-// What stands in a place that no rule has.
-pub(crate) fn vacant() -> OnDuty
-    ensures { result ≡ vacant }
+// Whether one of the rules has this number.
+fn is_on(rules: &[OnDuty], number: u8) -> bool
+    ensures { result ≡ is_on number rules.now }
 {
-    OnDuty {
-        number: 0,
-        base: 0,
-        count: 0,
-        equation: 0,
-    }
+    rules.iter().any(|rule| rule.number == number)
 }
 
-// Whether one of the first n rules has this number.
-#[tactic(auto, using(crate::proofs::ListTests::any_last, crate::proofs::PlaceLaws::places_more), unfolding(crate::specs::Lists::any, crate::specs::Duty::in_places))]
-pub(crate) fn is_on(rules: [OnDuty; 4], n: usize, number: u8) -> bool
-    requires { n ≤ 4 }
-    ensures { result ≡ is_on number (in_places n rules) }
-{
-    let mut found = false;
-    let mut i = 0;
-    while i < n {
-        let rule = rules[i];
-        found = found | (rule.number == number);
-        i += 1;
-    }
-    found
-}
-
-// Whether no two of the first n rules have the same number.
-#[tactic(auto, using(crate::proofs::RosterLaws::distinct_last, crate::proofs::PlaceLaws::places_more), unfolding(crate::specs::Duty::are_distinct, crate::specs::Duty::in_places))]
-fn are_distinct(rules: [OnDuty; 4], n: usize) -> bool
-    requires { n ≤ 4 }
-    ensures { result ≡ are_distinct (in_places n rules) }
+// Whether no two of the rules have the same number.
+#[tactic(auto, unfolding(crate::specs::Duty::are_distinct))]
+fn are_distinct(rules: &[OnDuty]) -> bool
+    ensures { result ≡ are_distinct rules.now }
 {
     let mut all = true;
-    let mut i = 0;
-    while i < n {
-        let rule = rules[i];
-        let again = is_on(rules, i, rule.number);
-        all = all & !again;
-        i += 1;
+    for (i, rule) in rules.iter().enumerate() {
+        all &= !is_on(&rules[..i], rule.number);
     }
     all
 }
 
-// Whether there are at most four rules, under different numbers.
-pub(crate) fn is_sound(duty: Duty) -> bool
-    ensures { result ≡ is_sound duty }
-{
-    let n = duty.count;
-    if 4 < n {
-        return false;
-    }
-    let rules = duty.rules;
-    are_distinct(rules, n)
+// The rules on duty, of which there are at most four; no rule has a place behind them.
+#[derive(Clone, Copy)]
+pub(crate) struct Roster {
+    pub(crate) duty: Duty,
+    ghost few: { duty.count ≤ 4 },
+    ghost tidy: { duty ≡ duty_of (on_duty duty) },
 }
 
-// The first n rules, with no rule in the places behind them.
-pub(crate) fn only_first(rules: [OnDuty; 4], n: usize) -> [OnDuty; 4]
-    requires { n ≤ 4 }
-    ensures { result ≡ padded 4 vacant (in_places n rules) }
-{
-    let none = vacant();
-    let mut places = [none; 4];
-    let mut i = 0;
-    while i < n {
-        places[i] = rules[i];
-        i += 1;
+impl Roster {
+    // No rule.
+    pub(crate) fn new() -> Self
+        ensures { result.duty ≡ nobody }
+    {
+        Roster { duty: nobody() }
     }
-    places
-}
 
-// One of two rules.
-fn either_rule(first: bool, a: OnDuty, b: OnDuty) -> OnDuty
-    ensures { result ≡ cond first a b }
-{
-    if first { a } else { b }
-}
-
-// Those of the first n rules that have another number, in their order.
-pub(crate) fn leave(rules: [OnDuty; 4], n: usize, number: u8) -> Duty
-    requires { n ≤ 4 }
-    ensures { result ≡ duty_of (without number (in_places n rules)) }
-{
-    let none = vacant();
-    let mut places = [none; 4];
-    let mut count = 0;
-    let mut i = 0;
-    while i < n {
-        let rule = rules[i];
-        let stays = rule.number != number;
-        let place = places[count];
-        places[count] = either_rule(stays, rule, place);
-        count += either(stays, 1, 0);
-        i += 1;
+    // The rules on duty in a state, if there are at most four, under different numbers.
+    pub(crate) fn of(duty: Duty) -> Option<Self>
+        ensures { MatchOption result (is_sound duty ≡ false)
+            (λ roster. (is_sound duty ≡ true) × (on_duty roster.duty ≡ on_duty duty)) }
+    {
+        if 4 < duty.count {
+            return None;
+        }
+        let rules = &duty.rules[..duty.count];
+        if !are_distinct(rules) {
+            return None;
+        }
+        let mut roster = Roster::new();
+        for rule in rules {
+            roster.push(*rule);
+        }
+        Some(roster)
     }
-    Duty {
-        rules: places,
-        count,
+
+    // The rules, by arrival.
+    pub(crate) fn rules(&self) -> &[OnDuty]
+        ensures { result.now ≡ on_duty self.now.duty }
+    {
+        &self.duty.rules[..self.duty.count]
+    }
+
+    // Whether one of them has this number.
+    pub(crate) fn is_on(&self, number: u8) -> bool
+        ensures { result ≡ is_on number (on_duty self.now.duty) }
+    {
+        is_on(self.rules(), number)
+    }
+
+    // One more rule, behind the others.
+    pub(crate) fn push(&mut self, rule: OnDuty)
+        requires { self.old.duty.count < 4 }
+        ensures { self.new.duty ≡ duty_of (on_duty self.old.duty ++ (rule ∷ [])) }
+    {
+        self.duty.rules[self.duty.count] = rule;
+        self.duty.count += 1;
+    }
+
+    // Those that have another number, in their order.
+    pub(crate) fn without(&self, number: u8) -> Self
+        ensures { result.duty ≡ duty_of (without number (on_duty self.now.duty)) }
+    {
+        let mut others = Roster::new();
+        for rule in self.rules() {
+            if rule.number != number {
+                others.push(*rule);
+            }
+        }
+        others
     }
 }

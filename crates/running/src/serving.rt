@@ -1,16 +1,17 @@
 // Runs under all rules on duty. Only their equations go from scan to scan.
-ghost use Rattle.std.specs.Prelude.{◌≡◌, cond, map, ◌≤◌, ◌<◌, length, get_or, drop};
-ghost use Rattle.reading.specs.Numbered.{padded};
+ghost use Rattle.std.specs.Prelude.{◌≡◌, cond, map, ◌≤◌, length, get_or, drop, IfOk, MatchResult};
+ghost use Rattle.reading.specs.File.{accepted, refused};
 ghost use Rattle.synthesis.specs.Monitor.{mark, most, row_of};
 ghost use Rattle.running.specs.Lists.{all};
 ghost use Rattle.running.specs.Running.{run_by, overlay};
-ghost use Rattle.running.specs.Duty.{vacant, in_places, moved_to, some_drops, moved_by, together, fits_at};
+ghost use Rattle.running.specs.Duty.{on_duty, duty_of, moved_to, some_drops, moved_by, together, fits_at, duty_run_of};
 ghost use Rattle.running.specs.Places.{in_place, standing};
 
-use crate::checking::fits;
-use crate::following::{either, either_byte, entry};
-use crate::roster::vacant;
-use crate::{OnDuty, State};
+use crate::checking::{fits, has_room};
+use crate::following::{End, entry};
+use crate::roster::Roster;
+use crate::{Duty, OnDuty, State};
+use std::hint::select_unpredictable;
 use synthesis::DROPPED;
 
 // Whether a rule's table is well formed, and its equation one of the table's.
@@ -18,78 +19,56 @@ use synthesis::DROPPED;
 pub(crate) fn fits_at(tables: &[u16], rule: OnDuty) -> bool
     ensures { result ≡ fits_at most mark tables.now rule }
 {
-    let base = rule.base;
-    if tables.len() < base {
+    if tables.len() < rule.base {
         return false;
     }
     let state = State {
         equation: rule.equation,
     };
-    fits(&tables[base..], rule.count, state)
+    fits(&tables[rule.base..], rule.count, state)
 }
 
-// Whether each of the first n rules is fit.
-#[tactic(auto, using(crate::proofs::ListTests::all_last, crate::proofs::PlaceLaws::places_more), unfolding(crate::specs::Lists::all, crate::specs::Duty::in_places))]
-pub(crate) fn all_fit(tables: &[u16], rules: [OnDuty; 4], n: usize) -> bool
-    requires { n ≤ 4 }
-    ensures { result ≡ all (fits_at most mark tables.now) (in_places n rules) }
+// Whether each of the rules is fit.
+pub(crate) fn all_fit(tables: &[u16], rules: &[OnDuty]) -> bool
+    ensures { result ≡ all (fits_at most mark tables.now) rules.now }
 {
-    let mut all = true;
-    let mut i = 0;
-    while i < n {
-        let rule = rules[i];
-        let is_fit = fits_at(tables, rule);
-        all = all & is_fit;
-        i += 1;
+    rules.iter().all(|rule| fits_at(tables, *rule))
+}
+
+// The rules on duty under which a run goes, or the number by which it is refused, with an output and verdicts of these lengths.
+#[tactic(auto, unfolding(crate::specs::Duty::duty_run_of))]
+pub(crate) fn admitted(
+    tables: &[u16],
+    duty: Duty,
+    scans: &[u8],
+    output: usize,
+    verdicts: usize,
+) -> Result<Roster, u8>
+    ensures room { IfOk result (λ _. (length scans.now ≤ output) × (length scans.now ≤ verdicts)) }
+    ensures rules { IfOk result (λ roster. on_duty roster.duty ≡ on_duty duty) }
+    ensures outcome { let outcome = duty_run_of most mark tables.now duty scans.now output verdicts in
+        MatchResult result (λ _. outcome ≡ accepted (run_by (together mark tables.now) (on_duty duty) scans.now)) (λ number. outcome ≡ refused number 0) }
+{
+    if !has_room(scans, output, verdicts) {
+        return Err(15);
     }
-    all
+    let Some(roster) = Roster::of(duty) else {
+        return Err(16);
+    };
+    if !all_fit(tables, roster.rules()) {
+        return Err(16);
+    }
+    Ok(roster)
 }
 
 // The entry for a code in the table that begins at `base`; DROPPED where there is none.
-fn own_entry(tables: &[u16], base: usize, equation: usize, code: u8) -> usize
-    ensures value { result ≡ get_or (row_of 256 (drop base tables.now) equation) code mark }
-    ensures upper_bound { result < 65536 }
+fn own_entry(tables: &[u16], base: usize, equation: usize, code: u8) -> u16
+    ensures { result ≡ get_or (row_of 256 (drop base tables.now) equation) code mark }
 {
     if tables.len() < base {
-        return DROPPED as usize;
+        return DROPPED;
     }
     entry(&tables[base..], equation, code)
-}
-
-// The equations of the first n rules.
-fn equations_of(rules: [OnDuty; 4], n: usize) -> [usize; 4]
-    requires { n ≤ 4 }
-    ensures { standing n rules result ≡ in_places n rules }
-{
-    let mut equations = [0; 4];
-    let mut i = 0;
-    while i < n {
-        let rule = rules[i];
-        equations[i] = rule.equation;
-        i += 1;
-    }
-    equations
-}
-
-// The first n rules in these equations, with no rule in the places behind them.
-fn placed(rules: [OnDuty; 4], equations: [usize; 4], n: usize) -> [OnDuty; 4]
-    requires { n ≤ 4 }
-    ensures { result ≡ padded 4 vacant (standing n rules equations) }
-{
-    let none = vacant();
-    let mut places = [none; 4];
-    let mut i = 0;
-    while i < n {
-        let rule = rules[i];
-        places[i] = OnDuty {
-            number: rule.number,
-            base: rule.base,
-            count: rule.count,
-            equation: equations[i],
-        };
-        i += 1;
-    }
-    places
 }
 
 // What a scan does in one place: whether its rule would drop the scan, and the equation to which it leads the rule.
@@ -119,8 +98,8 @@ fn look_in_place(
         };
     }
     let entry = own_entry(tables, rule.base, equation, code);
-    let drops = entry == DROPPED as usize;
-    let equation = either(drops, equation, entry);
+    let drops = entry == DROPPED;
+    let equation = select_unpredictable(drops, equation, usize::from(entry));
     LookedInPlace { drops, equation }
 }
 
@@ -131,13 +110,16 @@ struct Looked {
     equations: [usize; 4],
 }
 
-// Looks the scan up in the table of each of the first n rules. There is no loop over the places, so that the equations need not stand in memory.
-fn look(tables: &[u16], rules: [OnDuty; 4], equations: [usize; 4], n: usize, code: u8) -> Looked
-    requires { n ≤ 4 }
-    ensures drops_value { result.drops ≡ some_drops mark tables.now (standing n rules equations) code }
-    ensures equations_value { standing n rules result.equations
-        ≡ cond result.drops (standing n rules equations) (map (moved_by mark tables.now code) (standing n rules equations)) }
+// Looks the scan up in the table of each rule. There is no loop over the places, so that the equations need not stand in memory.
+fn look(tables: &[u16], roster: Roster, equations: [usize; 4], code: u8) -> Looked
+    ensures drops_value { result.drops
+        ≡ some_drops mark tables.now (standing roster.duty.count roster.duty.rules equations) code }
+    ensures equations_value { let stand = standing roster.duty.count roster.duty.rules equations in
+        standing roster.duty.count roster.duty.rules result.equations
+        ≡ cond result.drops stand (map (moved_by mark tables.now code) stand) }
 {
+    let n = roster.duty.count;
+    let rules = roster.duty.rules;
     let a = look_in_place(tables, 0 < n, rules[0], equations[0], code);
     let b = look_in_place(tables, 1 < n, rules[1], equations[1], code);
     let c = look_in_place(tables, 2 < n, rules[2], equations[2], code);
@@ -146,56 +128,56 @@ fn look(tables: &[u16], rules: [OnDuty; 4], equations: [usize; 4], n: usize, cod
     Looked {
         drops,
         equations: [
-            either(drops, equations[0], a.equation),
-            either(drops, equations[1], b.equation),
-            either(drops, equations[2], c.equation),
-            either(drops, equations[3], d.equation),
+            select_unpredictable(drops, equations[0], a.equation),
+            select_unpredictable(drops, equations[1], b.equation),
+            select_unpredictable(drops, equations[2], c.equation),
+            select_unpredictable(drops, equations[3], d.equation),
         ],
     }
 }
 
-// Where the loop ends: the places of the rules, and how many scans were kept.
-#[derive(Drop)]
-pub(crate) struct DutyEnd {
-    pub(crate) rules: [OnDuty; 4],
-    pub(crate) kept: usize,
+// The state in which the rules are in these equations.
+fn placed(roster: Roster, equations: [usize; 4]) -> Duty
+    ensures { result ≡ duty_of (standing roster.duty.count roster.duty.rules equations) }
+{
+    let mut moved = Roster::new();
+    for (i, rule) in roster.rules().iter().enumerate() {
+        moved.push(OnDuty {
+            equation: equations[i],
+            ..*rule
+        });
+    }
+    moved.duty
 }
 
-// Runs over the scans under the first n rules. A kept scan moves every rule, a dropped one none.
+// Runs over the scans under the rules. A kept scan moves every rule, a dropped one none.
 pub(crate) fn follow_all(
     tables: &[u16],
-    rules: [OnDuty; 4],
-    n: usize,
+    roster: Roster,
     scans: &[u8],
     output: &mut [u8],
     verdicts: &mut [u8],
-) -> DutyEnd
-    requires { (n ≤ 4) × (length scans.now ≤ length output.old) × (length scans.now ≤ length verdicts.old) }
-    ensures rules_value { result.rules ≡ padded 4 vacant (run_by (together mark tables.now) (in_places n rules) scans.now).state }
-    ensures kept_value { result.kept ≡ length (run_by (together mark tables.now) (in_places n rules) scans.now).kept }
+) -> End<Duty>
+    requires { (length scans.now ≤ length output.old) × (length scans.now ≤ length verdicts.old) }
+    ensures state_value { result.state ≡ duty_of (run_by (together mark tables.now) (on_duty roster.duty) scans.now).state }
+    ensures kept_value { result.kept ≡ length (run_by (together mark tables.now) (on_duty roster.duty) scans.now).kept }
     ensures output_after { output.new
-        ≡ overlay (run_by (together mark tables.now) (in_places n rules) scans.now).kept output.old }
+        ≡ overlay (run_by (together mark tables.now) (on_duty roster.duty) scans.now).kept output.old }
     ensures verdicts_after { verdicts.new
-        ≡ overlay (run_by (together mark tables.now) (in_places n rules) scans.now).verdicts verdicts.old }
+        ≡ overlay (run_by (together mark tables.now) (on_duty roster.duty) scans.now).verdicts verdicts.old }
 {
-    let mut equations = equations_of(rules, n);
+    let mut equations = roster.duty.rules.map(|rule| rule.equation);
     let mut kept = 0;
-    let mut i = 0;
-    while i < scans.len() {
-        let code = scans[i];
-        let looked = look(tables, rules, equations, n, code);
+    for (i, code) in scans.iter().enumerate() {
+        let looked = look(tables, roster, equations, *code);
         let is_dropped = looked.drops;
-        verdicts[i] = either_byte(is_dropped, 1, 0);
-        let before = output[kept];
-        output[kept] = either_byte(is_dropped, before, code);
-        kept += either(is_dropped, 0, 1);
-        let next = looked.equations;
-        equations = next;
-        i += 1;
+        verdicts[i] = u8::from(is_dropped);
+        output[kept] = select_unpredictable(is_dropped, output[kept], *code);
+        kept += usize::from(!is_dropped);
+        equations = looked.equations;
     }
-    let places = placed(rules, equations, n);
-    DutyEnd {
-        rules: places,
+    End {
+        state: placed(roster, equations),
         kept,
     }
 }

@@ -1,33 +1,27 @@
 -- What the crate's own functions say of the plan for a table, and of what is read off it.
-use Rattle.std.specs.Prelude.{ℕ, ◌≤◌, ◌<◌, ◌≡◌, List, length}
+use Rattle.std.specs.Prelude.{ℕ, ◌≤◌, ◌<◌, ◌≡◌, List, length, Option}
 use Rattle.reading.specs.File.{Outcome, accepted, refused, by_case}
-use Rattle.reading.specs.declared.FileRead.{FileRead}
-use Rattle.reading.specs.declared.FileRead.TheVariants.{Accepted, Refused}
 use Rattle.synthesis.specs.Monitor.{mark, most, lookup}
 use Rattle.synthesis.specs.Answering.{answer_of}
 use Rattle.synthesis.specs.Table.{WellFormedTable}
 use Rattle.synthesis.specs.Building.{Synthesis, synthesis_of, counted_of, page_number, numbered_answer, classes_of, short_of}
 use Rattle.synthesis.specs.Arrays.{IsGraph}
 use Rattle.synthesis.specs.Numbering.{IsNumberingOf}
-use Rattle.synthesis.specs.declared.Counted.{Counted}
-use Rattle.synthesis.specs.declared.Counted.TheVariants as counted
 use Rattle.synthesis.specs.declared.Plan.{Plan}
-use Rattle.synthesis.specs.declared.Reason.{Reason}
-use Rattle.synthesis.specs.declared.Reason.TheVariants as Reason'
 use Rattle.synthesis.specs.declared.renumbering.Numbering.{Numbering}
 use Rattle.synthesis.specs.declared.shortening.ShortPlan.{ShortPlan}
 use Rattle.synthesis.specs.declared.explaining.Followed.{Followed}
 use Rattle.synthesis.specs.declared.explaining.Followed.TheVariants as Followed'
 
 -- The refusal of a file that couldn't be read; one that could isn't asked for.
-abbrev pub refusal_of : FileRead → Counted
-refusal_of Accepted = counted.Refused 0 0
-refusal_of (Refused number place) = counted.Refused number place
+abbrev pub refusal_of : FILEREAD → Outcome ℕ
+refusal_of FILE_ACCEPTED = refused 0 0
+refusal_of (refused number place) = refused number place
 
 -- an answer as the rule page gives it
-abbrev pub counted_on_page : Counted → Counted
-counted_on_page (counted.Equations n) = counted.Equations n
-counted_on_page (counted.Refused number place) = counted.Refused (page_number number) place
+abbrev pub counted_on_page : Outcome ℕ → Outcome ℕ
+counted_on_page (accepted n) = accepted n
+counted_on_page (refused number place) = refused (page_number number) place
 
 -- what a plan has to fill the rows of a synthesis from
 pub record PlanFor (y : Synthesis) (p : Plan) : Type 0 where
@@ -70,6 +64,6 @@ abbrev pub followed_of : Outcome ℕ → Followed
 followed_of = by_case Followed'.Equation Followed'.Refused
 
 -- The refusal of a file that has no count; of one that has, it isn't asked for.
-abbrev pub unexplained_of : Counted → Reason
-unexplained_of (counted.Equations n) = Reason'.Refused 0 0
-unexplained_of (counted.Refused number place) = Reason'.Refused number place
+abbrev pub unexplained_of : Outcome ℕ → Outcome (Option ℕ)
+unexplained_of (accepted n) = refused 0 0
+unexplained_of (refused number place) = refused number place

@@ -1,7 +1,7 @@
 -- What this crate promises, as statements over the definitions; proofs/ has a theorem of each of these types.
 use Rattle.std.specs.Prelude.{ℕ, ◌+◌, ◌*◌, ◌≤◌, ◌<◌, ◌≡◌, ◌↔◌, ◌⊎◌, Bool, List, [], ◌∷◌, ◌++◌, length, get_or, drop}
 use Rattle.reading.specs.Rule.{Formula, necessity, WellFormed, Rule, Bytes}
-use Rattle.reading.specs.File.{Outcome, accepted, rule_of}
+use Rattle.reading.specs.File.{Outcome, accepted, rule_of, refused}
 use Rattle.reading.specs.Nodes.{EnclosingMax, Node}
 use Rattle.synthesis.specs.Violation.{Violates, ViolatesRule}
 use Rattle.synthesis.specs.Monitor.{Answer, dropped, next, cases, kept, ended, Monitors, row_of, lookup}
