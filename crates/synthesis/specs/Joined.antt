@@ -1,5 +1,5 @@
 -- The rule that joins rules by "both": their patterns one after the other, and each later formula with the numbers that its patterns then have.
-use Rattle.std.specs.Prelude.{ℕ, ◌+◌, ◌⊎◌, List, [], ◌∷◌, ◌++◌, length, Some}
+use Rattle.std.specs.Prelude.{ℕ, ◌+◌, ◌⊎◌, List, [], ◌∷◌, ◌++◌, length}
 use Rattle.reading.specs.Rule.{Formula, truth, falsity, both, necessity, max, variable, Rule}
 
 -- a formula whose patterns stand behind k others

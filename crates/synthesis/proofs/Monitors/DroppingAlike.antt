@@ -13,7 +13,6 @@ use Rattle.synthesis.specs.Merging.{DropAlike}
 use Rattle.synthesis.proofs.Monitors.Runs.{verdicts_append}
 use Rattle.synthesis.proofs.Monitors.MonitorLaws.{suppresses_nothing, suppresses_rest}
 use Rattle.synthesis.proofs.Monitors.Renaming.{Renames, renamed_runs}
-use Rattle.std.specs.Prelude.{Ok}
 
 module _ {E F : Type 0} (codes : ℕ) (answer : E → ℕ → Answer E) (answer' : F → ℕ → Answer F) where
   -- ---- one code

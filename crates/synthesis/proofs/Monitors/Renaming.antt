@@ -8,7 +8,6 @@ use Rattle.reading.specs.Rule.{Rule, All}
 use Rattle.synthesis.specs.Monitor.{Answer, dropped, next, kept, verdicts, ended, Suppresses, now, later, Monitors}
 use Rattle.synthesis.proofs.Monitors.Runs.{run_induction}
 use Rattle.synthesis.proofs.Monitors.MonitorLaws.{suppresses_nothing, suppresses_rest}
-use Rattle.std.specs.Prelude.{Ok}
 
 -- ---- runs under new names
 

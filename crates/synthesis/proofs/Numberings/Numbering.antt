@@ -17,7 +17,6 @@ use Rattle.synthesis.proofs.Monitors.Renaming.{Renames, renamed_from}
 use Rattle.synthesis.proofs.Monitors.Corresponding.{Corresponds, both_lead, corresponds_back, leads_on, corresponds_same}
 use Rattle.synthesis.proofs.Numberings.Tabulating.{Injective, tabulate_length, tabulate_at}
 use Rattle.synthesis.proofs.Numberings.FindingOrder.{before_le}
-use Rattle.std.specs.Prelude.{Ok}
 
 -- ---- the next equation of two lists
 
