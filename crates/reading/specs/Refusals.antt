@@ -1,5 +1,5 @@
 -- The numbers of the faults for which inputs are refused, and the outcome that a result stands for.
-use Rattle.std.specs.Prelude.{ℕ, Result, Ok, Err}
+use Rattle.std.specs.Prelude.{ℕ, List, ◌++◌, Result, Ok, Err, codes, decimal}
 use Rattle.reading.specs.File.{Outcome, accepted, refused}
 use Rattle.reading.specs.declared.refusals.Fault.{Fault}
 use Rattle.reading.specs.declared.refusals.Fault.TheVariants.{FileEnds, UnknownKind, Misplaced, TooManyRecords, NoSuchSlot, NamesNothing, Unguarded}
@@ -39,3 +39,7 @@ number TooManyPairs = 24
 abbrev pub as_outcome : {A : Type 0} → Result A Refusal → Outcome A
 as_outcome (Ok a) = accepted a
 as_outcome (Err r) = refused (number r.fault) r.place
+
+-- a refusal as it is printed
+abbrev pub refusal_text : Refusal → List ℕ
+refusal_text r = codes "refused " ++ decimal (number r.fault) ++ codes " at " ++ decimal r.place

@@ -28,9 +28,9 @@ impl Model for Scope {
     ghost invariant = { λ s. (s.unguarded ≤ s.count) × (s.count ≤ 64) };
 }
 
-/// A node without its parts, as its record has it: with the number of a pattern, or with a depth.
+// A node without its parts, as its record has it: with the number of a pattern, or with a depth.
 #[derive(Clone, Copy)]
-pub(crate) enum Symbol {
+enum Symbol {
     Truth,
     Falsity,
     Both,
@@ -39,11 +39,11 @@ pub(crate) enum Symbol {
     Variable(u8),
 }
 
-/// A node record, and the place after it.
+// A node record, and the place after it.
 #[derive(Clone, Copy)]
-pub(crate) struct Record {
-    pub(crate) symbol: Symbol,
-    pub(crate) next: usize,
+struct Record {
+    symbol: Symbol,
+    next: usize,
 }
 
 /// The place after a formula, and how many of the 64 nodes are left.

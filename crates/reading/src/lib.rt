@@ -89,6 +89,7 @@ impl Node {
 }
 
 /// Whether a pattern covers a code. All but the reading of a pattern record asks this and leaves mask and slots alone.
+#[tactic(auto, using(crate::proofs::Measures::SlotSets::member, crate::proofs::Measures::Codes::slot_lt), unfolding(crate::specs::Pattern::covers, crate::specs::Pattern::bit))]
 pub fn covers(p: Pattern, code: u8) -> bool
     ensures { result ≡ covers p code }
 {

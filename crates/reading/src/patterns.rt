@@ -19,6 +19,7 @@ pub(crate) struct Head {
 
 // The lowest code and the count of codes of a pattern: by the trailing zeros of the mask and of the set of slots, and by their ones. One of no kind covers
 // no code.
+#[tactic(auto, using(crate::proofs::Measures::Extents::no_extent_lem, crate::proofs::Measures::Extents::lowest_fits))]
 fn extent(p: Pattern) -> Extent
     requires { WellFormedPattern p }
     ensures { result ≡ extent_of p }
@@ -30,8 +31,8 @@ fn extent(p: Pattern) -> Extent
         };
     }
     let slots = slot_set(p.first, p.last);
-    let lowest = u8::trailing_zeros(p.mask) * 32 + u32::trailing_zeros(slots);
-    let count = u8::count_ones(p.mask) * u32::count_ones(slots);
+    let lowest = p.mask.trailing_zeros() * 32 + slots.trailing_zeros();
+    let count = p.mask.count_ones() * slots.count_ones();
     Extent {
         lowest: Some(lowest as u8),
         count: count as u16,

@@ -1,6 +1,6 @@
 // Why inputs are refused, and where.
-ghost use Rattle.std.specs.Prelude.{◌≡◌};
-ghost use Rattle.reading.specs.Refusals.{number};
+ghost use Rattle.std.specs.Prelude.{◌≡◌, Some};
+ghost use Rattle.reading.specs.Refusals.{number, refusal_text};
 
 use std::fmt;
 
@@ -81,6 +81,8 @@ impl Fault {
 }
 
 impl fmt::Display for Refusal {
+    ghost output = { λ r. Some (refusal_text r) };
+
     fn fmt<W: fmt::Write>(&self, f: &mut fmt::Formatter<W>) -> fmt::Result {
         write!(f, "refused {} at {}", self.fault.number(), self.place)
     }

@@ -13,10 +13,7 @@ const SLOTS_UNDER: [u32; 33] = [
 pub fn slots_under(width: usize) -> u32
     ensures { IsSlotSet (λ slot. ltb slot width) result }
 {
-    if 32 < width {
-        return SLOTS_UNDER[32];
-    }
-    SLOTS_UNDER[width]
+    SLOTS_UNDER[width.min(32)]
 }
 
 // The slots that first and last name. Between first and last + 1 lie the slots that are under one of the two and not under the other. Where first isn't
@@ -26,7 +23,8 @@ pub fn slot_set(first: u8, last: u8) -> u32
 {
     let between = slots_under(last as usize + 1) ^ slots_under(first as usize);
     if first <= last {
-        return between;
+        between
+    } else {
+        between ^ slots_under(32)
     }
-    between ^ slots_under(32)
 }

@@ -84,10 +84,6 @@ module _ {B R : Type 0} {value : B → R} {refusal : (number place : ℕ) → R}
     by_case-refused (accepted a) number place e = absurd (d.disjoint (of a) number place (sym e))
     by_case-refused (refused m at) number place e = let (is, there) = d.refusal_same number place m at e in rw (is, there)
 
-    pub by_case-accepted : (o : Outcome A) (b : B) → value b ≡ by_case (λ a. value (of a)) refusal o → (a : A) × (o ≡ accepted a) × (b ≡ of a)
-    by_case-accepted (accepted a) b e = (a, refl, d.value_same b (of a) e)
-    by_case-accepted (refused number place) b e = absurd (d.disjoint b number place e)
-
   -- where the value has all of what is accepted
   pub by_case-value : (o : Outcome B) (b : B) → value b ≡ by_case value refusal o → o ≡ accepted b
   by_case-value (accepted a) b e = rw (d.value_same b a e)

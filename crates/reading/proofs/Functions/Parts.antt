@@ -20,7 +20,7 @@ use Rattle.reading.specs.declared.refusals.Refusal.{Refusal}
 use Rattle.reading.specs.declared.formulas.Rest.{Rest}
 use Rattle.reading.proofs.Basics.Outcomes.{accepted_is, never_accepted, never_refused}
 use Rattle.reading.proofs.Accepting.Steps.{formula_step, formula_sound}
-use Rattle.reading.proofs.Accepting.NodeBytes.{NodeStands, bare, of_variable, node_accepts}
+use Rattle.reading.proofs.Accepting.NodeBytes.{node_accepts}
 use Rattle.reading.proofs.Numbering.NumberedLaws.{nodes_size}
 use Rattle.reading.proofs.Functions.Stores.{two_lists}
 
@@ -131,12 +131,3 @@ module _ (s : List ℕ) (n at left : ℕ) (g : Guards) where
                     (two_lists before (64 - left) _ (nodes (suc (64 - left)) ms f.formula) _));
               }
           on f read stored (refused m at) k = reads_refused refl k.said
-
--- the depth of a variable names a max
-pub variable_inside : (s : List ℕ) (n at left : ℕ) (g : Guards) {d next : ℕ}
-    → accepted (record { symbol = Rule.Variable d; next = next }) ≡ node_at s n at left g → d < length g
-variable_inside s n at left g e = on ((node_accepts s n at left g _).0 (sym e)).1
-  where
-    on : {d next : ℕ} → NodeStands s n at g (record { symbol = Rule.Variable d; next = next }) → d < length g
-    on (bare x _) = elim x [ ]
-    on (of_variable h guard b a) = h

@@ -41,24 +41,21 @@ right_at width h =
     ((every_is 33 right).0 all_right width h) in
     (slot_set_is (is_under width) (get_or table width 0) set, eqb-true _ _ power)
 
-pub word_slots : (width : ℕ) → width ≤ 32 → IsSlotSet (is_under width) (get_or table width 0)
-word_slots width h = (right_at width (omega arith)).0
-
 -- over 32 there are no more slots
-pub all_slots : (width word : ℕ) → 32 ≤ width → IsSlotSet (is_under 32) word → IsSlotSet (is_under width) word
-all_slots width word h = same_slots (is_under 32) (is_under width) word (λ slot l. rw (lt-ltb slot 32 l, lt-ltb slot width (omega arith)))
+pub word_slots : (width : ℕ) → IsSlotSet (is_under width) (get_or table (min width 32) 0)
+word_slots width = by (dec_le width 32)
+  where
+    by : Dec (width ≤ 32) → IsSlotSet (is_under width) (get_or table (min width 32) 0)
+    by (yes h) = let e : min width 32 ≡ width = omega arith in rw e ((right_at width (omega arith)).0)
+    by (no h) =
+        let over = lt_of_not-le h in
+        let e : min width 32 ≡ 32 = omega arith in
+        rw e (same_slots (is_under 32) (is_under width) _ (λ slot l. rw (lt-ltb slot 32 l, lt-ltb slot width (omega arith))) (right_at 32 (omega arith)).0)
 
 -- ---- the words
 
 pub power : (width : ℕ) → IsSlotSet (is_under width) (2 ^ min width 32 - 1)
-power width = by (dec_le width 32)
-  where
-    by : Dec (width ≤ 32) → IsSlotSet (is_under width) (2 ^ min width 32 - 1)
-    by (yes h) = let e : min width 32 ≡ width = omega arith in rw e (let (set, power) = right_at width (omega arith) in rw power at set)
-    by (no h) =
-        let over = lt_of_not-le h in
-        let e : min width 32 ≡ 32 = omega arith in
-        rw e (all_slots width (2 ^ 32 - 1) (omega arith) (let (set, power) = right_at 32 (omega arith) in rw power at set))
+power width = rw (right_at (min width 32) (omega arith)).1 at (word_slots width)
 
 pub words_of_slots : WordsOfSlots
 words_of_slots = record {

@@ -9,7 +9,6 @@ use lib.Seq.{set_at}
 use Rattle.reading.specs.File.{accepted, refused, RecordFormat, records_at}
 use Rattle.reading.specs.Numbered.{padded}
 use Rattle.reading.specs.Representations.{record_at, prepend, RecordsBegun}
-use Rattle.reading.proofs.Numbering.NumberedLaws.{padded_long}
 use Rattle.reading.proofs.RecordLists.RecordWays.{records_end, records_more, records_refused, record_accepted, prepend_none, prepend_last}
 
 -- an array that fills up from the front
@@ -26,9 +25,6 @@ module _ {A : Type 0} (r : RecordFormat A) (blank : A) (limit start : ℕ) where
 
 module _ {A : Type 0} {r : RecordFormat A} {blank : A} {limit start : ℕ} {array : List A} {n at : ℕ}
     (b : RecordsBegun r blank limit start array n at) where
-  pub begun_length : length array ≡ limit
-  begun_length = rw b.stored (padded_long blank limit b.done (omega (arith, b.few, b.counted)))
-
   -- one more record
   unfoldable pub begun_one : {x : A} → r.more at ≡ true → record_at r (limit - n) at ≡ accepted x
       → RecordsBegun r blank limit start (set array n x) (n + 1) (at + r.width x)
