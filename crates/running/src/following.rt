@@ -14,17 +14,17 @@ pub(crate) struct End<S> {
     pub(crate) kept: usize,
 }
 
-// The entry of an equation for a code, from the row of the equation; DROPPED where the row has none.
-pub(crate) fn entry(table: &[u16], equation: usize, code: u8) -> u16
-    ensures { result ≡ get_or (row_of 256 table.now equation) code mark }
+// What an entry is for a dropped code. Entries are as wide as an index here: u16 is slower, since each would be widened on the way to the next scan's row.
+pub(crate) const MARK: usize = DROPPED as usize;
+
+// The entry of an equation for a code, from the row of the equation; MARK where the row has none.
+pub(crate) fn entry(table: &[u16], equation: usize, code: u8) -> usize
+    ensures value { result ≡ get_or (row_of 256 table.now equation) code mark }
+    ensures upper_bound { result < 65536 }
 {
-    let entries = row(table, equation);
-    let at = usize::from(code);
-    if at < entries.len() {
-        entries[at]
-    } else {
-        DROPPED
-    }
+    row(table, equation)
+        .get(usize::from(code))
+        .map_or(MARK, |entry| usize::from(*entry))
 }
 
 // Runs over the scans. What goes from scan to scan is where the row of the equation begins. For a dropped scan the byte of the output is
@@ -47,8 +47,8 @@ pub(crate) fn follow(
     let mut kept = 0;
     for (i, code) in scans.iter().enumerate() {
         let entry = entry(table, from / 256, *code);
-        let is_dropped = entry == DROPPED;
-        from = select_unpredictable(is_dropped, from, 256 * usize::from(entry));
+        let is_dropped = entry == MARK;
+        from = select_unpredictable(is_dropped, from, 256 * entry);
         verdicts[i] = u8::from(is_dropped);
         output[kept] = select_unpredictable(is_dropped, output[kept], *code);
         kept += usize::from(!is_dropped);

@@ -8,11 +8,10 @@ ghost use Rattle.running.specs.Duty.{on_duty, duty_of, moved_to, some_drops, mov
 ghost use Rattle.running.specs.Places.{in_place, standing};
 
 use crate::checking::{fits, has_room};
-use crate::following::{End, entry};
+use crate::following::{End, MARK, entry};
 use crate::roster::Roster;
 use crate::{Duty, OnDuty, State};
 use std::hint::select_unpredictable;
-use synthesis::DROPPED;
 
 // Whether a rule's table is well formed, and its equation one of the table's.
 #[tactic(auto, using(crate::proofs::RosterLaws::no_table))]
@@ -61,12 +60,12 @@ pub(crate) fn admitted(
     Ok(roster)
 }
 
-// The entry for a code in the table that begins at `base`; DROPPED where there is none.
-fn own_entry(tables: &[u16], base: usize, equation: usize, code: u8) -> u16
+// The entry for a code in the table that begins at `base`; MARK where there is none.
+fn own_entry(tables: &[u16], base: usize, equation: usize, code: u8) -> usize
     ensures { result ≡ get_or (row_of 256 (drop base tables.now) equation) code mark }
 {
     if tables.len() < base {
-        return DROPPED;
+        return MARK;
     }
     entry(&tables[base..], equation, code)
 }
@@ -98,8 +97,8 @@ fn look_in_place(
         };
     }
     let entry = own_entry(tables, rule.base, equation, code);
-    let drops = entry == DROPPED;
-    let equation = select_unpredictable(drops, equation, usize::from(entry));
+    let drops = entry == MARK;
+    let equation = select_unpredictable(drops, equation, entry);
     LookedInPlace { drops, equation }
 }
 

@@ -6,5 +6,5 @@ use Rattle.running.proofs.following.follow.Goals as goal
 pub loop-i-preserved : goal.loop-i-preserved
 loop-i-preserved c =
     after_next mark _ _ _ _ _ _ _ _ _ _ c.loop-i.invariant c.loop-i-test.true c.requires.1 c.requires.2
-    _ c.entry-entry.type_inv c.entry-entry.ensures
-    c.select_unpredictable.ensures c.from-in-loop-i.ensures (cc) c.from-kept.ensures
+    _ c.entry-entry.ensures.upper_bound c.entry-entry.ensures.value
+    c.select_unpredictable.ensures c.from.ensures c.select_unpredictable-from.ensures c.from-kept.ensures
