@@ -163,7 +163,7 @@ tells_match f g l answer first second matched =
 -- ---- a run
 
 abbrev checked_back : ℕ → Outcome Unit
-checked_back number = or_else number (accepted unit) (refused number 0)
+checked_back number = or_else number (accepted tt) (refused number 0)
 
 pub tells_run : TellsRun
 tells_run table count first scans output verdicts number equation kept dropped is =
@@ -173,6 +173,6 @@ tells_run table count first scans output verdicts number equation kept dropped i
     (λ r. refl) (λ r f. refl) (λ r f. refl) in
     record {
       fit = rw is.number_is (told_apart checked_number checked_back back refl);
-      refused = λ k some. rw is.number_is (told_apart checked_number checked_back back (from_1 (accepted unit) (refused k 0) k some));
+      refused = λ k some. rw is.number_is (told_apart checked_number checked_back back (from_1 (accepted tt) (refused k 0) k some));
       rest = rw (is.equation_is, is.kept_is, is.dropped_is);
     }

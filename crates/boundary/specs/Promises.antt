@@ -95,7 +95,7 @@ TellsMatch = (f g l : List ℕ) (answer : MatchAnswer) → Bytes f → Bytes g �
 -- 5. What is got of a run is all of its result: the number is 0 exactly where it is fit, and another exactly where it is refused so, at place 0; and a
 -- state is made of nothing but its equation.
 pub record RunTold (ran : RunResult) (number equation kept dropped : ℕ) : Type 0 where
-  pub fit : (number ≡ 0) ↔ (ran.checked ≡ accepted unit)
+  pub fit : (number ≡ 0) ↔ (ran.checked ≡ accepted tt)
   pub refused : (k : ℕ) → 1 ≤ k → (number ≡ k) ↔ (ran.checked ≡ refused k 0)
   pub rest : ran ≡ record { checked = ran.checked; state = state_of equation; kept = kept; dropped = dropped }
 

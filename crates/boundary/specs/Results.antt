@@ -46,7 +46,7 @@ matched_result (refused_pairs number place) = record { number = number; value = 
 
 -- a run: 0 where it is fit. Its refusals stand at place 0.
 abbrev pub checked_number : Outcome Unit → ℕ
-checked_number (accepted unit) = 0
+checked_number (accepted tt) = 0
 checked_number (refused number place) = number
 
 -- the state of a run, which a C program has as the number of its equation

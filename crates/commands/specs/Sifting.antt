@@ -19,7 +19,7 @@ EndsCalls May s = (h : History) × Calls most mark May h × (s ≡ h.state)
 -- calls on one table, with its count of equations, that aren't refused
 pub record FitOn (table : List ℕ) (count : ℕ) (h : History) (c : Call) : Type 0 where
   pub on : OnTable table count c
-  pub fit : checked_of (outcome_of most mark h.state c) ≡ accepted unit
+  pub fit : checked_of (outcome_of most mark h.state c) ≡ accepted tt
 
 abbrev pub EndsCallsOn : (table : List ℕ) → (count : ℕ) → State → Type 0
 EndsCallsOn table count = EndsCalls (FitOn table count)

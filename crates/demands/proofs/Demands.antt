@@ -133,7 +133,7 @@ module _ (n : ℕ) (table : List ℕ) (fit : NotUnfit most mark n table) (h : Hi
       ((runs_on_tables most mark c.table c.count h.state c.scans (length c.output) (length c.verdicts)).unfit.1
       (a, a', unfit_not_fit bad))
 
-  call_taken : (result_of h.state (running h.state c)).checked ≡ accepted unit
+  call_taken : (result_of h.state (running h.state c)).checked ≡ accepted tt
   call_taken = run_fit h.state c call_unrefused
 
 pub demand_two : DemandTwo

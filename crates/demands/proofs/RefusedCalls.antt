@@ -59,10 +59,10 @@ module _ (s : State) (c : Call) where
   run_refused number place = rw (result_checked s (running s c)) (run_refusal_clause number place, run_clause_refuses)
 
   -- where no clause holds, the run isn't refused
-  pub run_fit : ((number place : ℕ) → RunRefused s c number place → ⊥) → (result_of s (running s c)).checked ≡ accepted unit
+  pub run_fit : ((number place : ℕ) → RunRefused s c number place → ⊥) → (result_of s (running s c)).checked ≡ accepted tt
   run_fit none = on (running s c) refl
     where
-      on : (o : Outcome Run) → running s c ≡ o → (result_of s o).checked ≡ accepted unit
+      on : (o : Outcome Run) → running s c ≡ o → (result_of s o).checked ≡ accepted tt
       on (accepted y) e = refl
       on (refused number place) e = absurd (none number place (run_refusal_clause number place (ap checked_of e)))
 

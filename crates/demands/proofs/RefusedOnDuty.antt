@@ -33,7 +33,7 @@ as_answered Clause {n} {p} clause number place e =
     let same' : p ≡ place = cc in
     rw (← same, ← same') clause
 
-fit_refuses : {P : Type 0} (number place : ℕ) → (accepted unit) ≡ refused number place → P
+fit_refuses : {P : Type 0} (number place : ℕ) → (accepted tt) ≡ refused number place → P
 fit_refuses number place e = let z : ◌≡◌ {A = ℕ} 0 1 = cc in absurd (omega arith)
 
 -- a rule that isn't fit has a table, a count or an equation that is unfit

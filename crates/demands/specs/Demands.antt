@@ -102,8 +102,8 @@ pub record LeavesTheRest : Type 0 where
       → SameAfterRows n table (preview_table_filled s table)
   pub fill_short : (s table : List ℕ) (n : ℕ) → counted_of (short_filling s table) ≡ accepted n
       → SameAfterRows n table (short_table_filled s table)
-  pub run : (s : State) (c : Call) → (result_of s (running s c)).checked ≡ accepted unit → OnlyFronts s c (running s c)
-  pub run_on_duty : (d : Duty) (c : DutyCall) → (duty_ran_of d (running_on_duty d c)).checked ≡ accepted unit
+  pub run : (s : State) (c : Call) → (result_of s (running s c)).checked ≡ accepted tt → OnlyFronts s c (running s c)
+  pub run_on_duty : (d : Duty) (c : DutyCall) → (duty_ran_of d (running_on_duty d c)).checked ≡ accepted tt
       → Fronts c.scans c.output c.verdicts (running_on_duty d c) (duty_ran_of d (running_on_duty d c)).kept
   pub judge : (s table f : List ℕ) (answer : Outcome Judgment) → JudgedAs (judging s table f) answer → (answer ≡ accepted Meets) ⊎ (answer ≡ accepted Breaks)
       → table_after_judging s table f ≡ table_filled s table
@@ -131,7 +131,7 @@ abbrev pub Takes : (n : ℕ) → (table : List ℕ) → Type 0
 Takes n table =
     (h : History) → Calls most mark (OnTableOrRefused most mark table n) h → (c : Call) → OnTable table n c
     → length c.scans ≤ length c.output → length c.scans ≤ length c.verdicts
-    → (result_of h.state (running h.state c)).checked ≡ accepted unit
+    → (result_of h.state (running h.state c)).checked ≡ accepted tt
 
 -- 2. A scan is dropped exactly when the scans kept so far, followed by it, violate the rule; and with room for its scans no call on the filled table is
 -- refused. The reason of a dropped scan is the lowest ff node at which they violate it, and a kept scan has none; a list violates a rule at an ff node

@@ -141,14 +141,14 @@ answer ds e = answered most mark (at_desk (duty_of ds)) e
 
 pub record DutyRefusals : Type 0 where
   -- four rules on one table; a fifth, also under a known number; five are an unsound state, whatever is asked
-  pub fourth : answer (hold_as 1 ∷ hold_as 2 ∷ hold_as 3 ∷ []) (coming 4 0 2) ≡ accepted unit
+  pub fourth : answer (hold_as 1 ∷ hold_as 2 ∷ hold_as 3 ∷ []) (coming 4 0 2) ≡ accepted tt
   pub fifth : answer four (coming 5 0 2) ≡ refused 19 0
   pub fifth_known : answer four (coming 4 0 2) ≡ refused 19 0
   pub five : answered most mark (at_desk (counted 5)) (coming 6 0 2) ≡ refused 16 0
   pub five_go : answered most mark (at_desk (counted 5)) (goes 1) ≡ refused 16 0
   pub five_run : answered most mark (at_desk (counted 5)) (run_over morning) ≡ refused 16 0
   -- what stands behind the count doesn't count
-  pub three : answered most mark (at_desk (counted 3)) (coming 4 0 2) ≡ accepted unit
+  pub three : answered most mark (at_desk (counted 3)) (coming 4 0 2) ≡ accepted tt
   -- a number twice
   pub known : answer (hold_as 1 ∷ []) (coming 1 0 2) ≡ refused 20 0
   pub twice : answer (hold_as 1 ∷ hold_as 1 ∷ []) (coming 2 0 2) ≡ refused 16 0
@@ -165,7 +165,7 @@ pub record DutyRefusals : Type 0 where
   -- a run: 15 before 16; a rule that isn't the first is looked at, too
   pub short_first : answer (hold_as 1 ∷ hold_as 1 ∷ []) (runs (record { tables = []; scans = 0 ∷ []; output = []; verdicts = [] })) ≡ refused 15 0
   pub second_unfit : answer (hold_as 1 ∷ moved_to (hold_as 2) 2 ∷ []) (run_over []) ≡ refused 16 0
-  pub nobody_on_duty : answer [] (runs (record { tables = []; scans = 0 ∷ []; output = 9 ∷ []; verdicts = 9 ∷ [] })) ≡ accepted unit
+  pub nobody_on_duty : answer [] (runs (record { tables = []; scans = 0 ∷ []; output = 9 ∷ []; verdicts = 9 ∷ [] })) ≡ accepted tt
 
 pub record DutyExamples : Type 0 where
   pub day : DutyDay

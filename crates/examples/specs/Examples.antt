@@ -178,7 +178,7 @@ pool_run = record {
 -- The outcome is this run: what it hands back, and what it leaves in an output and in verdicts.
 pub record RunsPool (outcome : Outcome Run) : Type 0 where
   pub accepts : outcome ≡ accepted pool_run
-  pub handed_back_lem : result_of start outcome ≡ record { checked = (accepted unit); state = moved start 1; kept = 5; dropped = 1 }
+  pub handed_back_lem : result_of start outcome ≡ record { checked = (accepted tt); state = moved start 1; kept = 5; dropped = 1 }
   pub ends_in : (result_of start outcome).state.equation ≡ 1
   pub output : (bytes : List ℕ) → output_after outcome bytes ≡ 37 ∷ 128 ∷ 5 ∷ 37 ∷ 5 ∷ drop 5 bytes
   pub verdicts : (bytes : List ℕ) → verdicts_after outcome bytes ≡ 0 ∷ 1 ∷ 0 ∷ 0 ∷ 0 ∷ 0 ∷ drop 6 bytes

@@ -57,7 +57,7 @@ module _ (limit mark : ℕ) (d : Duty) (number : ℕ) (tables : List ℕ) (base 
     full : SoundDuty d × (d.count ≡ 4) → Coming (refused 19 0)
     known : SoundDuty d × (d.count < 4) × OnDutyUnder number d → Coming (refused 20 0)
     no_table : SoundDuty d × (d.count < 4) × (OnDutyUnder number d → ⊥) × (Table → ⊥) → Coming (refused 16 0)
-    on : SoundDuty d × (d.count < 4) × (OnDutyUnder number d → ⊥) × Table → Coming (accepted unit)
+    on : SoundDuty d × (d.count < 4) × (OnDutyUnder number d → ⊥) × Table → Coming (accepted tt)
 
   coming : Coming (changed_of d (coming_of limit mark d number tables base count)).checked
   coming =
@@ -109,7 +109,7 @@ module _ (limit mark : ℕ) (d : Duty) (number : ℕ) (tables : List ℕ) (base 
       with_20 : Coming (refused 20 0) → SoundDuty d × (d.count < 4) × OnDutyUnder number d
       with_20 (known h) = h
 
-      with_none : Coming (accepted unit) → SoundDuty d × (d.count < 4) × (OnDutyUnder number d → ⊥) × Table
+      with_none : Coming (accepted tt) → SoundDuty d × (d.count < 4) × (OnDutyUnder number d → ⊥) × Table
       with_none (on h) = h
 
 -- ---- a going
@@ -158,7 +158,7 @@ module _ (d : Duty) (number : ℕ) where
   data Going : Outcome Unit → Type 0 where
     no_state : (SoundDuty d → ⊥) → Going (refused 16 0)
     absent : SoundDuty d × (OnDutyUnder number d → ⊥) → Going (refused 21 0)
-    off : SoundDuty d × OnDutyUnder number d → Going (accepted unit)
+    off : SoundDuty d × OnDutyUnder number d → Going (accepted tt)
 
   going : Going (changed_of d (going_of d number)).checked
   going =
@@ -178,10 +178,10 @@ module _ (d : Duty) (number : ℕ) where
   going_answer (absent (s, k)) = rw (going_by true false ((sound d).1 s) ((off_duty d number).1 k))
   going_answer (off h) = rw (taken_off h)
 
-  went_off_lem : (changed_of d (going_of d number)).checked ≡ accepted unit → SoundDuty d × OnDutyUnder number d
+  went_off_lem : (changed_of d (going_of d number)).checked ≡ accepted tt → SoundDuty d × OnDutyUnder number d
   went_off_lem e = on (rw e at going)
     where
-      on : Going (accepted unit) → SoundDuty d × OnDutyUnder number d
+      on : Going (accepted tt) → SoundDuty d × OnDutyUnder number d
       on (off h) = h
 
   pub goes : Goes d number (changed_of d (going_of d number))

@@ -71,7 +71,7 @@ run_fit mark desk call =
 pub tells_runs : TellsRuns
 tells_runs limit mark desk call =
     duty_run_cases limit mark call.tables desk.duty call.scans (length call.output) (length call.verdicts)
-    (λ o. (duty_ran_of desk.duty o).checked ≡ accepted unit → with_duty_run desk call o ≡ ran_on mark desk call)
+    (λ o. (duty_ran_of desk.duty o).checked ≡ accepted tt → with_duty_run desk call o ≡ ran_on mark desk call)
     (λ r e. let z : ◌≡◌ {A = ℕ} 0 1 = cc in absurd (omega arith)) (λ r s e. let z : ◌≡◌ {A = ℕ} 0 1 = cc in absurd (omega arith))
     (λ r s t e. let z : ◌≡◌ {A = ℕ} 0 1 = cc in absurd (omega arith)) (λ r s t e. run_fit mark desk call)
 
@@ -85,10 +85,10 @@ going_refused desk number n place = rw (append-nil desk.over)
 
 -- A property of desks that is kept by every event that may happen and isn't refused. A rule comes on only with a table that fits.
 pub record Kept (limit mark : ℕ) (May : Desk → Event → Type 0) (P : Desk → Type 0) : Type 0 where
-  pub by_run : (desk : Desk) (call : DutyCall) → P desk → May desk (runs call) → answered limit mark desk (runs call) ≡ accepted unit → P (ran_on mark desk call)
-  pub by_coming : (desk : Desk) (x : Coming) → P desk → May desk (comes x) → answered limit mark desk (comes x) ≡ accepted unit
+  pub by_run : (desk : Desk) (call : DutyCall) → P desk → May desk (runs call) → answered limit mark desk (runs call) ≡ accepted tt → P (ran_on mark desk call)
+  pub by_coming : (desk : Desk) (x : Coming) → P desk → May desk (comes x) → answered limit mark desk (comes x) ≡ accepted tt
       → fits_at limit mark x.tables (at_start x.number x.base x.count) ≡ true → P (came_on desk x)
-  pub by_going : (desk : Desk) (number : ℕ) → P desk → May desk (goes number) → answered limit mark desk (goes number) ≡ accepted unit → P (went_off desk number)
+  pub by_going : (desk : Desk) (number : ℕ) → P desk → May desk (goes number) → answered limit mark desk (goes number) ≡ accepted tt → P (went_off desk number)
 
 module _ {limit mark : ℕ} {May : Desk → Event → Type 0} {P : Desk → Type 0} (step : Kept limit mark May P) where
   pub kept_by_event : (desk : Desk) (e : Event) → P desk → May desk e → P (with_event limit mark desk e)
@@ -118,7 +118,7 @@ module _ {limit mark : ℕ} {May : Desk → Event → Type 0} {P : Desk → Type
   kept_after desk (e ∷ es) p (may, each) = kept_after (with_event limit mark desk e) es (kept_by_event desk e p may) each
 
 -- an event that may be refused, and isn't
-pub fit_not_refused : {A : Type 0} {checked : Outcome Unit} → checked ≡ accepted unit → A ⊎ ((number place : ℕ) × (checked ≡ refused number place)) → A
+pub fit_not_refused : {A : Type 0} {checked : Outcome Unit} → checked ≡ accepted tt → A ⊎ ((number place : ℕ) × (checked ≡ refused number place)) → A
 fit_not_refused fit (inl a) = a
 fit_not_refused fit (inr (number, place, refusal)) = let z : ◌≡◌ {A = ℕ} 0 1 = cc in absurd (omega arith)
 

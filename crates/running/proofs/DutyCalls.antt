@@ -57,6 +57,6 @@ duty_refused_unchanged limit mark tables d scans output verdicts number place =
 pub duty_rest_unchanged : DutyRestUnchanged
 duty_rest_unchanged limit mark tables d scans output verdicts =
     duty_run_ways limit mark tables d scans (length output) (length verdicts)
-    (λ o. (duty_ran_of d o).checked ≡ accepted unit → Fronts scans output verdicts o (duty_ran_of d o).kept)
+    (λ o. (duty_ran_of d o).checked ≡ accepted tt → Fronts scans output verdicts o (duty_ran_of d o).kept)
     (λ short e. let z : ◌≡◌ {A = ℕ} 0 1 = cc in absurd (omega arith)) (λ h k n e. let z : ◌≡◌ {A = ℕ} 0 1 = cc in absurd (omega arith))
     (λ h k is e. run_fronts (together mark tables) (on_duty d) scans output verdicts h k)

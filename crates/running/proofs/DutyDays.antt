@@ -83,12 +83,12 @@ sound_last d x d' s few free came = record { few = omega (arith, came.count); di
     on i j h k (no a) (no b) same = omega (arith, came.count)
 
 -- a coming or a going that leaves a sound state, or is refused
-sound_changed : (d : Duty) (changed : Changed) → SoundState d → (changed.checked ≡ accepted unit → SoundState changed.duty)
+sound_changed : (d : Duty) (changed : Changed) → SoundState d → (changed.checked ≡ accepted tt → SoundState changed.duty)
     → ((n place : ℕ) → changed.checked ≡ refused n place → changed.duty ≡ d) → SoundState changed.duty
 sound_changed d changed h fit refusal = on changed.checked refl
   where
     on : (c : Outcome Unit) → changed.checked ≡ c → SoundState changed.duty
-    on (accepted unit) e = fit e
+    on (accepted tt) e = fit e
     on (refused n place) e = rw (refusal n place e) h
 
 sound_event : (limit mark : ℕ) (desk : Desk) (e : Event) → SoundState desk.duty → SoundState (with_event limit mark desk e).duty

@@ -56,7 +56,7 @@ run_fronts answer e scans output judged ro rv =
 pub rest_unchanged : RestUnchanged
 rest_unchanged limit mark s c =
     run_cases limit mark c.table c.count s c.scans (length c.output) (length c.verdicts)
-    (λ o. (result_of s o).checked ≡ accepted unit → OnlyFronts s c o)
+    (λ o. (result_of s o).checked ≡ accepted tt → OnlyFronts s c o)
     (λ r e. let z : ◌≡◌ {A = ℕ} 0 1 = cc in absurd (omega arith))
     (λ r f e. let z : ◌≡◌ {A = ℕ} 0 1 = cc in absurd (omega arith))
     (λ r f e. let room = has_room-lengths c.scans (length c.output) (length c.verdicts) r in

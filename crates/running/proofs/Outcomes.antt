@@ -19,7 +19,7 @@ use Rattle.running.proofs.Refusals.{has_room-lengths}
 
 -- ---- what a run that isn't refused has passed
 
-fit_accepted : {A : Type 0} (o : Outcome A) {checked : Outcome Unit} → checked ≡ checked_of o → checked ≡ accepted unit → (y : A) × (o ≡ accepted y)
+fit_accepted : {A : Type 0} (o : Outcome A) {checked : Outcome Unit} → checked ≡ checked_of o → checked ≡ accepted tt → (y : A) × (o ≡ accepted y)
 fit_accepted (accepted y) e f = (y, refl)
 fit_accepted (refused number place) e f = let z : ◌≡◌ {A = ℕ} 0 1 = cc in absurd (omega arith)
 
@@ -30,7 +30,7 @@ module _ (limit mark : ℕ) (table : List ℕ) (count : ℕ) (s : State) (scans 
     pub below : s.equation < limit
     pub is : run_of limit mark table count s scans output verdicts ≡ accepted (run_from mark table s scans)
 
-  pub passed : {checked : Outcome Unit} → checked ≡ checked_of (run_of limit mark table count s scans output verdicts) → checked ≡ accepted unit → Passed
+  pub passed : {checked : Outcome Unit} → checked ≡ checked_of (run_of limit mark table count s scans output verdicts) → checked ≡ accepted tt → Passed
   unfolding run_of
   passed e f =
       let accepted-so = (fit_accepted (run_of limit mark table count s scans output verdicts) e f).1 in

@@ -89,7 +89,7 @@ pub duty_drops_exactly : (limit mark : ℕ) → DutyDropsExactly limit mark
 duty_drops_exactly limit mark es day call bytes lends =
     let desk = after limit mark new_desk es in
     duty_run_ways limit mark call.tables desk.duty call.scans (length call.output) (length call.verdicts)
-    (λ o. (duty_ran_of desk.duty o).checked ≡ accepted unit → DropsBySpells desk call o)
+    (λ o. (duty_ran_of desk.duty o).checked ≡ accepted tt → DropsBySpells desk call o)
     (λ short e. fit_not_refused e (inr (15, 0, refl)))
     (λ a b n e. absurd (n (fit_duty limit mark es day call lends)))
     (λ a b fit e. run_drops_by_spells desk call bytes (lent limit mark es day call lends))

@@ -28,7 +28,7 @@ no_calls = record { state = start; scans = []; kept = []; verdicts = [] }
 
 -- the scans that a call with this answer has taken
 abbrev pub taken : Outcome Unit → (scans : List ℕ) → List ℕ
-taken (accepted unit) scans = scans
+taken (accepted tt) scans = scans
 taken (refused number place) scans = []
 
 -- the outcome of a call with this state

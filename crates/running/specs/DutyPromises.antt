@@ -78,9 +78,9 @@ pub record Comes (limit mark : ℕ) (d : Duty) (number : ℕ) (tables : List ℕ
       ⊎ (SoundDuty d × (d.count < 4) × (OnDutyUnder number d → ⊥) × (WellFormedTable limit mark count (drop base tables) → ⊥)))
   pub fifth : (changed.checked ≡ refused 19 0) ↔ (SoundDuty d × (d.count ≡ 4))
   pub known : (changed.checked ≡ refused 20 0) ↔ (SoundDuty d × (d.count < 4) × OnDutyUnder number d)
-  pub fit : (changed.checked ≡ accepted unit)
+  pub fit : (changed.checked ≡ accepted tt)
       ↔ (SoundDuty d × (d.count < 4) × (OnDutyUnder number d → ⊥) × WellFormedTable limit mark count (drop base tables))
-  pub last : changed.checked ≡ accepted unit → ComesLast d (at_start number base count) changed.duty
+  pub last : changed.checked ≡ accepted tt → ComesLast d (at_start number base count) changed.duty
   pub refused : (n place : ℕ) → changed.checked ≡ refused n place → changed.duty ≡ d
 
 -- A going is refused with 16 for an unsound state, then with 21 where its number isn't on duty; else the rule with the number leaves its place, and
@@ -88,19 +88,19 @@ pub record Comes (limit mark : ℕ) (d : Duty) (number : ℕ) (tables : List ℕ
 pub record Goes (d : Duty) (number : ℕ) (changed : Changed) : Type 0 where
   pub unfit : (changed.checked ≡ refused 16 0) ↔ (SoundDuty d → ⊥)
   pub absent : (changed.checked ≡ refused 21 0) ↔ (SoundDuty d × (OnDutyUnder number d → ⊥))
-  pub fit : (changed.checked ≡ accepted unit) ↔ (SoundDuty d × OnDutyUnder number d)
-  pub leaves : changed.checked ≡ accepted unit → (i : ℕ) → i < d.count → (rule_in d i).number ≡ number → LeavesPlace d i changed.duty
-  pub free : changed.checked ≡ accepted unit → SoundDuty changed.duty × (OnDutyUnder number changed.duty → ⊥)
+  pub fit : (changed.checked ≡ accepted tt) ↔ (SoundDuty d × OnDutyUnder number d)
+  pub leaves : changed.checked ≡ accepted tt → (i : ℕ) → i < d.count → (rule_in d i).number ≡ number → LeavesPlace d i changed.duty
+  pub free : changed.checked ≡ accepted tt → SoundDuty changed.duty × (OnDutyUnder number changed.duty → ⊥)
   pub refused : (n place : ℕ) → changed.checked ≡ refused n place → changed.duty ≡ d
 
 -- A going makes room: after it a rule comes on with any number that wasn't on duty, or with the one that went off, if its table is well formed. It is
 -- last, in its first equation.
 pub record MakesRoom (limit mark : ℕ) (d : Duty) (number : ℕ) : Type 0 where
-  pub taken : (changed_of d (going_of d number)).checked ≡ accepted unit → (number' : ℕ) (tables : List ℕ) (base count : ℕ)
+  pub taken : (changed_of d (going_of d number)).checked ≡ accepted tt → (number' : ℕ) (tables : List ℕ) (base count : ℕ)
       → (number' ≡ number) ⊎ (OnDutyUnder number' d → ⊥) → WellFormedTable limit mark count (drop base tables) →
       let d' = (changed_of d (going_of d number)).duty in
       let changed = changed_of d' (coming_of limit mark d' number' tables base count) in
-      (changed.checked ≡ accepted unit) × ComesLast d' (at_start number' base count) changed.duty
+      (changed.checked ≡ accepted tt) × ComesLast d' (at_start number' base count) changed.duty
 
 -- ---- refusals of runs on duty
 
@@ -149,7 +149,7 @@ pub record AsAlone (d : Duty) (x : OnDuty) (alone : Outcome Run) (outcome : Outc
   pub checked : checked_of outcome ≡ checked_of alone
   pub kept : kept_of outcome ≡ kept_of alone
   pub verdicts : verdicts_of outcome ≡ verdicts_of alone
-  pub handed_back_lem : checked_of alone ≡ accepted unit →
+  pub handed_back_lem : checked_of alone ≡ accepted tt →
       let ran = result_of (moved start x.equation) alone in
       duty_ran_of d outcome
       ≡ record { checked = ran.checked; state = duty_of (moved_to x ran.state.equation ∷ []); kept = ran.kept; dropped = ran.dropped }
@@ -206,7 +206,7 @@ abbrev pub DutyRestUnchanged : Type 0
 DutyRestUnchanged =
     (limit mark : ℕ) (tables : List ℕ) (d : Duty) (scans output verdicts : List ℕ) →
     let outcome = duty_run_of limit mark tables d scans (length output) (length verdicts) in
-    (duty_ran_of d outcome).checked ≡ accepted unit → Fronts scans output verdicts outcome (duty_ran_of d outcome).kept
+    (duty_ran_of d outcome).checked ≡ accepted tt → Fronts scans output verdicts outcome (duty_ran_of d outcome).kept
 
 -- ---- all of these
 

@@ -165,7 +165,7 @@ OnlyFronts s c outcome = Fronts c.scans c.output c.verdicts outcome (result_of s
 
 abbrev pub RestUnchanged : Type 0
 RestUnchanged =
-    (limit mark : ℕ) (s : State) (c : Call) → (result_of s (outcome_of limit mark s c)).checked ≡ accepted unit → OnlyFronts s c (outcome_of limit mark s c)
+    (limit mark : ℕ) (s : State) (c : Call) → (result_of s (outcome_of limit mark s c)).checked ≡ accepted tt → OnlyFronts s c (outcome_of limit mark s c)
 
 -- ---- why scans are dropped
 

@@ -81,7 +81,7 @@ run_of limit mark table count s scans output verdicts =
 
 -- The answer of each outcome: fit, or the refusal with the paper's number and place.
 abbrev pub checked_of : {A : Type 0} → Outcome A → Outcome Unit
-checked_of (accepted y) = accepted unit
+checked_of (accepted y) = accepted tt
 checked_of (refused number place) = refused number place
 
 -- how often a number stands in a list

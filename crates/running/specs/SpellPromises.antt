@@ -37,7 +37,7 @@ SpellsOnDuty = (limit mark : ℕ) (es : List Event) → SpellsOfDuty (after limi
 -- What a desk has after a run that isn't refused: all scans of the run, with what it keeps and judges, and each spell longer by what it keeps.
 abbrev pub TellsRuns : Type 0
 TellsRuns =
-    (limit mark : ℕ) (desk : Desk) (call : DutyCall) → answered limit mark desk (runs call) ≡ accepted unit →
+    (limit mark : ℕ) (desk : Desk) (call : DutyCall) → answered limit mark desk (runs call) ≡ accepted tt →
     let run = run_by (together mark call.tables) (on_duty desk.duty) call.scans in
     with_event limit mark desk (runs call) ≡ record {
       duty = duty_of run.state;
@@ -108,7 +108,7 @@ DutyDropsExactly limit mark =
     (es : List Event) → OrderlyDay limit mark es → (call : DutyCall) → Bytes call.scans →
     let desk = after limit mark new_desk es in
     let outcome = run_at limit mark desk.duty call in
-    LendsRows desk call → (duty_ran_of desk.duty outcome).checked ≡ accepted unit → DropsBySpells desk call outcome
+    LendsRows desk call → (duty_ran_of desk.duty outcome).checked ≡ accepted tt → DropsBySpells desk call outcome
 
 -- A run that lends the rows is never refused with 16.
 abbrev pub OnDutyNeverUnfit : (limit mark : ℕ) → Type 0

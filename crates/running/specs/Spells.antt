@@ -99,7 +99,7 @@ with_duty desk d spells over =
 
 -- after a coming: one spell more, if it wasn't refused
 abbrev pub beginning : Outcome Unit → Coming → List Spell
-beginning (accepted unit) x = begun x ∷ []
+beginning (accepted tt) x = begun x ∷ []
 beginning (refused number place) x = []
 
 abbrev pub with_coming : Desk → Coming → Outcome (List OnDuty) → Desk
@@ -109,11 +109,11 @@ with_coming desk x outcome =
 
 -- after a going: the spells under its number are over, if it wasn't refused
 abbrev pub staying : Outcome Unit → (number : ℕ) → List Spell → List Spell
-staying (accepted unit) number ss = filter (λ s. not (eqb s.number number)) ss
+staying (accepted tt) number ss = filter (λ s. not (eqb s.number number)) ss
 staying (refused n place) number ss = ss
 
 abbrev pub leaving : Outcome Unit → (number : ℕ) → List Spell → List Spell
-leaving (accepted unit) number ss = filter (λ s. eqb s.number number) ss
+leaving (accepted tt) number ss = filter (λ s. eqb s.number number) ss
 leaving (refused n place) number ss = []
 
 abbrev pub with_going : Desk → (number : ℕ) → Outcome (List OnDuty) → Desk
