@@ -16,7 +16,7 @@ use Rattle.running.specs.DutyPromises.{rule_in, SoundDuty, OnDutyUnder, RestVaca
 use Rattle.running.specs.SpellPromises.{SpellsOnDuty}
 use Rattle.running.specs.declared.OnDuty.{OnDuty}
 use Rattle.running.specs.declared.Duty.{Duty}
-use Rattle.running.specs.declared.Changed.{Changed}
+use Rattle.running.specs.Duty.{ChangeReturned}
 use Rattle.running.proofs.SoundStates.{duty_of-rules, rest_vacant}
 use Rattle.running.proofs.ComingAndGoing as Ways
 use Rattle.running.proofs.DutyRuns.{duty_run_ways, fit_after}
@@ -83,7 +83,7 @@ sound_last d x d' s few free came = record { few = omega (arith, came.count); di
     on i j h k (no a) (no b) same = omega (arith, came.count)
 
 -- a coming or a going that leaves a sound state, or is refused
-sound_changed : (d : Duty) (changed : Changed) → SoundState d → (changed.checked ≡ accepted tt → SoundState changed.duty)
+sound_changed : (d : Duty) (changed : ChangeReturned) → SoundState d → (changed.checked ≡ accepted tt → SoundState changed.duty)
     → ((n place : ℕ) → changed.checked ≡ refused n place → changed.duty ≡ d) → SoundState changed.duty
 sound_changed d changed h fit refusal = on changed.checked refl
   where

@@ -11,7 +11,7 @@ use Rattle.reading.proofs.Basics.Outcomes.{refuse_accepted}
 use Rattle.running.specs.Running.{answer_in, fits, has_room, RunOver, run_from, run_of}
 use Rattle.running.specs.Running.{checked_of, result_of, overlay, output_after, verdicts_after}
 use Rattle.running.specs.declared.State.{State}
-use Rattle.running.specs.declared.RunResult.{RunResult}
+use Rattle.running.specs.Running.{Returned}
 use Rattle.running.proofs.Counting.{kept_dropped}
 use Rattle.running.proofs.RunCases.{run_cases}
 use Rattle.running.proofs.Tables.{fits_well_formed}
@@ -46,9 +46,9 @@ module _ (limit mark : ℕ) (table : List ℕ) (count : ℕ) (s : State) (scans 
       }
 
   -- refused or not, the output has room for what is kept
-  pub kept_room : {ran : RunResult} → ran ≡ result_of s (run_of limit mark table count s scans output verdicts) → ran.kept ≤ output
+  pub kept_room : {ran : Returned State} → ran ≡ result_of s (run_of limit mark table count s scans output verdicts) → ran.kept ≤ output
   kept_room e =
-      rw (ap (λ (r : RunResult). r.kept) e)
+      rw (ap (λ (r : Returned State). r.kept) e)
       (run_cases limit mark table count s scans output verdicts (λ o. (result_of s o).kept ≤ output) (λ r. omega arith) (λ r f. omega arith)
       (λ r f. omega (arith, (has_room-lengths scans output verdicts r).0, kept_dropped (answer_in mark table) s scans)))
 

@@ -1,8 +1,10 @@
 -- Rules on duty, up to four of them in order of arrival: who comes on and goes off, and runs under all of them. Their tables are parts of one lent
 -- list, each from a place of the desk's choosing on. The limit on equations and the mark for dropped are any; the paper's are `most` and `mark`.
-use Rattle.std.specs.Prelude.{ℕ, zero, suc, Bool, true, false, not, cond, ◌&&◌, List, [], ◌∷◌, ◌++◌, map, eqb, leb, length, get_or, drop}
+use Rattle.std.specs.Prelude.{ℕ, zero, suc, Bool, true, false, not, cond, ◌&&◌, List, [], ◌∷◌, ◌++◌, map, eqb, leb, length, get_or, drop, Result, Ok, Err}
 use Rattle.reading.specs.File.{Outcome, accepted, refused, refuse}
 use Rattle.reading.specs.Numbered.{padded}
+use Rattle.reading.specs.Refusals.{as_outcome}
+use Rattle.reading.specs.declared.refusals.Refusal.{Refusal}
 use Rattle.synthesis.specs.Monitor.{Answer, dropped, next, cases, lookup}
 use Rattle.running.specs.Lists.{any, all, filter}
 use Rattle.running.specs.Running.{start, moved, fits, has_room, RunOver, run_by, checked_of, occurrences, Returned}
@@ -103,6 +105,11 @@ going_of d number =
 pub record ChangeReturned : Type 0 where
   pub checked : Outcome Unit
   pub duty : Duty
+
+-- what is handed back for the state after it, or for its refusal, from the state that it was given
+abbrev pub changed_by : Duty → Result Duty Refusal → Changed
+changed_by d (Ok d') = record { checked = Ok tt; duty = d' }
+changed_by d (Err r) = record { checked = Err r; duty = d }
 
 -- what a result says
 abbrev pub change_returned : Changed → ChangeReturned

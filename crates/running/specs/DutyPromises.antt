@@ -11,7 +11,7 @@ use Rattle.running.specs.Duty.{vacant, on_duty, duty_of, own_answer, moved_to, t
 use Rattle.running.specs.Promises.{Conserved, Fronts}
 use Rattle.running.specs.declared.OnDuty.{OnDuty}
 use Rattle.running.specs.declared.Duty.{Duty}
-use Rattle.running.specs.declared.Changed.{Changed}
+use Rattle.running.specs.Duty.{ChangeReturned}
 
 -- ---- one scan more
 
@@ -72,7 +72,7 @@ pub record LeavesPlace (d : Duty) (i : ℕ) (d' : Duty) : Type 0 where
 
 -- 2. A coming is refused with 16 for an unsound state, then with 19 where four rules are on duty, then with 20 where its number is on duty, then with
 -- 16 where its table isn't well formed; else it is last, in its first equation. A refusal hands back the duty that it was given.
-pub record Comes (limit mark : ℕ) (d : Duty) (number : ℕ) (tables : List ℕ) (base count : ℕ) (changed : Changed) : Type 0 where
+pub record Comes (limit mark : ℕ) (d : Duty) (number : ℕ) (tables : List ℕ) (base count : ℕ) (changed : ChangeReturned) : Type 0 where
   pub unfit : (changed.checked ≡ refused 16 0)
       ↔ ((SoundDuty d → ⊥)
       ⊎ (SoundDuty d × (d.count < 4) × (OnDutyUnder number d → ⊥) × (WellFormedTable limit mark count (drop base tables) → ⊥)))
@@ -85,7 +85,7 @@ pub record Comes (limit mark : ℕ) (d : Duty) (number : ℕ) (tables : List ℕ
 
 -- A going is refused with 16 for an unsound state, then with 21 where its number isn't on duty; else the rule with the number leaves its place, and
 -- the number is free.
-pub record Goes (d : Duty) (number : ℕ) (changed : Changed) : Type 0 where
+pub record Goes (d : Duty) (number : ℕ) (changed : ChangeReturned) : Type 0 where
   pub unfit : (changed.checked ≡ refused 16 0) ↔ (SoundDuty d → ⊥)
   pub absent : (changed.checked ≡ refused 21 0) ↔ (SoundDuty d × (OnDutyUnder number d → ⊥))
   pub fit : (changed.checked ≡ accepted tt) ↔ (SoundDuty d × OnDutyUnder number d)

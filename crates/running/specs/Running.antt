@@ -2,6 +2,7 @@
 -- dropped are any; the paper's are `most` and `mark`.
 use Rattle.std.specs.Prelude.{ℕ, suc, ◌*◌, Bool, not, cond, ◌&&◌, ◌||◌, List, [], ◌∷◌, ◌++◌, eqb, ltb, leb, length, take, drop}
 use Rattle.reading.specs.File.{Outcome, accepted, refused, refuse}
+use Rattle.reading.specs.Refusals.{as_outcome}
 use Rattle.synthesis.specs.Monitor.{Answer, dropped, next, cases, kept, verdicts, ended, lookup}
 use Rattle.running.specs.Lists.{all}
 use Rattle.running.specs.declared.State.{State}

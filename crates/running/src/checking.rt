@@ -1,9 +1,11 @@
 // Refusals 15 and 16.
 ghost use Rattle.std.specs.Prelude.{◌≡◌};
+ghost use Rattle.reading.specs.Refusals.{as_outcome};
 ghost use Rattle.synthesis.specs.Monitor.{mark, most};
 ghost use Rattle.running.specs.Running.{in_range, entries_in_range, is_well_formed, fits, has_room, run_of, checked_of};
 
-use crate::{Checked, State};
+use crate::State;
+use reading::{Fault, Refusal};
 use synthesis::{DROPPED, MOST};
 
 // Whether an entry is the mark for dropped or the number of an equation.
@@ -61,14 +63,14 @@ pub(crate) fn check(
     scans: &[u8],
     output: usize,
     verdicts: usize,
-) -> Checked
-    ensures { result ≡ checked_of (run_of most mark table.now count state scans.now output verdicts) }
+) -> Result<(), Refusal>
+    ensures { as_outcome result ≡ checked_of (run_of most mark table.now count state scans.now output verdicts) }
 {
     if !has_room(scans, output, verdicts) {
-        return Checked::Refused(15, 0);
+        return Err(Fault::NoRoom.at(0));
     }
     if !fits(table, count, state) {
-        return Checked::Refused(16, 0);
+        return Err(Fault::Unfit.at(0));
     }
-    Checked::Fit
+    Ok(())
 }

@@ -1,9 +1,11 @@
 // Who is on duty: the places of up to four rules.
-ghost use Rattle.std.specs.Prelude.{◌≡◌, ◌≤◌, ◌<◌, List, [], ◌∷◌, ◌++◌, false, true, MatchOption};
+ghost use Rattle.std.specs.Prelude.{◌≡◌, ◌≤◌, ◌<◌, List, [], ◌∷◌, ◌++◌, false, true, MatchResult};
+ghost use Rattle.reading.specs.declared.refusals.Fault.TheVariants.{Unfit};
 ghost use Rattle.running.specs.declared.OnDuty.{OnDuty};
 ghost use Rattle.running.specs.Duty.{nobody, on_duty, duty_of, is_on, are_distinct, is_sound, without};
 
 use crate::{Duty, OnDuty, nobody};
+use reading::{Fault, Refusal};
 
 // Whether one of the rules has this number.
 fn is_on(rules: &[OnDuty], number: u8) -> bool
@@ -40,23 +42,24 @@ impl Roster {
         Roster { duty: nobody() }
     }
 
-    // The rules on duty in a state, if there are at most four, under different numbers.
-    pub(crate) fn of(duty: Duty) -> Option<Self>
-        ensures { MatchOption result (is_sound duty ≡ false)
-            (λ roster. (is_sound duty ≡ true) × (on_duty roster.duty ≡ on_duty duty)) }
+    // The rules on duty in a state, if there are at most four, under different numbers; else the state is unfit.
+    pub(crate) fn of(duty: Duty) -> Result<Self, Refusal>
+        ensures { MatchResult result
+            (λ roster. (is_sound duty ≡ true) × (on_duty roster.duty ≡ on_duty duty))
+            (λ refusal. (is_sound duty ≡ false) × (refusal ≡ record { fault = Unfit; place = 0 })) }
     {
         if 4 < duty.count {
-            return None;
+            return Err(Fault::Unfit.at(0));
         }
         let rules = &duty.rules[..duty.count];
         if !are_distinct(rules) {
-            return None;
+            return Err(Fault::Unfit.at(0));
         }
         let mut roster = Roster::new();
         for rule in rules {
             roster.push(*rule);
         }
-        Some(roster)
+        Ok(roster)
     }
 
     // The rules, by arrival.

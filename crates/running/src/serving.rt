@@ -1,6 +1,7 @@
 // Runs under all rules on duty. Only their equations go from scan to scan.
 ghost use Rattle.std.specs.Prelude.{◌≡◌, cond, map, ◌≤◌, length, get_or, drop, IfOk, MatchResult};
 ghost use Rattle.reading.specs.File.{accepted, refused};
+ghost use Rattle.reading.specs.Refusals.{number};
 ghost use Rattle.synthesis.specs.Monitor.{mark, most, row_of};
 ghost use Rattle.running.specs.Lists.{all};
 ghost use Rattle.running.specs.Running.{run_by, overlay};
@@ -11,6 +12,7 @@ use crate::checking::{fits, has_room};
 use crate::following::{End, MARK, entry};
 use crate::roster::Roster;
 use crate::{Duty, OnDuty, State};
+use reading::{Fault, Refusal};
 use std::hint::select_unpredictable;
 
 // Whether a rule's table is well formed, and its equation one of the table's.
@@ -34,7 +36,7 @@ pub(crate) fn all_fit(tables: &[u16], rules: &[OnDuty]) -> bool
     rules.iter().all(|rule| fits_at(tables, *rule))
 }
 
-// The rules on duty under which a run goes, or the number by which it is refused, with an output and verdicts of these lengths.
+// The rules on duty under which a run goes, or why it is refused, with an output and verdicts of these lengths.
 #[tactic(auto, unfolding(crate::specs::Duty::duty_run_of))]
 pub(crate) fn admitted(
     tables: &[u16],
@@ -42,20 +44,18 @@ pub(crate) fn admitted(
     scans: &[u8],
     output: usize,
     verdicts: usize,
-) -> Result<Roster, u8>
+) -> Result<Roster, Refusal>
     ensures room { IfOk result (λ _. (length scans.now ≤ output) × (length scans.now ≤ verdicts)) }
     ensures rules { IfOk result (λ roster. on_duty roster.duty ≡ on_duty duty) }
     ensures outcome { let outcome = duty_run_of most mark tables.now duty scans.now output verdicts in
-        MatchResult result (λ _. outcome ≡ accepted (run_by (together mark tables.now) (on_duty duty) scans.now)) (λ number. outcome ≡ refused number 0) }
+        MatchResult result (λ _. outcome ≡ accepted (run_by (together mark tables.now) (on_duty duty) scans.now)) (λ refusal. outcome ≡ refused (number refusal.fault) refusal.place) }
 {
     if !has_room(scans, output, verdicts) {
-        return Err(15);
+        return Err(Fault::NoRoom.at(0));
     }
-    let Some(roster) = Roster::of(duty) else {
-        return Err(16);
-    };
+    let roster = Roster::of(duty)?;
     if !all_fit(tables, roster.rules()) {
-        return Err(16);
+        return Err(Fault::Unfit.at(0));
     }
     Ok(roster)
 }
