@@ -1,5 +1,5 @@
 // Runs under all rules on duty. Only their equations go from scan to scan.
-ghost use Rattle.std.specs.Prelude.{◌≡◌, cond, map, ◌≤◌, length, get_or, drop, IfOk, MatchResult};
+ghost use Rattle.std.specs.Prelude.{◌≡◌, cond, map, ◌≤◌, length, get_or, drop, IfOk, MatchResult, is_none, unwrap_or};
 ghost use Rattle.reading.specs.File.{accepted, refused};
 ghost use Rattle.reading.specs.Refusals.{number};
 ghost use Rattle.synthesis.specs.Monitor.{mark, most, row_of};
@@ -20,13 +20,13 @@ use std::hint::select_unpredictable;
 pub(crate) fn fits_at(tables: &[u16], rule: OnDuty) -> bool
     ensures { result ≡ fits_at most mark tables.now rule }
 {
-    if tables.len() < rule.base {
+    let Some(table) = tables.get(rule.base..) else {
         return false;
-    }
+    };
     let state = State {
         equation: rule.equation,
     };
-    fits(&tables[rule.base..], rule.count, state)
+    fits(table, rule.count, state)
 }
 
 // Whether each of the rules is fit.
@@ -64,20 +64,13 @@ pub(crate) fn admitted(
 fn own_entry(tables: &[u16], base: usize, equation: usize, code: u8) -> usize
     ensures { result ≡ get_or (row_of 256 (drop base tables.now) equation) code mark }
 {
-    if tables.len() < base {
-        return MARK;
+    match tables.get(base..) {
+        Some(table) => entry(table, equation, code),
+        None => MARK,
     }
-    entry(&tables[base..], equation, code)
 }
 
-// What a scan does in one place: whether its rule would drop the scan, and the equation to which it leads the rule.
-#[derive(Clone, Copy)]
-struct LookedInPlace {
-    drops: bool,
-    equation: usize,
-}
-
-// Looks the scan up in the table of the rule in a place. Where no rule has the place, none drops the scan.
+// The equation to which a scan leads the rule in a place, or none if the rule would drop the scan. Where no rule has the place, the equation stays.
 #[tactic(auto, using(crate::proofs::Entries::entry_drops, crate::proofs::Entries::entry_moves), unfolding(crate::specs::Lists::any))]
 fn look_in_place(
     tables: &[u16],
@@ -85,21 +78,16 @@ fn look_in_place(
     rule: OnDuty,
     equation: usize,
     code: u8,
-) -> LookedInPlace
-    ensures drops_value { result.drops ≡ some_drops mark tables.now (in_place taken (moved_to rule equation)) code }
-    ensures equation_value { in_place taken (moved_to rule result.equation)
+) -> Option<usize>
+    ensures drops_value { is_none result ≡ some_drops mark tables.now (in_place taken (moved_to rule equation)) code }
+    ensures equation_value { in_place taken (moved_to rule (unwrap_or result equation))
         ≡ map (moved_by mark tables.now code) (in_place taken (moved_to rule equation)) }
 {
     if !taken {
-        return LookedInPlace {
-            drops: false,
-            equation,
-        };
+        return Some(equation);
     }
     let entry = own_entry(tables, rule.base, equation, code);
-    let drops = entry == MARK;
-    let equation = select_unpredictable(drops, equation, entry);
-    LookedInPlace { drops, equation }
+    if entry == MARK { None } else { Some(entry) }
 }
 
 // What a scan does: whether a rule would drop it, and the equations in which it leaves the rules.
@@ -123,14 +111,14 @@ fn look(tables: &[u16], roster: Roster, equations: [usize; 4], code: u8) -> Look
     let b = look_in_place(tables, 1 < n, rules[1], equations[1], code);
     let c = look_in_place(tables, 2 < n, rules[2], equations[2], code);
     let d = look_in_place(tables, 3 < n, rules[3], equations[3], code);
-    let drops = a.drops | b.drops | c.drops | d.drops;
+    let drops = a.is_none() | b.is_none() | c.is_none() | d.is_none();
     Looked {
         drops,
         equations: [
-            select_unpredictable(drops, equations[0], a.equation),
-            select_unpredictable(drops, equations[1], b.equation),
-            select_unpredictable(drops, equations[2], c.equation),
-            select_unpredictable(drops, equations[3], d.equation),
+            select_unpredictable(drops, equations[0], a.unwrap_or(equations[0])),
+            select_unpredictable(drops, equations[1], b.unwrap_or(equations[1])),
+            select_unpredictable(drops, equations[2], c.unwrap_or(equations[2])),
+            select_unpredictable(drops, equations[3], d.unwrap_or(equations[3])),
         ],
     }
 }

@@ -3,7 +3,7 @@ use Rattle.std.proofs.Common.{arith, drop, length-drop}
 use Rattle.synthesis.proofs.Tables.Rows.{row_none}
 use Rattle.running.proofs.serving.own_entry.Goals as goal
 
-pub returns-then-tables-base : goal.returns-then-tables-base
-returns-then-tables-base c =
+pub returns-in-None : goal.returns-in-None
+returns-in-None c =
     let x = c.args in
-    rw (row_none 256 (drop x.base x.tables.now) x.equation (omega (arith, length-drop x.base x.tables.now)))
+    rw (row_none 256 (drop x.base x.tables.now) x.equation (omega (arith, length-drop x.base x.tables.now, c.in-None.ensures.lookup)))
