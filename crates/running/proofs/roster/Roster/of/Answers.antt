@@ -6,7 +6,7 @@ use Rattle.running.proofs.RosterLaws.{places_front, sound_by, rules_of, pushed_o
 use Rattle.running.proofs.roster.Roster.of.Goals as goal
 
 pub returns-then-not-are_distinct : goal.returns-then-not-are_distinct
-returns-then-not-are_distinct c = rw (sound_by c.args.duty (omega arith) (omega arith)) cc
+returns-then-not-are_distinct c = rw (sound_by c.args.duty (omega arith) (omega arith)) (cc, cc)
 
 pub loop-rule-preserved : goal.loop-rule-preserved
 loop-rule-preserved c =
