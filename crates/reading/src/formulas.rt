@@ -1,4 +1,4 @@
-// Node records, and a formula in prefix order.
+// Node records, and a formula in prefix order. The bytes and the number of patterns are two parameters: in a struct each clause would name `self.entry.bytes.now`.
 ghost use Rattle.std.specs.Prelude.{◌≡◌, ◌+◌, ◌-◌, ◌≤◌, ◌<◌, [], ◌∷◌, false, length, get_or};
 ghost use Rattle.reading.specs.Rule.{guarded};
 ghost use Rattle.reading.specs.File.{necessity_at, variable_at, node_at, formula_of};
@@ -110,10 +110,9 @@ fn read_necessity(bytes: &[u8], patterns: usize, at: usize) -> Result<Record, Re
     requires { at < length bytes.now }
     ensures { record_of result ≡ necessity_at bytes.now patterns at }
 {
-    if bytes.len() <= at + 1 {
+    let Some(&pattern) = bytes.get(at + 1) else {
         return Err(Fault::FileEnds.at(bytes.len()));
-    }
-    let pattern = bytes[at + 1];
+    };
     if patterns <= pattern as usize {
         return Err(Fault::NamesNothing.at(at));
     }
@@ -129,10 +128,9 @@ fn read_variable(bytes: &[u8], scope: &Scope, at: usize) -> Result<Record, Refus
     requires { at < length bytes.now }
     ensures { record_of result ≡ variable_at bytes.now scope.now.guards at }
 {
-    if bytes.len() <= at + 1 {
+    let Some(&depth) = bytes.get(at + 1) else {
         return Err(Fault::FileEnds.at(bytes.len()));
-    }
-    let depth = bytes[at + 1];
+    };
     if scope.count <= depth as usize {
         return Err(Fault::NamesNothing.at(at));
     }
@@ -155,25 +153,21 @@ fn read_node(
 ) -> Result<Record, Refusal>
     ensures { record_of result ≡ node_at bytes.now patterns at left scope.now.guards }
 {
-    if bytes.len() <= at {
+    let Some(&byte) = bytes.get(at) else {
         return Err(Fault::FileEnds.at(bytes.len()));
-    }
-    let Ok(kind) = Kind::try_from(bytes[at]) else {
+    };
+    let Ok(kind) = Kind::try_from(byte) else {
         return Err(Fault::UnknownKind.at(at));
     };
-    if kind == Kind::Pattern {
-        return Err(Fault::Misplaced.at(at));
-    }
-    if left == 0 {
-        return Err(Fault::TooManyRecords.at(at));
-    }
     let symbol = match kind {
-        Kind::Necessity => return read_necessity(bytes, patterns, at),
-        Kind::Variable => return read_variable(bytes, scope, at),
+        Kind::Pattern => return Err(Fault::Misplaced.at(at)),
+        _ if left == 0 => return Err(Fault::TooManyRecords.at(at)),
+        Kind::Truth => Symbol::Truth,
         Kind::Falsity => Symbol::Falsity,
         Kind::Both => Symbol::Both,
         Kind::Max => Symbol::Max,
-        _ => Symbol::Truth,
+        Kind::Necessity => return read_necessity(bytes, patterns, at),
+        Kind::Variable => return read_variable(bytes, scope, at),
     };
     Ok(Record {
         symbol,
@@ -207,8 +201,14 @@ pub(crate) fn read_formula(
         }
         Symbol::Max => {
             nodes[k] = Node::Max;
-            let inner = scope.inside_max(k as u8);
-            return read_formula(bytes, patterns, next, others, &inner, nodes);
+            return read_formula(
+                bytes,
+                patterns,
+                next,
+                others,
+                &scope.inside_max(k as u8),
+                nodes,
+            );
         }
         Symbol::Both => {
             let first = read_formula(bytes, patterns, next, others, scope, nodes)?;

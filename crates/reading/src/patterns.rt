@@ -47,26 +47,27 @@ fn read_pattern(bytes: &[u8], at: usize, left: usize) -> Result<Pattern, Refusal
     if left == 0 {
         return Err(Fault::TooManyRecords.at(at));
     }
-    if bytes.len() <= at + 3 {
+    let Some([_, mask, first, last]) = bytes.get(at..at + 4) else {
         return Err(Fault::FileEnds.at(bytes.len()));
-    }
-    let mask = bytes[at + 1];
-    let first = bytes[at + 2];
-    let last = bytes[at + 3];
-    if 31 < first || 31 < last {
+    };
+    if 31 < *first || 31 < *last {
         return Err(Fault::NoSuchSlot.at(at));
     }
-    Ok(Pattern { mask, first, last })
+    Ok(Pattern {
+        mask: *mask,
+        first: *first,
+        last: *last,
+    })
 }
 
 // Whether a pattern record begins at `at`.
 fn is_pattern(bytes: &[u8], at: usize) -> bool
     ensures { result ≡ is_pattern bytes.now at }
 {
-    at < bytes.len() && bytes[at] == Kind::Pattern as u8
+    bytes.get(at) == Some(&(Kind::Pattern as u8))
 }
 
-// The patterns that a file begins with.
+// The patterns that a file begins with. A `for` over the 32 places would look for a 33rd pattern after it, so this is a `while`.
 #[tactic(auto, using(crate::proofs::Functions::Heads::patterns_begun_one))]
 pub(crate) fn read_patterns(bytes: &[u8]) -> Result<Head, Refusal>
     ensures { as_outcome result ≡ head_of (patterns_at 32 bytes.now 0) }

@@ -16,7 +16,7 @@ returns-in-Necessity t c =
 pub returns-in-Max : goal.returns-in-Max
 returns-in-Max t c =
     let few : c.args.left ≤ 64 = omega arith in
-    reads_max _ _ _ _ _ few (rw c.in-Max.is at c.in_ok-record.ensures) (rw c.inside_max-inner.ensures at c.read_formula-in-Max.ensures)
+    reads_max _ _ _ _ _ few (rw c.in-Max.is at c.in_ok-record.ensures) (rw c.inside_max.ensures at c.read_formula-in-Max.ensures)
 
 -- ---- a "both"
 
