@@ -1,17 +1,32 @@
 -- What the crate's own enums stand for. No public contract cites these.
-use Rattle.std.specs.Prelude.{ℕ}
+use Rattle.std.specs.Prelude.{ℕ, ◌≡◌, Result, MatchResult}
 use Rattle.reading.specs.File.{Outcome, by_case}
 use Rattle.reading.specs.declared.FileRead.{FileRead}
 use Rattle.reading.specs.declared.FileRead as FileRead'
 use Rattle.synthesis.specs.declared.Counted.{Counted}
 use Rattle.synthesis.specs.declared.Counted as Counted'
+use Rattle.models.specs.Phone.{code_step_kind, silent_step_kind}
 use Rattle.models.specs.declared.Step.{Step}
 use Rattle.models.specs.declared.Judged.{Judged}
 use Rattle.models.specs.declared.Judged as Judged'
+use Rattle.models.specs.declared.kind.StepKind.{StepKind}
+use Rattle.models.specs.declared.kind.StepKind.TheVariants.{Code, Silent}
+use Rattle.models.specs.declared.kind.NoStep.{NoStep}
 use Rattle.models.specs.declared.records.StatesRead.{StatesRead}
 use Rattle.models.specs.declared.records.StatesRead as StatesRead'
 use Rattle.models.specs.declared.records.StepRead.{StepRead}
 use Rattle.models.specs.declared.records.StepRead as StepRead'
+
+-- ---- the kinds of steps
+
+-- the byte with which its record begins
+abbrev pub kind_byte : StepKind → ℕ
+kind_byte Code = code_step_kind
+kind_byte Silent = silent_step_kind
+
+-- the kind with this byte, or that none has it
+abbrev pub StepKindRead : ℕ → Result StepKind NoStep → Type 0
+StepKindRead byte r = MatchResult r (λ kind. kind_byte kind ≡ byte) (λ _. (kind : StepKind) → kind_byte kind ≡ byte → ⊥)
 
 -- ---- the case of each outcome; a refusal has the paper's number and place
 

@@ -4,15 +4,12 @@ ghost use Rattle.reading.specs.Representations.{record_at};
 ghost use Rattle.models.specs.Phone.{states_of, among, code_step_at, silent_step_at, step_format, record_length};
 ghost use Rattle.models.specs.Readings.{states_read, step_read, states_answer, step_answer};
 
+use crate::kind::StepKind;
 use crate::{SILENT, Step};
 use reading::FileRead;
 
-// The kind bytes of the records.
+// The byte with which the first record begins.
 const STATES: u8 = 16;
-
-const CODE_STEP: u8 = 17;
-
-const SILENT_STEP: u8 = 18;
 
 // What reading the first record finds: the count of states, or the number and place of a refusal.
 #[derive(Clone, Copy)]
@@ -32,33 +29,26 @@ pub(crate) enum StepRead {
 pub(crate) fn read_states(bytes: &[u8]) -> StatesRead
     ensures { result ≡ states_read (states_of bytes.now) }
 {
-    if bytes.len() == 0 {
+    let &[kind, ..] = bytes else {
         return StatesRead::Refused(11, bytes.len());
-    }
-    if bytes[0] != STATES {
+    };
+    if kind != STATES {
         return StatesRead::Refused(12, 0);
     }
-    if bytes.len() == 1 {
+    let &[_, states, ..] = bytes else {
         return StatesRead::Refused(11, bytes.len());
-    }
-    let states = bytes[1] as usize;
-    if states == 0 {
+    };
+    if states == 0 || 64 < states {
         return StatesRead::Refused(12, 0);
     }
-    if 64 < states {
-        return StatesRead::Refused(12, 0);
-    }
-    StatesRead::Read(states)
+    StatesRead::Read(usize::from(states))
 }
 
 // A step, if it is among so many states.
 fn among(step: Step, states: usize, at: usize) -> StepRead
     ensures { result ≡ step_read (among states at step) }
 {
-    if states <= step.from as usize {
-        return StepRead::Refused(13, at);
-    }
-    if states <= step.to as usize {
+    if states <= usize::from(step.from) || states <= usize::from(step.to) {
         return StepRead::Refused(13, at);
     }
     StepRead::Read(step)
@@ -74,7 +64,7 @@ fn read_code_step(bytes: &[u8], states: usize, at: usize) -> StepRead
     }
     let step = Step {
         from: bytes[at + 1],
-        label: bytes[at + 2] as u16,
+        label: u16::from(bytes[at + 2]),
         to: bytes[at + 3],
     };
     among(step, states, at)
@@ -101,17 +91,16 @@ pub(crate) fn read_step(bytes: &[u8], states: usize, at: usize, left: usize) -> 
     requires { at < length bytes.now }
     ensures { result ≡ step_read (record_at (step_format bytes.now states) left at) }
 {
-    let kind = bytes[at];
-    if kind != CODE_STEP && kind != SILENT_STEP {
+    let Ok(kind) = StepKind::try_from(bytes[at]) else {
         return StepRead::Refused(12, at);
-    }
+    };
     if left == 0 {
         return StepRead::Refused(14, at);
     }
-    if kind == CODE_STEP {
-        return read_code_step(bytes, states, at);
+    match kind {
+        StepKind::Code => read_code_step(bytes, states, at),
+        StepKind::Silent => read_silent_step(bytes, states, at),
     }
-    read_silent_step(bytes, states, at)
 }
 
 // How many bytes the record of a step has.

@@ -5,13 +5,15 @@ use Prim.Native.Nat.{ℕ}
 use Rattle.reading.specs.Rule.{Bytes}
 use Rattle.reading.specs.File.{accepted, refused}
 use Rattle.reading.specs.declared.FileRead.TheVariants.{Accepted, Refused}
-use Rattle.models.specs.Phone.{phone_of}
-use Rattle.models.specs.Judging.{model_reading_of}
-use Rattle.models.specs.Exploring.{HasPhone}
+use Rattle.models.specs.Phone.{Phone, phone_of}
+use Rattle.models.specs.Judging.{stored, model_reading_of}
+use Rattle.models.specs.Exploring.{HasPhone, StepsWithinLimits}
+use Rattle.models.specs.declared.Step.{Step}
 use Rattle.models.specs.declared.PhoneModel.{PhoneModel}
 use Rattle.models.specs.declared.ModelReading.{ModelReading}
 use Rattle.models.proofs.Files.Encoding.{phone_accepted, phone_within_limits}
 use Rattle.models.proofs.Files.FileFaults.{model_refused}
+use Rattle.models.proofs.Phones.PhoneCodes.{phone_steps}
 
 -- the struct has the model of the file
 pub record ModelRead (f : List ℕ) (model : PhoneModel) : Type 0 where
@@ -33,3 +35,12 @@ module _ (f : List ℕ) {reading : ModelReading} (read : reading ≡ model_readi
 
   pub model_unread : {number place : ℕ} → reading.answer ≡ Refused number place → phone_of f ≡ refused number place
   model_unread {number} {place} told = (model_refused (phone_of f) number place).1 (sym (ap (λ (x : ModelReading). x.answer) read) ∙ told)
+
+-- the steps that the struct gives are those of the model, within the limits
+pub steps_are : {f : List ℕ} {model : PhoneModel} (m : ModelRead f model) {steps : List Step} → ((y : Phone) → model ≡ stored y → steps ≡ y.steps)
+    → steps ≡ m.has.phone.steps
+steps_are m are = are m.has.phone m.has.is_stored
+
+pub read_steps : {f : List ℕ} {model : PhoneModel} (m : ModelRead f model) {steps : List Step} → ((y : Phone) → model ≡ stored y → steps ≡ y.steps)
+    → StepsWithinLimits steps
+read_steps m are = rw (steps_are m are) (phone_steps m.has.within_limits)

@@ -5,19 +5,19 @@ use mathlib.Core.Bool.{Bool, true, false}
 use mathlib.Core.List.{List}
 use Prim.Native.Nat.{ℕ, ◌≤◌}
 use native.Mathlib.Omega.{arith}
-use lib.ListN.{length}
 use Rattle.reading.specs.File.{Outcome, accepted, refused}
 use Rattle.reading.specs.declared.FileRead.TheVariants.{Accepted, Refused}
 use Rattle.models.specs.Phone.{Phone, phone_of}
-use Rattle.models.specs.Judging.{model_reading_of}
-use Rattle.models.specs.Pairs.{Pair, pairs_of, matching, first_refused, second_refused, pairs_refused, matching_of, MatchedAs}
+use Rattle.models.specs.Judging.{stored, model_reading_of}
+use Rattle.models.specs.Pairs.{Pair, pairs_of, matching, first_refused, second_refused, pairs_refused, matching_of, MatchedAs, Matches}
 use Rattle.models.specs.Relating.{Relates, RelatedAs, MatchedBy, first_refusal, second_refusal, pairs_refusal}
+use Rattle.models.specs.declared.Step.{Step}
 use Rattle.models.specs.declared.PhoneModel.{PhoneModel}
 use Rattle.models.specs.declared.ModelReading.{ModelReading}
 use Rattle.models.specs.declared.Matched.{Matched}
 use Rattle.models.specs.declared.Matched.TheVariants as Matched'
 use Rattle.models.specs.declared.pairing.Relation.{Relation}
-use Rattle.models.proofs.Files.ReadModels.{ModelRead, model_unread}
+use Rattle.models.proofs.Files.ReadModels.{ModelRead, model_unread, steps_are}
 use Rattle.models.proofs.Matchings.Bisimulations.{matched_matches}
 
 -- ---- what is matched
@@ -86,21 +86,26 @@ module _ (f g l : List ℕ) where
             on (accepted ps) e (accepts, relates) = (ps, e, relates)
             on (refused number place) e refuses = absurd (let z : ◌≡◌ {A = ℕ} 0 1 = cc in omega arith)
 
-        pub rows_long : (length relation.rows ≡ 64) × (length relation.columns ≡ 64)
-        rows_long = (listed.2.in_rows.long, listed.2.in_columns.long)
+        -- the steps of the two models, and what was found of them
+        module _ {steps others : List Step} (one_are : (y : Phone) → one ≡ stored y → steps ≡ y.steps)
+            (other_are : (y : Phone) → other ≡ stored y → others ≡ y.steps)
+            {r : Bool} (matched : (r ≡ true) ↔ MatchedBy steps others relation.rows relation.columns) where
+          matched_iff : {ps : List Pair} → Relates ps relation.rows relation.columns → (r ≡ true) ↔ Matches m.has.phone n.has.phone ps
+          matched_iff relates =
+              let iff = matched_matches m.has.phone n.has.phone relates in
+              let same : (r ≡ true) ↔ MatchedBy m.has.phone.steps n.has.phone.steps relation.rows relation.columns =
+              rw (steps_are m one_are, steps_are n other_are) at matched in
+              (λ e. iff.0 (same.0 e), λ h. same.1 (iff.1 h))
 
-        module _ {r : Bool} (matched : (r ≡ true) ↔ MatchedBy one other relation.rows relation.columns) where
           pub answers_yes : r ≡ true → MatchedAs (matching_of f g l) Matched'.Yes
           answers_yes e =
               let (ps, read, relates) = listed in
-              rw (matching_accepts f g l m.phone_is n.phone_is read)
-              (inl (refl, (matched_matches _ _ m.has.is_stored n.has.is_stored relates).0 (matched.0 e)))
+              rw (matching_accepts f g l m.phone_is n.phone_is read) (inl (refl, (matched_iff relates).0 e))
 
           pub answers_no : r ≡ false → MatchedAs (matching_of f g l) Matched'.No
           answers_no e =
               let (ps, read, relates) = listed in
-              rw (matching_accepts f g l m.phone_is n.phone_is read)
-              (inr (refl, λ h. never_true (matched.1 ((matched_matches _ _ m.has.is_stored n.has.is_stored relates).1 h))))
+              rw (matching_accepts f g l m.phone_is n.phone_is read) (inr (refl, λ h. never_true ((matched_iff relates).1 h)))
             where
               never_true : r ≡ true → ⊥
               never_true e' = let z : ◌≡◌ {A = ℕ} 0 1 = cc in omega arith
