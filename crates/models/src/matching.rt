@@ -4,17 +4,16 @@ ghost use Rattle.models.specs.Exploring.{StepsWithinLimits};
 ghost use Rattle.models.specs.Relating.{Partners, HavePartners, MatchedBy};
 
 use crate::Step;
-use crate::pairing::with_state;
 
 // The states from which a step with this label leads to one of the targets.
 fn partners(steps: &[Step], label: u16, targets: u64) -> u64
     requires { StepsWithinLimits steps.now }
     ensures { Partners steps.now (length steps.now) label targets result }
 {
-    let mut states = 0;
+    let mut states = 0u64;
     for step in steps {
         if step.label == label && (targets >> step.to) % 2 == 1 {
-            states = with_state(states, step.from);
+            states |= 1 << step.from;
         }
     }
     states

@@ -1,6 +1,7 @@
 -- The states with a partner step are found step by step: one more step adds at most its source. A row is inside such a set exactly where what they have in common
 -- is the row.
-use Prim.Native.Nat.{ℕ, ◌+◌, ◌<◌, ◌≤◌}
+use Prim.Native.Nat.{ℕ, ◌+◌, ◌*◌, ◌%◌, ◌^◌, ◌<◌, ◌≤◌}
+use Rattle.std.proofs.lemmas.Grind.{common_steps}
 use mathlib.Core.Path.{◌≡◌}
 use mathlib.Core.Logic.{◌⊎◌, inl, inr, ⊎_elim}
 use mathlib.Core.List.{List}
@@ -20,6 +21,10 @@ use Rattle.models.specs.declared.Step.{Step}
 -- the step has the label, and leads to one of the targets
 abbrev pub Leads : Step → (label targets : ℕ) → Type 0
 Leads step label targets = (step.label ≡ label) × Has targets step.to
+
+-- a bit that is shifted to a state of 64
+pub shifted : (s : ℕ) → s < 64 → 1 * 2 ^ s % 2 ^ 64 ≡ singleton s
+shifted s h = grind (arith, common_steps)
 
 -- ---- the steps so far
 
