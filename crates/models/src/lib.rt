@@ -233,16 +233,17 @@ pub fn match_models(first: &[u8], second: &[u8], pairs: &[u8]) -> Matched
     let FileRead::Accepted = answer else {
         return refuse_second(answer);
     };
-    let one = drawn.model;
-    let other = simplified.model;
-    let relation = pairing::read_pairs(pairs, one.states, other.states);
+    let relation = pairing::read_pairs(pairs, drawn.model.states, simplified.model.states);
     let answer = relation.answer;
     let FileRead::Accepted = answer else {
         return refuse_pairs(answer);
     };
-    let rows = relation.rows;
-    let columns = relation.columns;
-    if matching::are_matched(one.steps(), other.steps(), &rows, &columns) {
+    if matching::are_matched(
+        drawn.model.steps(),
+        simplified.model.steps(),
+        &relation.rows,
+        &relation.columns,
+    ) {
         return Matched::Yes;
     }
     Matched::No

@@ -44,48 +44,6 @@ pub(crate) fn read_states(bytes: &[u8]) -> StatesRead
     StatesRead::Read(usize::from(states))
 }
 
-// A step, if it is among so many states.
-fn among(step: Step, states: usize, at: usize) -> StepRead
-    ensures { result ≡ step_read (among states at step) }
-{
-    if states <= usize::from(step.from) || states <= usize::from(step.to) {
-        return StepRead::Refused(13, at);
-    }
-    StepRead::Read(step)
-}
-
-// The step with a code at `at`.
-fn read_code_step(bytes: &[u8], states: usize, at: usize) -> StepRead
-    requires { at < length bytes.now }
-    ensures { result ≡ step_read (code_step_at bytes.now states at) }
-{
-    if bytes.len() <= at + 3 {
-        return StepRead::Refused(11, bytes.len());
-    }
-    let step = Step {
-        from: bytes[at + 1],
-        label: u16::from(bytes[at + 2]),
-        to: bytes[at + 3],
-    };
-    among(step, states, at)
-}
-
-// The silent step at `at`.
-fn read_silent_step(bytes: &[u8], states: usize, at: usize) -> StepRead
-    requires { at < length bytes.now }
-    ensures { result ≡ step_read (silent_step_at bytes.now states at) }
-{
-    if bytes.len() <= at + 2 {
-        return StepRead::Refused(11, bytes.len());
-    }
-    let step = Step {
-        from: bytes[at + 1],
-        label: SILENT,
-        to: bytes[at + 2],
-    };
-    among(step, states, at)
-}
-
 // The record of a step at `at`, with `left` of the 512 steps left.
 pub(crate) fn read_step(bytes: &[u8], states: usize, at: usize, left: usize) -> StepRead
     requires { at < length bytes.now }
@@ -97,10 +55,15 @@ pub(crate) fn read_step(bytes: &[u8], states: usize, at: usize, left: usize) -> 
     if left == 0 {
         return StepRead::Refused(14, at);
     }
-    match kind {
-        StepKind::Code => read_code_step(bytes, states, at),
-        StepKind::Silent => read_silent_step(bytes, states, at),
+    let (from, label, to) = match (kind, &bytes[at + 1..]) {
+        (StepKind::Code, &[from, label, to, ..]) => (from, u16::from(label), to),
+        (StepKind::Silent, &[from, to, ..]) => (from, SILENT, to),
+        _ => return StepRead::Refused(11, bytes.len()),
+    };
+    if states <= usize::from(from) || states <= usize::from(to) {
+        return StepRead::Refused(13, at);
     }
+    StepRead::Read(Step { from, label, to })
 }
 
 // How many bytes the record of a step has.
