@@ -11,6 +11,7 @@ use crate::{SILENT, Step};
 use synthesis::DROPPED;
 
 // The equation to which a step with this label leads; none where it is dropped.
+#[tactic(auto, using(crate::proofs::Pairs::Leading::leads_nowhere, crate::proofs::Pairs::Leading::leads_to_entry))]
 fn equation_after(table: &[u16], equation: usize, label: u16) -> Option<usize>
     requires { (256 * equation + 256 ≤ length table.now) × (label ≤ 256) }
     ensures { result ≡ leads_to table.now equation label }

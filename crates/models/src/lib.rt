@@ -130,6 +130,7 @@ fn refuse_model(answer: FileRead) -> Judged
 }
 
 // What is said where the model is refused: the refusals of the rule, and then 10, come first.
+#[tactic(auto, using(crate::proofs::Judgments::Refusing::rule_refuses, crate::proofs::Judgments::Refusing::count_few, crate::proofs::Judgments::Refusing::short_refuses, crate::proofs::Judgments::Refusing::model_refuses))]
 fn refuse(rule: &[u8], limit: usize, capacity: usize, answer: FileRead) -> Judged
     ensures { result ≡ refusal_before (counted_of (filling_of (min limit most) rule.now capacity)) answer }
 {

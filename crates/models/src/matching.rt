@@ -20,6 +20,7 @@ fn partners(steps: &[Step], label: u16, targets: u64) -> u64
 }
 
 // Whether each step of one model has a partner in the other from every state that is related to its own.
+#[tactic(auto, using(crate::proofs::Matchings::PartnerLaws::next_has_partners, crate::proofs::Matchings::PartnerLaws::lacks_partners))]
 fn have_partners(steps: &[Step], others: &[Step], rows: &[u64; 64]) -> bool
     requires { StepsWithinLimits steps.now × StepsWithinLimits others.now }
     ensures { (result ≡ true) ↔ HavePartners steps.now (length steps.now) others.now rows.now }

@@ -26,6 +26,7 @@ pub(crate) enum StepRead {
 }
 
 // The count of states, from the first record.
+#[tactic(auto, unfolding(crate::specs::Phone::states_of))]
 pub(crate) fn read_states(bytes: &[u8]) -> StatesRead
     ensures { result ≡ states_read (states_of bytes.now) }
 {
