@@ -9,14 +9,14 @@ use lib.ListN.{length, get_or}
 use Rattle.models.specs.Phone.{no_step}
 use Rattle.synthesis.specs.Monitor.{mark, most}
 use Rattle.synthesis.specs.Table.{WellFormedTable}
-use Rattle.models.specs.Exploring.{StepsWithinLimits, Chains, last_from, pair_limit, ListsSeen, Enqueued}
+use Rattle.models.specs.Exploring.{StepsWithinLimits, Chains, last_from, pair_limit, Enqueued}
 use Rattle.models.specs.Searching.{Outgoing, equation_after, Followed, DroppedStep, Expands}
 use Rattle.models.specs.declared.Step.{Step}
 use Rattle.models.specs.declared.links.Links.{Links}
 use Rattle.models.specs.declared.worklist.Worklist.{Worklist}
 use Rattle.models.proofs.Pairs.Leading.{leads_inside}
 use Rattle.models.proofs.Pairs.LinkLaws.{IsLast, last_from_none, last_from_some}
-use Rattle.models.proofs.Pairs.WorklistLaws.{extended_same, extended_trans}
+use Rattle.models.proofs.Pairs.WorklistLaws.{extended_trans}
 
 -- how many steps the chain may still have that begins with this one
 abbrev pub left_of : Option ℕ → ℕ
@@ -31,14 +31,6 @@ pub record ExpandedUpTo (steps : List Step) (table : List ℕ) (pair : ℕ) (w w
   pub expands : Expands steps table pair w w' n
 
 module _ {steps : List Step} {table : List ℕ} {pair : ℕ} {w : Worklist} where
-  pub expanded_none : {next : Option ℕ} → ListsSeen w → next ≡ last_from steps (pair % 64) (length steps) → ExpandedUpTo steps table pair w w next
-  expanded_none lists is = record {
-    n = length steps;
-    few = omega arith;
-    next_is = is;
-    expands = record { extended = extended_same w lists _; followed = λ i h out. absurd (omega (arith, out.inside)) };
-  }
-
   module _ {w' : Worklist} {next : Option ℕ} (e : ExpandedUpTo steps table pair w w' next) where
     -- no step is left
     pub expanded_all : next ≡ None → Expands steps table pair w w' 0

@@ -1,5 +1,5 @@
 -- Laws of the worklist. Each pair seen is marked in an array of 64,000, so there are at most so many; and where one isn't seen yet, there is room.
-use Prim.Native.Nat.{ℕ, ◌+◌, ◌≤◌, ◌<◌}
+use Prim.Native.Nat.{ℕ, ◌+◌, ◌<◌}
 use mathlib.Core.Path.{◌≡◌, refl, sym, ◌∙◌, ap, subst}
 use mathlib.Core.Logic.{◌⊎◌, inl, inr}
 use mathlib.Core.Bool.{Bool, true, false, cond}
@@ -19,19 +19,6 @@ use Rattle.models.specs.declared.worklist.Worklist.{Worklist}
 -- ---- enqueueing a pair
 
 module _ (w : Worklist) (lists : ListsSeen w) where
-  pub found_at_most : w.found ≤ pair_limit
-  found_at_most = omega (arith, count_by-le-length (λ s. s) w.seen, lists.counted, lists.seen_length)
-
-  pub extended_same : (P : ℕ → Type 0) → Extended P w w
-  extended_same P = record {
-    lists_seen = lists;
-    same_expanded = refl;
-    keeps_seen = λ p h. h;
-    adds_only = λ p h. inl h;
-    grows = omega arith;
-    keeps_listed = λ i h. refl;
-  }
-
   module _ (pair : ℕ) (inside : pair < pair_limit) (new : get_or w.seen pair false ≡ false) where
     abbrev after : Worklist
     after = record { seen = set w.seen pair true; pairs = set w.pairs w.found pair; found = w.found + 1; expanded = w.expanded }
