@@ -1,23 +1,18 @@
 -- Reading the steps of a model file one record after the other. No public contract cites these.
-use Rattle.std.specs.Prelude.{◌≡◌, true, false, List, ℕ, ◌+◌, length, set}
+use Rattle.std.specs.Prelude.{◌≡◌, List, ℕ, length}
 use Rattle.reading.specs.File.{Outcome, accepted, refused, Records}
 use Rattle.reading.specs.Numbered.{padded}
 use Rattle.reading.specs.Representations.{RecordsBegun}
-use Rattle.models.specs.Phone.{no_step, step_format, steps_at}
+use Rattle.reading.specs.declared.FileRead.{FileRead}
+use Rattle.reading.specs.declared.FileRead.TheVariants.{Accepted, Refused}
+use Rattle.models.specs.Phone.{no_step, step_format}
 use Rattle.models.specs.declared.Step.{Step}
-use Rattle.models.specs.declared.loading.Next.{Next}
 
 -- n steps are read, up to `at`, and stand in 512 records, of which the others are blank
 abbrev pub StepsBegun : List ℕ → (states : ℕ) (steps : List Step) (n at : ℕ) → Type 0
 StepsBegun f states steps n at = RecordsBegun (step_format f states) no_step 512 2 steps n at
 
 -- the answer to an outcome, with its steps in 512 records and their count; of a refusal the answer alone
-abbrev pub LoadedAs : Outcome (Records Step) → (steps : List Step) (answer : FILEREAD) (n : ℕ) → Type 0
-LoadedAs (accepted xs) steps answer n = (answer ≡ FILE_ACCEPTED) × (steps ≡ padded 512 no_step xs.list) × (n ≡ length xs.list)
-LoadedAs (refused number place) steps answer n = answer ≡ refused number place
-
--- what comes after n steps: one more, or the end
-pub record NextRead (f : List ℕ) (states : ℕ) (steps : List Step) (n : ℕ) (next : Next) : Type 0 where
-  pub number_is : next.n ≡ n
-  pub begun : next.more ≡ true → StepsBegun f states (set steps n next.step) (n + 1) next.at
-  pub at_end : next.more ≡ false → LoadedAs (steps_at 512 f states 2) steps next.answer n
+abbrev pub LoadedAs : Outcome (Records Step) → (steps : List Step) (answer : FileRead) (n : ℕ) → Type 0
+LoadedAs (accepted xs) steps answer n = (answer ≡ Accepted) × (steps ≡ padded 512 no_step xs.list) × (n ≡ length xs.list)
+LoadedAs (refused number place) steps answer n = answer ≡ Refused number place

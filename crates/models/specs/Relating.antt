@@ -1,12 +1,15 @@
 -- What matching goes by: a relation between the states of two models, as sets of states in rows and in columns, and the partners of steps. A set of states is a
 -- number, state s its bit s. No public contract cites these.
-use Rattle.std.specs.Prelude.{ℕ, ◌<◌, ◌≡◌, ◌↔◌, ◌⊎◌, List, length, get_or}
+use Rattle.std.specs.Prelude.{ℕ, ◌<◌, ◌≡◌, ◌↔◌, List, length, get_or}
 use Rattle.reading.specs.File.{Outcome, accepted, refused, by_case}
+use Rattle.reading.specs.declared.FileRead.{FileRead}
+use Rattle.reading.specs.declared.FileRead as FileRead'
 use Rattle.synthesis.specs.NodeSet.{Has}
-use Rattle.models.specs.Phone.{no_step, WellFormedStep}
-use Rattle.models.specs.Pairs.{Pair, Listed, MatchAnswer, said, refused_first, refused_second, refused_pairs}
+use Rattle.models.specs.Phone.{no_step}
+use Rattle.models.specs.Pairs.{Pair, Listed}
 use Rattle.models.specs.declared.Step.{Step}
-use Rattle.models.specs.declared.PhoneModel.{PhoneModel}
+use Rattle.models.specs.declared.Matched.{Matched}
+use Rattle.models.specs.declared.Matched as Matched'
 use Rattle.models.specs.declared.pairing.PairRead.{PairRead}
 use Rattle.models.specs.declared.pairing.PairRead as PairRead'
 use Rattle.models.specs.declared.pairing.Relation.{Relation}
@@ -17,9 +20,9 @@ use Rattle.models.specs.declared.pairing.Relation.{Relation}
 abbrev pub pair_read : Outcome Pair → PairRead
 pair_read = by_case (λ p. PairRead'.TheVariants.Read p.first p.second) PairRead'.TheVariants.Refused
 
-abbrev pub pair_answer : PairRead → FILEREAD
-pair_answer (PairRead'.TheVariants.Read x y) = FILE_ACCEPTED
-pair_answer (PairRead'.TheVariants.Refused number place) = refused number place
+abbrev pub pair_answer : PairRead → FileRead
+pair_answer (PairRead'.TheVariants.Read x y) = FileRead'.TheVariants.Accepted
+pair_answer (PairRead'.TheVariants.Refused number place) = FileRead'.TheVariants.Refused number place
 
 -- Row x has the states that are related to x.
 pub record Rows (R : (x y : ℕ) → Type 0) (rows : List ℕ) : Type 0 where
@@ -33,33 +36,24 @@ pub record Relates (ps : List Pair) (rows columns : List ℕ) : Type 0 where
 
 -- the answer to an outcome, with its relation; of a refusal the answer alone
 abbrev pub RelatedAs : Outcome (List Pair) → Relation → Type 0
-RelatedAs (accepted ps) r = (r.answer ≡ FILE_ACCEPTED) × Relates ps r.rows r.columns
-RelatedAs (refused number place) r = r.answer ≡ refused number place
+RelatedAs (accepted ps) r = (r.answer ≡ FileRead'.TheVariants.Accepted) × Relates ps r.rows r.columns
+RelatedAs (refused number place) r = r.answer ≡ FileRead'.TheVariants.Refused number place
 
 -- ---- refusals passed up
 
-abbrev pub first_refusal : FILEREAD → MatchAnswer
-first_refusal FILE_ACCEPTED = (said false)
-first_refusal (refused number place) = refused_first number place
+abbrev pub first_refusal : FileRead → Matched
+first_refusal FileRead'.TheVariants.Accepted = Matched'.TheVariants.No
+first_refusal (FileRead'.TheVariants.Refused number place) = Matched'.TheVariants.RefusedFirst number place
 
-abbrev pub second_refusal : FILEREAD → MatchAnswer
-second_refusal FILE_ACCEPTED = (said false)
-second_refusal (refused number place) = refused_second number place
+abbrev pub second_refusal : FileRead → Matched
+second_refusal FileRead'.TheVariants.Accepted = Matched'.TheVariants.No
+second_refusal (FileRead'.TheVariants.Refused number place) = Matched'.TheVariants.RefusedSecond number place
 
-abbrev pub pairs_refusal : FILEREAD → MatchAnswer
-pairs_refusal FILE_ACCEPTED = (said false)
-pairs_refusal (refused number place) = refused_pairs number place
+abbrev pub pairs_refusal : FileRead → Matched
+pairs_refusal FileRead'.TheVariants.Accepted = Matched'.TheVariants.No
+pairs_refusal (FileRead'.TheVariants.Refused number place) = Matched'.TheVariants.RefusedPairs number place
 
 -- ---- partners
-
--- all records are among 64 states
-pub record InSixtyFour (steps : List Step) : Type 0 where
-  pub long : length steps ≡ 512
-  pub among : (i : ℕ) → WellFormedStep 64 (get_or steps i no_step)
-
--- a set with the state of a step, if the step has the label and leads to a target
-pub record WithPartner (states : ℕ) (step : Step) (label targets after : ℕ) : Type 0 where
-  pub is : (s : ℕ) → Has after s ↔ (Has states s ⊎ ((step.from ≡ s) × (step.label ≡ label) × Has targets step.to))
 
 -- one of the first n steps goes from s with the label to one of the targets
 pub record PartnerStep (steps : List Step) (n label targets s : ℕ) : Type 0 where
@@ -73,14 +67,14 @@ pub record PartnerStep (steps : List Step) (n label targets s : ℕ) : Type 0 wh
 pub record Partners (steps : List Step) (n label targets states : ℕ) : Type 0 where
   pub is : (s : ℕ) → Has states s ↔ PartnerStep steps n label targets s
 
--- Each of the first n steps has a partner among the first m of the others, from every state that is related to its own, and their ends are related again.
-abbrev pub HavePartners : (steps : List Step) → (n : ℕ) → (others : List Step) → (m : ℕ) → (rows : List ℕ) → Type 0
-HavePartners steps n others m rows =
+-- Each of the first n steps has a partner among the others, from every state that is related to its own, and their ends are related again.
+abbrev pub HavePartners : (steps : List Step) → (n : ℕ) → (others : List Step) → (rows : List ℕ) → Type 0
+HavePartners steps n others rows =
     (i t : ℕ) → i < n → Has (get_or rows (get_or steps i no_step).from 0) t
-    → PartnerStep others m (get_or steps i no_step).label (get_or rows (get_or steps i no_step).to 0) t
+    → PartnerStep others (length others) (get_or steps i no_step).label (get_or rows (get_or steps i no_step).to 0) t
 
 -- The starts are related, the steps of the first model have partners by the rows, and those of the second by the columns.
-pub record MatchedBy (first second : PhoneModel) (rows columns : List ℕ) : Type 0 where
+pub record MatchedBy (first second : List Step) (rows columns : List ℕ) : Type 0 where
   pub starts : Has (get_or rows 0 0) 0
-  pub forth : HavePartners first.steps first.nsteps second.steps second.nsteps rows
-  pub back : HavePartners second.steps second.nsteps first.steps first.nsteps columns
+  pub forth : HavePartners first (length first) second rows
+  pub back : HavePartners second (length second) first columns

@@ -2,19 +2,21 @@
 #![tactic(auto)]
 
 mod exploring;
+mod kind;
 mod links;
 mod loading;
 mod matching;
 mod pairing;
 mod records;
-mod steps;
+mod worklist;
 
 ghost use Rattle.std.specs.Prelude.{◌≡◌, min, length};
 ghost use Rattle.synthesis.specs.Monitor.{mark, most};
 ghost use Rattle.synthesis.specs.Building.{filling_of, counted_of, table_after};
-ghost use Rattle.models.specs.Phone.{phone_of};
-ghost use Rattle.models.specs.Judging.{blank, model_reading_of, judging_of, JudgedAs, table_judged};
+ghost use Rattle.models.specs.Phone.{Phone, phone_of};
+ghost use Rattle.models.specs.Judging.{stored, blank, model_reading_of, judging_of, JudgedAs, table_judged};
 ghost use Rattle.models.specs.Pairs.{matching_of, MatchedAs};
+ghost use Rattle.models.specs.Exploring.{HasPhone};
 ghost use Rattle.models.specs.Readings.{rule_refusal, model_refusal, refusal_before};
 ghost use Rattle.models.specs.Relating.{first_refusal, second_refusal, pairs_refusal};
 
@@ -56,16 +58,20 @@ pub enum Judged {
     Refused(u8, usize),
 }
 
-// The model of a refused file.
-fn blank_model() -> PhoneModel
-    ensures { result ≡ blank }
-{
-    let step = steps::no_step();
-    let steps = [step; 512];
-    PhoneModel {
-        states: 0,
-        steps,
-        nsteps: 0,
+// A blank record, which stands where there is no step.
+const NO_STEP: Step = Step {
+    from: 0,
+    label: 0,
+    to: 0,
+};
+
+impl PhoneModel {
+    // The steps.
+    fn steps(&self) -> &[Step]
+        requires { HasPhone self.now }
+        ensures { (y : Phone) → self.now ≡ stored y → result.now ≡ y.steps }
+    {
+        &self.steps[..self.nsteps]
     }
 }
 
@@ -73,7 +79,11 @@ fn blank_model() -> PhoneModel
 fn refused(answer: FileRead) -> ModelReading
     ensures { result ≡ record { answer = answer; model = blank } }
 {
-    let model = blank_model();
+    let model = PhoneModel {
+        states: 0,
+        steps: [NO_STEP; 512],
+        nsteps: 0,
+    };
     ModelReading { answer, model }
 }
 
@@ -85,13 +95,12 @@ pub fn read_model(bytes: &[u8]) -> ModelReading
     let StatesRead::Read(states) = first else {
         return refused(records::states_answer(first));
     };
-    let blank = blank_model().steps;
-    let loaded = loading::read_array(bytes, states, blank);
+    let mut steps = [NO_STEP; 512];
+    let loaded = loading::read_steps(bytes, states, &mut steps);
     let answer = loaded.answer;
     let FileRead::Accepted = answer else {
         return refused(answer);
     };
-    let steps = loaded.steps;
     let model = PhoneModel {
         states,
         steps,
@@ -121,6 +130,7 @@ fn refuse_model(answer: FileRead) -> Judged
 }
 
 // What is said where the model is refused: the refusals of the rule, and then 10, come first.
+#[tactic(auto, using(crate::proofs::Judgments::Refusing::rule_refuses, crate::proofs::Judgments::Refusing::count_few, crate::proofs::Judgments::Refusing::short_refuses, crate::proofs::Judgments::Refusing::model_refuses))]
 fn refuse(rule: &[u8], limit: usize, capacity: usize, answer: FileRead) -> Judged
     ensures { result ≡ refusal_before (counted_of (filling_of (min limit most) rule.now capacity)) answer }
 {
@@ -152,7 +162,7 @@ pub fn judge_within(rule: &[u8], model: &[u8], limit: usize, table: &mut [u16]) 
     let Counted::Equations(_) = filled else {
         return refuse_rule(filled);
     };
-    if exploring::never_drops(reading.model, table) {
+    if exploring::never_drops(reading.model.steps(), table) {
         return Judged::Meets;
     }
     Judged::Breaks
@@ -224,16 +234,17 @@ pub fn match_models(first: &[u8], second: &[u8], pairs: &[u8]) -> Matched
     let FileRead::Accepted = answer else {
         return refuse_second(answer);
     };
-    let one = drawn.model;
-    let other = simplified.model;
-    let relation = pairing::read_pairs(pairs, one.states, other.states);
+    let relation = pairing::read_pairs(pairs, drawn.model.states, simplified.model.states);
     let answer = relation.answer;
     let FileRead::Accepted = answer else {
         return refuse_pairs(answer);
     };
-    let rows = relation.rows;
-    let columns = relation.columns;
-    if matching::are_matched(one, other, &rows, &columns) {
+    if matching::are_matched(
+        drawn.model.steps(),
+        simplified.model.steps(),
+        &relation.rows,
+        &relation.columns,
+    ) {
         return Matched::Yes;
     }
     Matched::No

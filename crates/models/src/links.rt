@@ -1,36 +1,45 @@
 // The steps of a model, chained by the state from which they go: adjacency lists in two arrays.
-ghost use Rattle.std.specs.Prelude.{◌≡◌};
-ghost use Rattle.models.specs.Phone.{Phone};
-ghost use Rattle.models.specs.Judging.{stored};
-ghost use Rattle.models.specs.Exploring.{HasPhone, Chains, LinksInRange};
+ghost use Rattle.std.specs.Prelude.{◌≡◌, ◌<◌, get_or};
+ghost use Rattle.models.specs.Exploring.{StepsWithinLimits, Chains};
 
-use crate::PhoneModel;
+use crate::Step;
 
-// For each state, one more than the number of the last step from it, or 0 where there is none; and for each step, the same among the steps
-// before it.
+// For each state the number of the last step from it, and for each step that of the last before it from the same state.
 #[derive(Drop)]
 pub(crate) struct Links {
-    pub(crate) last: [u16; 64],
-    pub(crate) earlier: [u16; 512],
+    last: [Option<u16>; 64],
+    earlier: [Option<u16>; 512],
 }
 
-// The chains of a model's steps.
-pub(crate) fn of_model(model: PhoneModel) -> Links
-    requires { HasPhone model }
-    ensures chains { (y : Phone) → model ≡ stored y → Chains y.steps result }
-    ensures links_in_range { LinksInRange result }
-{
-    let steps = model.steps;
-    let n = model.nsteps;
-    let mut last = [0u16; 64];
-    let mut earlier = [0u16; 512];
-    let mut i = 0;
-    while i < n {
-        let step = steps[i];
-        let from = step.from as usize;
-        earlier[i] = last[from];
-        last[from] = (i + 1) as u16;
-        i += 1;
+impl Links {
+    // The chains of these steps.
+    pub(crate) fn new(steps: &[Step]) -> Links
+        requires { StepsWithinLimits steps.now }
+        ensures { Chains steps.now result }
+    {
+        let mut last = [None; 64];
+        let mut earlier = [None; 512];
+        for (i, step) in steps.iter().enumerate() {
+            let from = usize::from(step.from);
+            earlier[i] = last[from];
+            last[from] = Some(i as u16);
+        }
+        Links { last, earlier }
     }
-    Links { last, earlier }
+
+    // The last step from a state.
+    pub(crate) fn last_from(&self, state: usize) -> Option<usize>
+        requires { state < 64 }
+        ensures { result ≡ get_or self.now.last state None }
+    {
+        self.last[state].map(usize::from)
+    }
+
+    // The last step before this one from the same state.
+    pub(crate) fn before(&self, step: usize) -> Option<usize>
+        requires { step < 512 }
+        ensures { result ≡ get_or self.now.earlier step None }
+    {
+        self.earlier[step].map(usize::from)
+    }
 }

@@ -1,6 +1,5 @@
 // Reads a list of pairs of states, first of one model and then of another, into the relation that it is.
-ghost use Rattle.std.specs.Prelude.{◌≡◌, ◌≤◌, ◌<◌, length};
-ghost use Rattle.synthesis.specs.NodeSet.{singleton, union};
+ghost use Rattle.std.specs.Prelude.{◌≡◌, ◌^◌, ◌≤◌, ◌<◌, List, ℕ, length, take, drop};
 ghost use Rattle.models.specs.Pairs.{pair_at, pairs_of};
 ghost use Rattle.models.specs.Relating.{pair_read, pair_answer, RelatedAs};
 
@@ -25,28 +24,15 @@ pub(crate) struct Relation {
     pub(crate) columns: [u64; 64],
 }
 
-// A set of states with one more.
-pub(crate) fn with_state(states: u64, state: u8) -> u64
-    requires { state < 64 }
-    ensures { result ≡ union states (singleton state) }
-{
-    states | (1 << state)
-}
-
-// The pair at `at`, with `left` of the 4,096 pairs left.
+// The pair that these bytes at `at` are, with `left` of the 4,096 pairs left.
 fn read_pair(bytes: &[u8], first: usize, second: usize, at: usize, left: usize) -> PairRead
-    requires { at < length bytes.now }
-    ensures { result ≡ pair_read (pair_at bytes.now first second at left) }
+    requires { (at < 2 ^ 63) × (0 < length bytes.now) × (length bytes.now ≤ 2) }
+    ensures { (l : List ℕ) → bytes.now ≡ take 2 (drop at l) → result ≡ pair_read (pair_at l first second at left) }
 {
-    if bytes.len() <= at + 1 {
-        return PairRead::Refused(22, bytes.len());
-    }
-    let x = bytes[at];
-    let y = bytes[at + 1];
-    if first <= x as usize {
-        return PairRead::Refused(23, at);
-    }
-    if second <= y as usize {
+    let &[x, y] = bytes else {
+        return PairRead::Refused(22, at + 1);
+    };
+    if first <= usize::from(x) || second <= usize::from(y) {
         return PairRead::Refused(23, at);
     }
     if left == 0 {
@@ -72,23 +58,18 @@ pub(crate) fn read_pairs(bytes: &[u8], first: usize, second: usize) -> Relation
 {
     let mut rows = [0u64; 64];
     let mut columns = [0u64; 64];
-    let mut left = PAIRS;
-    let mut at = 0;
-    while at < bytes.len() {
-        let found = read_pair(bytes, first, second, at, left);
+    for (i, pair) in bytes.chunks(2).enumerate() {
+        let found = read_pair(pair, first, second, 2 * i, PAIRS - i);
         let PairRead::Read(x, y) = found else {
+            let answer = pair_answer(found);
             return Relation {
-                answer: pair_answer(found),
+                answer,
                 rows,
                 columns,
             };
         };
-        let i = x as usize;
-        let j = y as usize;
-        rows[i] = with_state(rows[i], y);
-        columns[j] = with_state(columns[j], x);
-        left -= 1;
-        at += 2;
+        rows[usize::from(x)] |= 1 << y;
+        columns[usize::from(y)] |= 1 << x;
     }
     Relation {
         answer: FileRead::Accepted,

@@ -4,15 +4,12 @@ ghost use Rattle.reading.specs.Representations.{record_at};
 ghost use Rattle.models.specs.Phone.{states_of, among, code_step_at, silent_step_at, step_format, record_length};
 ghost use Rattle.models.specs.Readings.{states_read, step_read, states_answer, step_answer};
 
+use crate::kind::StepKind;
 use crate::{SILENT, Step};
 use reading::FileRead;
 
-// The kind bytes of the records.
+// The byte with which the first record begins.
 const STATES: u8 = 16;
-
-const CODE_STEP: u8 = 17;
-
-const SILENT_STEP: u8 = 18;
 
 // What reading the first record finds: the count of states, or the number and place of a refusal.
 #[derive(Clone, Copy)]
@@ -29,71 +26,23 @@ pub(crate) enum StepRead {
 }
 
 // The count of states, from the first record.
+#[tactic(auto, unfolding(crate::specs::Phone::states_of))]
 pub(crate) fn read_states(bytes: &[u8]) -> StatesRead
     ensures { result ≡ states_read (states_of bytes.now) }
 {
-    if bytes.len() == 0 {
+    let &[kind, ..] = bytes else {
         return StatesRead::Refused(11, bytes.len());
-    }
-    if bytes[0] != STATES {
+    };
+    if kind != STATES {
         return StatesRead::Refused(12, 0);
     }
-    if bytes.len() == 1 {
+    let &[_, states, ..] = bytes else {
         return StatesRead::Refused(11, bytes.len());
-    }
-    let states = bytes[1] as usize;
-    if states == 0 {
+    };
+    if states == 0 || 64 < states {
         return StatesRead::Refused(12, 0);
     }
-    if 64 < states {
-        return StatesRead::Refused(12, 0);
-    }
-    StatesRead::Read(states)
-}
-
-// A step, if it is among so many states.
-fn among(step: Step, states: usize, at: usize) -> StepRead
-    ensures { result ≡ step_read (among states at step) }
-{
-    if states <= step.from as usize {
-        return StepRead::Refused(13, at);
-    }
-    if states <= step.to as usize {
-        return StepRead::Refused(13, at);
-    }
-    StepRead::Read(step)
-}
-
-// The step with a code at `at`.
-fn read_code_step(bytes: &[u8], states: usize, at: usize) -> StepRead
-    requires { at < length bytes.now }
-    ensures { result ≡ step_read (code_step_at bytes.now states at) }
-{
-    if bytes.len() <= at + 3 {
-        return StepRead::Refused(11, bytes.len());
-    }
-    let step = Step {
-        from: bytes[at + 1],
-        label: bytes[at + 2] as u16,
-        to: bytes[at + 3],
-    };
-    among(step, states, at)
-}
-
-// The silent step at `at`.
-fn read_silent_step(bytes: &[u8], states: usize, at: usize) -> StepRead
-    requires { at < length bytes.now }
-    ensures { result ≡ step_read (silent_step_at bytes.now states at) }
-{
-    if bytes.len() <= at + 2 {
-        return StepRead::Refused(11, bytes.len());
-    }
-    let step = Step {
-        from: bytes[at + 1],
-        label: SILENT,
-        to: bytes[at + 2],
-    };
-    among(step, states, at)
+    StatesRead::Read(usize::from(states))
 }
 
 // The record of a step at `at`, with `left` of the 512 steps left.
@@ -101,17 +50,21 @@ pub(crate) fn read_step(bytes: &[u8], states: usize, at: usize, left: usize) -> 
     requires { at < length bytes.now }
     ensures { result ≡ step_read (record_at (step_format bytes.now states) left at) }
 {
-    let kind = bytes[at];
-    if kind != CODE_STEP && kind != SILENT_STEP {
+    let Ok(kind) = StepKind::try_from(bytes[at]) else {
         return StepRead::Refused(12, at);
-    }
+    };
     if left == 0 {
         return StepRead::Refused(14, at);
     }
-    if kind == CODE_STEP {
-        return read_code_step(bytes, states, at);
+    let (from, label, to) = match (kind, &bytes[at + 1..]) {
+        (StepKind::Code, &[from, label, to, ..]) => (from, u16::from(label), to),
+        (StepKind::Silent, &[from, to, ..]) => (from, SILENT, to),
+        _ => return StepRead::Refused(11, bytes.len()),
+    };
+    if states <= usize::from(from) || states <= usize::from(to) {
+        return StepRead::Refused(13, at);
     }
-    read_silent_step(bytes, states, at)
+    StepRead::Read(Step { from, label, to })
 }
 
 // How many bytes the record of a step has.

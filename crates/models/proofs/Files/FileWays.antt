@@ -1,22 +1,22 @@
--- What each way out of `next_step` and of `read_model` returns: the steps that are read so far stand before the rest.
+-- What each way out of `read_steps` and of `read_model` returns: the steps that are read so far stand before the rest.
 use mathlib.Core.Path.{◌≡◌, refl, sym, ◌∙◌}
-use mathlib.Core.Bool.{true, false}
 use mathlib.Core.List.{List}
 use Prim.Native.Nat.{ℕ, ◌+◌, ◌-◌, ◌≤◌, ◌<◌}
 use native.Mathlib.Omega.{arith}
-use lib.ListN.{length}
+use lib.ListN.{length, set}
 use borrow.Author.Tests.{lt-ltb, le-ltb}
 use Rattle.reading.specs.File.{Outcome, accepted, refused, and_then, Records}
 use Rattle.reading.specs.Representations.{record_at}
+use Rattle.reading.specs.declared.FileRead.{FileRead}
+use Rattle.reading.specs.declared.FileRead.TheVariants.{Accepted, Refused}
 use Rattle.reading.proofs.Basics.Outcomes.{by_case-refused}
 use Rattle.reading.proofs.RecordLists.RecordsRead.{begun_one, begun_all, begun_refused}
-use Rattle.models.specs.Phone.{no_step, states_of, record_length, step_format, steps_at, phone_of}
-use Rattle.models.specs.Loading.{StepsBegun, LoadedAs, NextRead}
+use Rattle.models.specs.Phone.{states_of, record_length, step_format, steps_at, phone_of}
+use Rattle.models.specs.Loading.{StepsBegun, LoadedAs}
 use Rattle.models.specs.Judging.{blank, model_reading_of}
 use Rattle.models.specs.Readings.{states_read, step_read, states_answer, step_answer}
 use Rattle.models.specs.declared.Step.{Step}
 use Rattle.models.specs.declared.ModelReading.{ModelReading}
-use Rattle.models.specs.declared.loading.Next.{Next}
 use Rattle.models.specs.declared.loading.Loaded.{Loaded}
 use Rattle.models.specs.declared.records.StatesRead.{StatesRead}
 use Rattle.models.specs.declared.records.StatesRead.TheVariants as StatesRead'
@@ -24,37 +24,27 @@ use Rattle.models.specs.declared.records.StepRead.{StepRead}
 use Rattle.models.specs.declared.records.StepRead.TheVariants as StepRead'
 use Rattle.models.proofs.Files.Cases.{states_cases, step_cases}
 
--- ---- the ways out of `next_step`
+-- ---- the ways out of `read_steps`
 
-module _ {f : List ℕ} {states : ℕ} {steps : List Step} {n at : ℕ} (b : StepsBegun f states steps n at) where
-  next_none : (answer : FILEREAD) → LoadedAs (steps_at 512 f states 2) steps answer n
-      → (next : Next) → next ≡ record { more = false; answer = answer; step = no_step; n = n; at = 0 } → NextRead f states steps n next
-  next_none answer loaded next is =
-      rw is record { number_is = refl; begun = λ e. absurd (let z : ◌≡◌ {A = ℕ} 0 1 = cc in omega arith); at_end = λ _. loaded }
+module _ (f : List ℕ) (states : ℕ) {steps : List Step} {n at : ℕ} (b : StepsBegun f states steps n at) where
+  pub steps_all : length f ≤ at → LoadedAs (steps_at 512 f states 2) steps Accepted n
+  steps_all over = rw (begun_all b (le-ltb _ _ over)) (refl, b.stored, sym b.counted)
 
-  pub next_at_end : length f ≤ at → (next : Next) → next ≡ record { more = false; answer = FILE_ACCEPTED; step = no_step; n = n; at = 0 }
-      → NextRead f states steps n next
-  next_at_end over = next_none FILE_ACCEPTED (rw (begun_all b (le-ltb _ _ over)) (refl, b.stored, sym b.counted))
+  pub steps_refused : at < length f → {found : StepRead} → found ≡ step_read (record_at (step_format f states) (512 - n) at)
+      → {number place : ℕ} → found ≡ StepRead'.Refused number place → {answer : FileRead} → answer ≡ step_answer found
+      → LoadedAs (steps_at 512 f states 2) steps answer n
+  steps_refused inside found e is =
+      rw (begun_refused b (lt-ltb _ _ inside) (by_case-refused step_cases (λ x. x) _ _ _ (sym e ∙ found))) (is ∙ rw e)
 
-  pub next_refused : at < length f → (found : StepRead) → found ≡ step_read (record_at (step_format f states) (512 - n) at)
-      → {number place : ℕ} → found ≡ StepRead'.Refused number place → (a : FILEREAD) → a ≡ step_answer found
-      → (next : Next) → next ≡ record { more = false; answer = a; step = no_step; n = n; at = 0 } → NextRead f states steps n next
-  next_refused inside found is e a is_a =
-      next_none a (rw (begun_refused b (lt-ltb _ _ inside) (by_case-refused step_cases (λ x. x) _ _ _ (sym e ∙ is))) (is_a ∙ rw e))
-
-  pub next_read : (x : Step) → at < length f → record_at (step_format f states) (512 - n) at ≡ accepted x
-      → NextRead f states steps n (record { more = true; answer = FILE_ACCEPTED; step = x; n = n; at = at + record_length x })
-  next_read x inside e = record {
-    number_is = refl;
-    begun = λ _. begun_one b (lt-ltb _ _ inside) e;
-    at_end = λ e. absurd (let z : ◌≡◌ {A = ℕ} 0 1 = cc in omega arith);
-  }
+  module _ (inside : at < length f) {x : Step} (is : record_at (step_format f states) (512 - n) at ≡ accepted x) where
+    pub steps_next : StepsBegun f states (set steps n x) (n + 1) (at + record_length x)
+    steps_next = begun_one b (lt-ltb _ _ inside) is
 
 -- ---- the ways out of `read_model`
 
 module _ (f : List ℕ) (found : StatesRead) (is : found ≡ states_read (states_of f)) where
   pub states_refused : {number place : ℕ} → found ≡ StatesRead'.Refused number place
-      → (a : FILEREAD) → a ≡ states_answer found → (r : ModelReading) → r ≡ record { answer = a; model = blank } → r ≡ model_reading_of (phone_of f)
+      → (a : FileRead) → a ≡ states_answer found → (r : ModelReading) → r ≡ record { answer = a; model = blank } → r ≡ model_reading_of (phone_of f)
   unfolding phone_of
   states_refused e a is_a r is-r = is-r ∙ rw (by_case-refused states_cases (λ n. n) (states_of f) _ _ (sym e ∙ is), is_a, e)
 
@@ -63,26 +53,26 @@ module _ (states : ℕ) (steps : List Step) (n : ℕ) where
   abbrev handed : Outcome (Records Step) → ModelReading
   handed o = model_reading_of (and_then o (λ xs. accepted (record { states = states; steps = xs.list })))
 
-  handed_accepted : (o : Outcome (Records Step)) → LoadedAs o steps FILE_ACCEPTED n
-      → record { answer = FILE_ACCEPTED; model = record { states = states; steps = steps; nsteps = n } } ≡ handed o
+  handed_accepted : (o : Outcome (Records Step)) → LoadedAs o steps Accepted n
+      → record { answer = Accepted; model = record { states = states; steps = steps; nsteps = n } } ≡ handed o
   handed_accepted (accepted xs) (_, stored, counted) = rw (stored, counted)
   handed_accepted (refused number place) e = let z : ◌≡◌ {A = ℕ} 0 1 = cc in absurd (omega arith)
 
-  handed_refused : (o : Outcome (Records Step)) {number place : ℕ} → LoadedAs o steps (refused number place) n
-      → record { answer = refused number place; model = blank } ≡ handed o
+  handed_refused : (o : Outcome (Records Step)) {number place : ℕ} → LoadedAs o steps (Refused number place) n
+      → record { answer = Refused number place; model = blank } ≡ handed o
   handed_refused (accepted xs) (e, _, _) = let z : ◌≡◌ {A = ℕ} 0 1 = cc in absurd (omega arith)
   handed_refused (refused number place) e = rw e
 
-module _ (f : List ℕ) {states : ℕ} (states-are : states_of f ≡ accepted states) (l : Loaded)
-    (loaded : LoadedAs (steps_at 512 f states 2) l.steps l.answer l.nsteps) where
+module _ (f : List ℕ) {states : ℕ} (states-are : states_of f ≡ accepted states) (steps : List Step) (l : Loaded)
+    (loaded : LoadedAs (steps_at 512 f states 2) steps l.answer l.nsteps) where
   phone_after_states : phone_of f ≡ and_then (steps_at 512 f states 2) (λ xs. accepted (record { states = states; steps = xs.list }))
   unfolding phone_of
   phone_after_states = rw states-are
 
-  pub loaded_accepted : l.answer ≡ FILE_ACCEPTED
-      → record { answer = l.answer; model = record { states = states; steps = l.steps; nsteps = l.nsteps } } ≡ model_reading_of (phone_of f)
-  loaded_accepted e = rw (e, phone_after_states) (handed_accepted states l.steps l.nsteps (steps_at 512 f states 2) (rw e at loaded))
+  pub loaded_accepted : l.answer ≡ Accepted
+      → record { answer = l.answer; model = record { states = states; steps = steps; nsteps = l.nsteps } } ≡ model_reading_of (phone_of f)
+  loaded_accepted e = rw (e, phone_after_states) (handed_accepted states steps l.nsteps (steps_at 512 f states 2) (rw e at loaded))
 
-  pub loaded_refused : {number place : ℕ} → l.answer ≡ refused number place
+  pub loaded_refused : {number place : ℕ} → l.answer ≡ Refused number place
       → (r : ModelReading) → r ≡ record { answer = l.answer; model = blank } → r ≡ model_reading_of (phone_of f)
-  loaded_refused e r is = is ∙ rw (e, phone_after_states) (handed_refused states l.steps l.nsteps (steps_at 512 f states 2) (rw e at loaded))
+  loaded_refused e r is = is ∙ rw (e, phone_after_states) (handed_refused states steps l.nsteps (steps_at 512 f states 2) (rw e at loaded))

@@ -1,17 +1,15 @@
--- The rows of the model file's refusal table: where the checks before it pass and its own doesn't, its refusal is the record's case. And
--- what a record is where every check passes.
+-- The rows of the model file's refusal table: where the checks before it pass and its own doesn't, its refusal is the record's case.
 use mathlib.Core.Path.{◌≡◌, refl}
 use mathlib.Core.Bool.{Bool, true, false}
 use mathlib.Core.List.{List}
-use Prim.Native.Nat.{ℕ, ◌≤◌, ◌<◌}
+use Prim.Native.Nat.{ℕ, ◌<◌}
 use lib.ListN.{length, get_or}
 use lib.Dec.{eqb}
-use borrow.Author.Tests.{le-leb, lt-leb, le-ltb, lt-ltb, eq-eqb, ne_eqb}
+use borrow.Author.Tests.{lt-ltb, eq-eqb, ne_eqb}
 use Rattle.reading.specs.File.{refused, refuse}
 use Rattle.reading.specs.Representations.{record_at}
-use Rattle.models.specs.Phone.{states_kind, code_step_kind, silent_step_kind, is_step, states_of, among, ending_at, code_step_at, silent_step_at, step_format}
+use Rattle.models.specs.Phone.{states_kind, code_step_kind, silent_step_kind, is_step, states_of, step_format}
 use Rattle.models.specs.Readings.{states_read, step_read}
-use Rattle.models.specs.declared.Step.{Step}
 use Rattle.models.specs.declared.records.StatesRead.TheVariants as StatesRead'
 use Rattle.models.specs.declared.records.StepRead.{StepRead}
 use Rattle.models.specs.declared.records.StepRead.TheVariants as StepRead'
@@ -43,52 +41,19 @@ module _ (f : List ℕ) where
           unfolding states_of
           states_over h = simp (ne_eqb _ _ b, eq-eqb _ _ k, ne_eqb _ _ w, ne_eqb _ _ s, lt-ltb _ _ h)
 
-          pub states_whole : get_or f 1 0 ≤ 64 → StatesRead'.Read (get_or f 1 0) ≡ states_read (states_of f)
-          unfolding states_of
-          states_whole h = simp (ne_eqb _ _ b, eq-eqb _ _ k, ne_eqb _ _ w, ne_eqb _ _ s, le-ltb _ _ h)
-
--- ---- a step among the states
-
-module _ (states at : ℕ) (x : Step) where
-  pub from_outside : states ≤ x.from → StepRead'.Refused 13 at ≡ step_read (among states at x)
-  from_outside h = simp (le-leb _ _ h)
-
-  module _ (i : x.from < states) where
-    pub to_outside : states ≤ x.to → StepRead'.Refused 13 at ≡ step_read (among states at x)
-    to_outside h = simp (lt-leb _ _ i, le-leb _ _ h)
-
-    pub both_among : x.to < states → StepRead'.Read x ≡ step_read (among states at x)
-    both_among h = simp (lt-leb _ _ i, lt-leb _ _ h)
-
 -- ---- the record of a step
 
-module _ (f : List ℕ) (states at : ℕ) where
-  module _ (last : ℕ) (x : Step) where
-    pub step_cut : length f ≤ last → StepRead'.Refused 11 (length f) ≡ step_read (ending_at f states at last x)
-    step_cut h = simp (le-leb _ _ h)
+module _ (f : List ℕ) (states at left : ℕ) where
+  -- what `read_step` answers
+  abbrev read_at : StepRead
+  read_at = step_read (record_at (step_format f states) left at)
 
-    pub step_whole : last < length f → (r : StepRead) → r ≡ step_read (among states at x) → r ≡ step_read (ending_at f states at last x)
-    step_whole h r e = simp (lt-leb _ _ h) e
+  pub no_step : (get_or f at 0 ≡ code_step_kind → ⊥) → (get_or f at 0 ≡ silent_step_kind → ⊥) → StepRead'.Refused 12 at ≡ read_at
+  no_step c s = rw (ne_eqb _ _ c, ne_eqb _ _ s) (on (eqb left 0))
+    where
+      on : (none_left : Bool) → StepRead'.Refused 12 at ≡ step_read (refuse none_left 12 at (refused 12 at))
+      on true = refl
+      on false = refl
 
-  module _ (left : ℕ) where
-    -- what `read_step` answers
-    abbrev read_at : StepRead
-    read_at = step_read (record_at (step_format f states) left at)
-
-    pub no_step : (get_or f at 0 ≡ code_step_kind → ⊥) → (get_or f at 0 ≡ silent_step_kind → ⊥) → StepRead'.Refused 12 at ≡ read_at
-    no_step c s = rw (ne_eqb _ _ c, ne_eqb _ _ s) (on (eqb left 0))
-      where
-        on : (none_left : Bool) → StepRead'.Refused 12 at ≡ step_read (refuse none_left 12 at (refused 12 at))
-        on true = refl
-        on false = refl
-
-    module _ (kind : is_step (get_or f at 0) ≡ true) where
-      pub no_step-left : left ≡ 0 → StepRead'.Refused 14 at ≡ read_at
-      no_step-left h = simp (kind, h)
-
-      module _ (l : left ≡ 0 → ⊥) where
-        pub code_step : get_or f at 0 ≡ code_step_kind → (r : StepRead) → r ≡ step_read (code_step_at f states at) → r ≡ read_at
-        code_step h r e = simp (h, ne_eqb _ _ l) e
-
-        pub silent_step : (get_or f at 0 ≡ code_step_kind → ⊥) → (r : StepRead) → r ≡ step_read (silent_step_at f states at) → r ≡ read_at
-        silent_step h r e = rw (kind, ne_eqb _ _ l, ne_eqb _ _ h) e
+  pub no_step-left : is_step (get_or f at 0) ≡ true → left ≡ 0 → StepRead'.Refused 14 at ≡ read_at
+  no_step-left kind h = simp (kind, h)

@@ -95,14 +95,6 @@ module _ (f : List ℕ) (states at : ℕ) (x : Step) where
         bytes = due.bytes (leb-false _ _ whole.0);
       })
 
-  -- its record ends in the file
-  pub step_inside : Bytes f → at < length f → step_at f states at ≡ accepted x → at + record_length x ≤ length f
-  step_inside bytes inside e =
-      let stands = step_stands bytes inside e in
-      let rest = drop (at + record_length x) f in
-      let long = ap length stands.bytes ∙ length-append (encode_step x) rest in
-      omega (arith, long, length_step x, (record_bounds x).0, length-drop at f, length-drop (at + record_length x) f)
-
   step_reads : WellFormedStep states x → (rest : List ℕ) → drop at f ≡ encode_step x ++ rest → step_at f states at ≡ accepted x
   step_reads w rest e = on (eqb x.label 256) refl e
     where

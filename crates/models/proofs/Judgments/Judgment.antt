@@ -19,12 +19,13 @@ use Rattle.enforcement.specs.Model.{SatisfiesDecided}
 use Rattle.models.specs.Phone.{Phone, model_of, phone_of}
 use Rattle.models.specs.Judging.{stored, model_reading_of, judging_of, JudgedAs, table_judged}
 use Rattle.models.specs.Readings.{rule_refusal, refusal_before}
-use Rattle.models.specs.Exploring.{NeverDrops, HasPhone}
+use Rattle.models.specs.Exploring.{NeverDrops, HasPhone, StepsWithinLimits, model_with}
+use Rattle.models.specs.declared.Step.{Step}
 use Rattle.models.specs.declared.PhoneModel.{PhoneModel}
 use Rattle.models.specs.declared.ModelReading.{ModelReading}
 use Rattle.enforcement.proofs.SatisfactionLaws.{satisfies_safe}
 use Rattle.models.proofs.Pairs.NeverDropping.{never_drops_safe}
-use Rattle.models.proofs.Files.ReadModels.{ModelRead, model_read, model_unread}
+use Rattle.models.proofs.Files.ReadModels.{ModelRead, model_read, model_unread, steps_are, read_steps}
 use Rattle.models.proofs.Phones.PhoneCodes.{phone_codes}
 use Rattle.models.proofs.Phones.DecidedSets.{decided_satisfies}
 use Rattle.models.proofs.Judgments.JudgingOrder.{judging_refused, judging_model_refused}
@@ -90,6 +91,9 @@ module _ (limit : ℕ) (small : limit ≤ most) (s table f : List ℕ) where
     pub model_has_phone : HasPhone model
     model_has_phone = a.read.has
 
+    pub model_steps : {steps : List Step} → ((y : Phone) → model ≡ stored y → steps ≡ y.steps) → StepsWithinLimits steps
+    model_steps are = read_steps a.read are
+
     abbrev phone : Phone
     phone = a.read.has.phone
 
@@ -109,14 +113,14 @@ module _ (limit : ℕ) (small : limit ≤ most) (s table f : List ℕ) where
         let decided = decided_satisfies phone a.rule in
         (λ never. decided.1 (satisfies.1 (safe.0 never)), λ sat. safe.1 (satisfies.0 (decided.0 sat)))
 
-    module _ {r : Bool}
-        (never : (y : Phone) → model ≡ stored y → (r ≡ true) ↔ NeverDrops (lookup 256 mark after) 0 (model_of y)) where
+    module _ {steps : List Step} (are : (y : Phone) → model ≡ stored y → steps ≡ y.steps)
+        {r : Bool} (never : (r ≡ true) ↔ NeverDrops (lookup 256 mark after) 0 (model_with steps)) where
       judging_is : judging_of limit s (length table) f ≡ accepted (record { rule = a.rule; phone = phone })
       judging_is = judging_case a.fills f phone a.read.phone_is
 
       -- the search finds no dropped step exactly where there is none
       search_iff : (r ≡ true) ↔ NeverDrops (lookup 256 mark after) 0 (model_of phone)
-      search_iff = never phone a.read.has.is_stored
+      search_iff = rw (steps_are a.read are) at never
 
       pub judges_meets : r ≡ true → Judges (accepted Meets) after
       judges_meets e = rw judging_is (inl (refl, never_drops_satisfies.0 (search_iff.0 e)), a.fills.left_is)

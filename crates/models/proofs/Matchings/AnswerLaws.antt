@@ -5,16 +5,19 @@ use mathlib.Core.Bool.{Bool, true, false}
 use mathlib.Core.List.{List}
 use Prim.Native.Nat.{ℕ, ◌≤◌}
 use native.Mathlib.Omega.{arith}
-use lib.ListN.{length}
 use Rattle.reading.specs.File.{Outcome, accepted, refused}
+use Rattle.reading.specs.declared.FileRead.TheVariants.{Accepted, Refused}
 use Rattle.models.specs.Phone.{Phone, phone_of}
-use Rattle.models.specs.Judging.{model_reading_of}
-use Rattle.models.specs.Pairs.{Pair, pairs_of, matching, first_refused, second_refused, pairs_refused, matching_of, MatchedAs, MatchAnswer, said}
+use Rattle.models.specs.Judging.{stored, model_reading_of}
+use Rattle.models.specs.Pairs.{Pair, pairs_of, matching, first_refused, second_refused, pairs_refused, matching_of, MatchedAs, Matches}
 use Rattle.models.specs.Relating.{Relates, RelatedAs, MatchedBy, first_refusal, second_refusal, pairs_refusal}
+use Rattle.models.specs.declared.Step.{Step}
 use Rattle.models.specs.declared.PhoneModel.{PhoneModel}
 use Rattle.models.specs.declared.ModelReading.{ModelReading}
+use Rattle.models.specs.declared.Matched.{Matched}
+use Rattle.models.specs.declared.Matched.TheVariants as Matched'
 use Rattle.models.specs.declared.pairing.Relation.{Relation}
-use Rattle.models.proofs.Files.ReadModels.{ModelRead, model_unread}
+use Rattle.models.proofs.Files.ReadModels.{ModelRead, model_unread, steps_are}
 use Rattle.models.proofs.Matchings.Bisimulations.{matched_matches}
 
 -- ---- what is matched
@@ -45,13 +48,13 @@ pub states_few : {f : List ℕ} {model : PhoneModel} → ModelRead f model → m
 states_few m = omega (arith, ap (λ (x : PhoneModel). x.states) m.has.is_stored, m.has.within_limits.well_formed.few_states)
 
 module _ (f g l : List ℕ) where
-  pub answers_first : {reading : ModelReading} {number place : ℕ} {r : MatchAnswer} → reading ≡ model_reading_of (phone_of f)
-      → reading.answer ≡ refused number place → r ≡ first_refusal reading.answer → MatchedAs (matching_of f g l) r
+  pub answers_first : {reading : ModelReading} {number place : ℕ} {r : Matched} → reading ≡ model_reading_of (phone_of f)
+      → reading.answer ≡ Refused number place → r ≡ first_refusal reading.answer → MatchedAs (matching_of f g l) r
   answers_first read told is = rw (matching_first f g l (model_unread f read told)) (is ∙ rw told)
 
   module _ {one : PhoneModel} (m : ModelRead f one) where
-    pub answers_second : {reading : ModelReading} {number place : ℕ} {r : MatchAnswer} → reading ≡ model_reading_of (phone_of g)
-        → reading.answer ≡ refused number place → r ≡ second_refusal reading.answer → MatchedAs (matching_of f g l) r
+    pub answers_second : {reading : ModelReading} {number place : ℕ} {r : Matched} → reading ≡ model_reading_of (phone_of g)
+        → reading.answer ≡ Refused number place → r ≡ second_refusal reading.answer → MatchedAs (matching_of f g l) r
     answers_second read told is = rw (matching_second f g l m.phone_is (model_unread g read told)) (is ∙ rw told)
 
     module _ {other : PhoneModel} (n : ModelRead g other) (relation : Relation)
@@ -61,7 +64,7 @@ module _ (f g l : List ℕ) where
       related_pairs =
           rw (← ap (λ (x : PhoneModel). x.states) m.has.is_stored, ← ap (λ (x : PhoneModel). x.states) n.has.is_stored) related
 
-      pub answers_pairs : {number place : ℕ} {r : MatchAnswer} → relation.answer ≡ refused number place → r ≡ pairs_refusal relation.answer
+      pub answers_pairs : {number place : ℕ} {r : Matched} → relation.answer ≡ Refused number place → r ≡ pairs_refusal relation.answer
           → MatchedAs (matching_of f g l) r
       answers_pairs {number} {place} told is =
           rw (matching_pairs f g l m.phone_is n.phone_is (on _ refl related_pairs)) (is ∙ rw told)
@@ -71,7 +74,7 @@ module _ (f g l : List ℕ) where
           on (accepted ps) e (accepts, _) = absurd (let z : ◌≡◌ {A = ℕ} 0 1 = cc in omega arith)
           on (refused number' place') e refuses = let same : number' ≡ number = cc in let same' : place' ≡ place = cc in e ∙ rw (same, same')
 
-      module _ (told : relation.answer ≡ FILE_ACCEPTED) where
+      module _ (told : relation.answer ≡ Accepted) where
         -- the pairs of the list, and that the rows and columns are their relation
         listed : (ps : List Pair) × (pairs_of l m.has.phone.states n.has.phone.states ≡ accepted ps)
             × Relates ps relation.rows relation.columns
@@ -83,21 +86,26 @@ module _ (f g l : List ℕ) where
             on (accepted ps) e (accepts, relates) = (ps, e, relates)
             on (refused number place) e refuses = absurd (let z : ◌≡◌ {A = ℕ} 0 1 = cc in omega arith)
 
-        pub rows_long : (length relation.rows ≡ 64) × (length relation.columns ≡ 64)
-        rows_long = (listed.2.in_rows.long, listed.2.in_columns.long)
+        -- the steps of the two models, and what was found of them
+        module _ {steps others : List Step} (one_are : (y : Phone) → one ≡ stored y → steps ≡ y.steps)
+            (other_are : (y : Phone) → other ≡ stored y → others ≡ y.steps)
+            {r : Bool} (matched : (r ≡ true) ↔ MatchedBy steps others relation.rows relation.columns) where
+          matched_iff : {ps : List Pair} → Relates ps relation.rows relation.columns → (r ≡ true) ↔ Matches m.has.phone n.has.phone ps
+          matched_iff relates =
+              let iff = matched_matches m.has.phone n.has.phone relates in
+              let same : (r ≡ true) ↔ MatchedBy m.has.phone.steps n.has.phone.steps relation.rows relation.columns =
+              rw (steps_are m one_are, steps_are n other_are) at matched in
+              (λ e. iff.0 (same.0 e), λ h. same.1 (iff.1 h))
 
-        module _ {r : Bool} (matched : (r ≡ true) ↔ MatchedBy one other relation.rows relation.columns) where
-          pub answers_yes : r ≡ true → MatchedAs (matching_of f g l) (said true)
+          pub answers_yes : r ≡ true → MatchedAs (matching_of f g l) Matched'.Yes
           answers_yes e =
               let (ps, read, relates) = listed in
-              rw (matching_accepts f g l m.phone_is n.phone_is read)
-              (inl (refl, (matched_matches _ _ m.has.is_stored n.has.is_stored relates).0 (matched.0 e)))
+              rw (matching_accepts f g l m.phone_is n.phone_is read) (inl (refl, (matched_iff relates).0 e))
 
-          pub answers_no : r ≡ false → MatchedAs (matching_of f g l) (said false)
+          pub answers_no : r ≡ false → MatchedAs (matching_of f g l) Matched'.No
           answers_no e =
               let (ps, read, relates) = listed in
-              rw (matching_accepts f g l m.phone_is n.phone_is read)
-              (inr (refl, λ h. never_true (matched.1 ((matched_matches _ _ m.has.is_stored n.has.is_stored relates).1 h))))
+              rw (matching_accepts f g l m.phone_is n.phone_is read) (inr (refl, λ h. never_true ((matched_iff relates).1 h)))
             where
               never_true : r ≡ true → ⊥
               never_true e' = let z : ◌≡◌ {A = ℕ} 0 1 = cc in omega arith

@@ -4,18 +4,12 @@ use mathlib.Core.Path.{◌≡◌, refl, sym, ◌∙◌, ap}
 use mathlib.Core.Logic.{◌↔◌}
 use mathlib.Core.List.{List}
 use Prim.Native.Nat.{ℕ}
-use native.Mathlib.Omega.{arith}
 use lib.ListN.{length, get_or}
-use Rattle.synthesis.specs.NodeSet.{Has}
 use Rattle.enforcement.specs.Model.{Label, silent, code}
 use Rattle.models.specs.Phone.{Phone, label_of, no_step, StepIn}
-use Rattle.models.specs.Judging.{stored}
 use Rattle.models.specs.Pairs.{Pair, Matches}
 use Rattle.models.specs.Relating.{Rows, Relates, HavePartners, MatchedBy}
-use Rattle.models.specs.declared.Step.{Step}
-use Rattle.models.specs.declared.PhoneModel.{PhoneModel}
 use Rattle.models.proofs.Phones.PhoneCodes.{label_silent, label_code}
-use Rattle.models.proofs.Pairs.LinkLaws.{stored_alike}
 
 -- two numbers with the same label are the same
 pub label_same : (x y : ℕ) → label_of x ≡ label_of y → x ≡ y
@@ -31,73 +25,45 @@ label_same x y e = on (label_of y) refl
 abbrev Forth : (a b : Phone) → (R : (s t : ℕ) → Type 0) → Type 0
 Forth a b R = (s s' t : ℕ) (l : Label) → R s t → StepIn a.steps s l s' → (t' : ℕ) × StepIn b.steps t l t' × R s' t'
 
-module _ {m n : PhoneModel} (a b : Phone) (is : m ≡ stored a) (is' : n ≡ stored b) {R : (s t : ℕ) → Type 0} {rows : List ℕ} (r : Rows R rows) where
-  counted : m.nsteps ≡ length a.steps
-  counted = ap (λ (x : PhoneModel). x.nsteps) is
-
-  counted' : n.nsteps ≡ length b.steps
-  counted' = ap (λ (x : PhoneModel). x.nsteps) is'
-
-  partners_forth : HavePartners m.steps m.nsteps n.steps n.nsteps rows → Forth a b R
+module _ (a b : Phone) {R : (s t : ℕ) → Type 0} {rows : List ℕ} (r : Rows R rows) where
+  partners_forth : HavePartners a.steps (length a.steps) b.steps rows → Forth a b R
   partners_forth have s s' t l related x =
-      let i = x.index in
-      let same = stored_alike a is i in
-      let from : (get_or m.steps i no_step).from ≡ s = ap (λ (y : Step). y.from) same ∙ x.from_is in
-      let to : (get_or m.steps i no_step).to ≡ s' = ap (λ (y : Step). y.to) same ∙ x.to_is in
-      let p = have i t (omega (arith, x.inside, counted)) (rw from ((r.are s t).1 related)) in
-      let j = p.index in
-      let same' = sym (stored_alike b is' j) in
-      let label : (get_or b.steps j no_step).label ≡ (get_or a.steps i no_step).label =
-      ap (λ (y : Step). y.label) same' ∙ (p.label_is ∙ ap (λ (y : Step). y.label) same) in
-      let leads : Has (get_or rows s' 0) (get_or n.steps j no_step).to = rw to at p.leads in (
-        (get_or n.steps j no_step).to,
-        record {
-          index = j;
-          inside = omega (arith, p.inside, counted');
-          from_is = ap (λ (y : Step). y.from) same' ∙ p.from_is;
-          label_is = ap label_of label ∙ x.label_is;
-          to_is = ap (λ (y : Step). y.to) same';
-        },
-        (r.are s' (get_or n.steps j no_step).to).0 leads,
+      let step = get_or a.steps x.index no_step in
+      let p = have x.index t x.inside (rw x.from_is ((r.are s t).1 related)) in
+      let other = get_or b.steps p.index no_step in (
+        other.to,
+        record { index = p.index; inside = p.inside; from_is = p.from_is; label_is = ap label_of p.label_is ∙ x.label_is; to_is = refl },
+        (r.are s' other.to).0 (rw x.to_is at p.leads),
       )
 
-  forth_partners : Forth a b R → HavePartners m.steps m.nsteps n.steps n.nsteps rows
+  forth_partners : Forth a b R → HavePartners a.steps (length a.steps) b.steps rows
   forth_partners forth i t inside related =
-      let step = get_or m.steps i no_step in
-      let same = sym (stored_alike a is i) in
-      let x : StepIn a.steps step.from (label_of step.label) step.to = record {
-        index = i;
-        inside = omega (arith, inside, counted);
-        from_is = ap (λ (y : Step). y.from) same;
-        label_is = ap (λ (y : Step). label_of y.label) same;
-        to_is = ap (λ (y : Step). y.to) same;
-      } in
+      let step = get_or a.steps i no_step in
+      let x : StepIn a.steps step.from (label_of step.label) step.to = record { index = i; inside = inside; from_is = refl; label_is = refl; to_is = refl } in
       let (t', y, again) = forth step.from step.to t (label_of step.label) ((r.are step.from t).0 related) x in
-      let same' = stored_alike b is' y.index in
-      let to : (get_or n.steps y.index no_step).to ≡ t' = ap (λ (z : Step). z.to) same' ∙ y.to_is in
       record {
         index = y.index;
-        inside = omega (arith, y.inside, counted');
-        from_is = ap (λ (z : Step). z.from) same' ∙ y.from_is;
-        label_is = ap (λ (z : Step). z.label) same' ∙ label_same _ _ y.label_is;
-        leads = rw to ((r.are step.to t').1 again);
+        inside = y.inside;
+        from_is = y.from_is;
+        label_is = label_same _ _ y.label_is;
+        leads = rw y.to_is ((r.are step.to t').1 again);
       }
 
 -- ---- both halves
 
-pub matched_matches : {m n : PhoneModel} (a b : Phone) → m ≡ stored a → n ≡ stored b → {ps : List Pair} {rows columns : List ℕ} → Relates ps rows columns
-    → MatchedBy m n rows columns ↔ Matches a b ps
-matched_matches a b is is' r = (
+pub matched_matches : (a b : Phone) {ps : List Pair} {rows columns : List ℕ} → Relates ps rows columns
+    → MatchedBy a.steps b.steps rows columns ↔ Matches a b ps
+matched_matches a b r = (
   λ by. record {
     starts = (r.in_rows.are 0 0).0 by.starts;
     bisimulation = record {
-      forth = partners_forth a b is is' r.in_rows by.forth;
-      back = λ s t t' l related step. partners_forth b a is' is r.in_columns by.back t t' s l related step;
+      forth = partners_forth a b r.in_rows by.forth;
+      back = λ s t t' l related step. partners_forth b a r.in_columns by.back t t' s l related step;
     };
   },
   λ h. record {
     starts = (r.in_rows.are 0 0).1 h.starts;
-    forth = forth_partners a b is is' r.in_rows h.bisimulation.forth;
-    back = forth_partners b a is' is r.in_columns (λ t t' s l related step. h.bisimulation.back s t t' l related step);
+    forth = forth_partners a b r.in_rows h.bisimulation.forth;
+    back = forth_partners b a r.in_columns (λ t t' s l related step. h.bisimulation.back s t t' l related step);
   },
 )

@@ -1,18 +1,22 @@
 -- Reading a list of pairs one after the other: the pairs that are read so far stand before the rest, and their relation is in the rows and columns.
 use mathlib.Core.Path.{◌≡◌, refl, sym, ap, ◌∙◌}
 use mathlib.Core.List.{List, [], ◌∷◌, ◌++◌, append-nil, append_assoc}
-use Prim.Native.Nat.{ℕ, zero, suc, ◌+◌, ◌-◌, ◌≤◌, ◌<◌}
+use Prim.Native.Nat.{ℕ, zero, suc, ◌*◌, ◌%◌, ◌^◌, ◌+◌, ◌-◌, ◌≤◌, ◌<◌}
 use native.Mathlib.Omega.{arith}
 use lib.ListN.{length, get_or, set, replicate}
 use borrow.Author.Tests.{lt-ltb, le-ltb}
+use Rattle.std.proofs.Common.{min, take, drop, length-drop}
+use Rattle.std.proofs.lemmas.List.{take_min, drop-drop}
+use Rattle.std.proofs.Math.Seq.{take-append_seam, drop-append_seam}
 use Rattle.reading.specs.File.{Outcome, accepted, refused, and_then}
 use Rattle.reading.proofs.Basics.Outcomes.{by_case-refused}
-use Rattle.synthesis.specs.NodeSet.{singleton, union}
+use Rattle.synthesis.specs.NodeSet.{union}
 use Rattle.models.specs.Pairs.{Pair, most_pairs, pair_at, pairs_at, pairs_of}
 use Rattle.models.specs.Relating.{pair_read, pair_answer, Relates, RelatedAs}
 use Rattle.models.specs.declared.pairing.PairRead.{PairRead}
 use Rattle.models.specs.declared.pairing.PairRead.TheVariants as PairRead'
 use Rattle.models.proofs.Matchings.PairChecks.{pair_stands, pair_cases}
+use Rattle.models.proofs.Matchings.PartnerLaws.{shifted}
 use Rattle.models.proofs.Matchings.RelationLaws.{relates_none, relates_one_more}
 
 -- ---- the ways of a list
@@ -47,7 +51,32 @@ module _ (l : List ℕ) (n n' at : ℕ) where
   pairs_refused zero inside e = rw (lt-ltb at (length l) inside, e)
   pairs_refused (suc left) inside e = rw (lt-ltb at (length l) inside, e)
 
+-- ---- the chunks of a list
+
+-- A chunk of two bytes, or of one that is left, and the rest after it.
+module _ (l : List ℕ) (at : ℕ) (pair rest' : List ℕ) {rest : List ℕ} {size : ℕ} (is : rest ≡ drop at l) (two : size ≡ 2)
+    (cut : (rest ≡ pair ++ rest') × (length pair ≡ min size (length rest)) × (0 < length rest)) where
+  pub chunk_is : pair ≡ take 2 (drop at l)
+  chunk_is =
+      let long : length pair ≡ min 2 (length rest) = rw two at cut.1 in
+      sym (take-append_seam pair rest') ∙ rw (← cut.0, long) (take_min 2 rest ∙ ap (take 2) is)
+
+  pub chunk_inside : at < length l
+  chunk_inside = omega (arith, cut.2, ap length is, length-drop at l)
+
+  pub chunk_after : at + 1 < length l → rest' ≡ drop (at + 2) l
+  chunk_after whole =
+      let long : length pair ≡ 2 = omega (arith, cut.1, two, ap length is, length-drop at l) in
+      sym (drop-append_seam pair rest') ∙ rw (← cut.0, long, is) (drop-drop 2 at l)
+
+pub chunks_over : (l : List ℕ) (at : ℕ) {rest : List ℕ} → rest ≡ drop at l → length rest ≡ 0 → length l ≤ at
+chunks_over l at is none = omega (arith, none, ap length is, length-drop at l)
+
 -- ---- the loop
+
+-- a set of states with one more, by its bit
+abbrev pub with_bit : (set state : ℕ) → ℕ
+with_bit set state = union set (1 * 2 ^ state % 2 ^ 64)
 
 -- Pairs are read up to `at`, `left` are left, and the relation of those read is in the rows and the columns.
 pub record PairsBegun (l : List ℕ) (n n' : ℕ) (rows columns : List ℕ) (left at : ℕ) : Type 0 where
@@ -60,15 +89,16 @@ begun_none l n n' = record { done = []; rest = after_none (pairs_of l n n'); rel
 
 module _ {l : List ℕ} {n n' : ℕ} {rows columns : List ℕ} {left at : ℕ} (b : PairsBegun l n n' rows columns left at) where
   pub begun_one : n ≤ 64 → n' ≤ 64 → at < length l → (p : Pair) → pair_at l n n' at left ≡ accepted p
-      → (row column : ℕ) → row ≡ union (get_or rows p.first 0) (singleton p.second) → column ≡ union (get_or columns p.second 0) (singleton p.first)
-      → PairsBegun l n n' (set rows p.first row) (set columns p.second column) (left - 1) (at + 2)
-  begun_one few few' inside p e row column row_is column-is =
+      → PairsBegun l n n' (set rows p.first (with_bit (get_or rows p.first 0) p.second)) (set columns p.second (with_bit (get_or columns p.second 0) p.first))
+      (left - 1) (at + 2)
+  begun_one few few' inside p e =
       let stands = pair_stands l n n' at left p e in
+      let first : p.first < 64 = omega (arith, stands.first_state) in
+      let second : p.second < 64 = omega (arith, stands.second_state) in
       record {
         done = b.done ++ p ∷ [];
         rest = b.rest ∙ (ap (after b.done) (pairs_next l n n' at left inside e) ∙ after_one b.done p (pairs_at (left - 1) l n n' (at + 2)));
-        relates = rw (row_is, column-is)
-            (relates_one_more p (omega (arith, stands.first_state)) (omega (arith, stands.second_state)) b.relates);
+        relates = rw (shifted p.first first, shifted p.second second) (relates_one_more p first second b.relates);
       }
 
   -- ---- the ways out of the loop

@@ -1,35 +1,30 @@
 -- The states with a partner step are found step by step: one more step adds at most its source. A row is inside such a set exactly where what they have in common
 -- is the row.
-use Prim.Native.Nat.{ℕ, ◌+◌, ◌<◌, ◌≤◌}
+use Prim.Native.Nat.{ℕ, ◌+◌, ◌*◌, ◌%◌, ◌^◌, ◌<◌, ◌≤◌}
+use Rattle.std.proofs.lemmas.Grind.{common_steps}
 use mathlib.Core.Path.{◌≡◌}
 use mathlib.Core.Logic.{◌⊎◌, inl, inr, ⊎_elim}
 use mathlib.Core.List.{List}
 use native.Mathlib.Nat.{lt_of_not-le}
 use native.Mathlib.Decide.{dec_le}
 use native.Mathlib.Omega.{arith}
-use lib.ListN.{get_or}
+use lib.ListN.{length, get_or}
 use Rattle.synthesis.specs.NodeSet.{Has, empty_set, singleton, union, intersection}
 use Rattle.synthesis.proofs.Unfolding.NodeSetLaws.{has_none, has_common, same_members_same_set}
 use Rattle.synthesis.proofs.Unfolding.MemberLaws.{has_singleton_iff, union_iff}
 use Rattle.models.specs.Phone.{no_step}
-use Rattle.models.specs.Relating.{WithPartner, PartnerStep, Partners, HavePartners}
+use Rattle.models.specs.Relating.{PartnerStep, Partners, HavePartners}
 use Rattle.models.specs.declared.Step.{Step}
 
 -- ---- one step
 
-module _ (states : ℕ) (step : Step) (label targets : ℕ) where
-  pub other_label : (step.label ≡ label → ⊥) → WithPartner states step label targets states
-  other_label other = record { is = λ s. (inl, ⊎_elim (λ h. h) (λ h. absurd (other h.1))) }
+-- the step has the label, and leads to one of the targets
+abbrev pub Leads : Step → (label targets : ℕ) → Type 0
+Leads step label targets = (step.label ≡ label) × Has targets step.to
 
-  pub no_target : (Has targets step.to → ⊥) → WithPartner states step label targets states
-  no_target none = record { is = λ s. (inl, ⊎_elim (λ h. h) (λ h. absurd (none h.2))) }
-
-  pub partner_added : step.label ≡ label → Has targets step.to → WithPartner states step label targets (union states (singleton step.from))
-  partner_added same leads = record {
-    is = λ s.
-        let from = has_singleton_iff step.from s in
-        union_iff states (singleton step.from) s (λ h. h, λ h. h) (λ h. (from.0 h, same, leads), λ h. from.1 h.0);
-  }
+-- a bit that is shifted to a state of 64
+pub shifted : (s : ℕ) → s < 64 → 1 * 2 ^ s % 2 ^ 64 ≡ singleton s
+shifted s h = grind (arith, common_steps)
 
 -- ---- the steps so far
 
@@ -54,14 +49,25 @@ module _ (steps : List Step) (n label targets s : ℕ) where
       on (yes h) = let last : p.index ≡ n = omega (arith, p.inside) in inr (rw (← last) (p.from_is, p.label_is, p.leads))
       on (no h) = inl (record { index = p.index; inside = lt_of_not-le h; from_is = p.from_is; label_is = p.label_is; leads = p.leads })
 
-pub next_partner : (steps : List Step) (n label targets states after : ℕ) → Partners steps n label targets states
-    → WithPartner states (get_or steps n no_step) label targets after → Partners steps (n + 1) label targets after
-next_partner steps n label targets states after so_far more = record {
-  is = λ s. (
-    λ h. ⊎_elim (λ k. partner_later steps n label targets s ((so_far.is s).0 k)) (partner_last steps n label targets s) ((more.is s).0 h),
-    λ p. (more.is s).1 (⊎_elim (λ q. inl ((so_far.is s).1 q)) inr (partner_cases steps n label targets s p)),
-  );
-}
+module _ {steps : List Step} {n label targets states : ℕ} (so_far : Partners steps n label targets states) where
+  pub next_partner : Leads (get_or steps n no_step) label targets
+      → Partners steps (n + 1) label targets (union states (singleton (get_or steps n no_step).from))
+  next_partner leads = record {
+    is = λ s.
+        let last = has_singleton_iff (get_or steps n no_step).from s in
+        let members = union_iff states (singleton (get_or steps n no_step).from) s (so_far.is s) last in (
+          λ h. ⊎_elim (partner_later steps n label targets s) (λ from. partner_last steps n label targets s (from, leads.0, leads.1)) (members.0 h),
+          λ p. members.1 (⊎_elim inl (λ q. inr q.0) (partner_cases steps n label targets s p)),
+        );
+  }
+
+  pub next_no_partner : (Leads (get_or steps n no_step) label targets → ⊥) → Partners steps (n + 1) label targets states
+  next_no_partner none = record {
+    is = λ s. (
+      λ h. partner_later steps n label targets s ((so_far.is s).0 h),
+      λ p. ⊎_elim (so_far.is s).1 (λ q. absurd (none (q.1, q.2))) (partner_cases steps n label targets s p),
+    );
+  }
 
 -- ---- a set inside another
 
@@ -73,23 +79,20 @@ all_inside a b h = same_members_same_set _ _ (λ s. (λ x. ((has_common a b s).0
 
 -- ---- each step has partners
 
-pub none_have_partners : (steps others : List Step) (m : ℕ) (rows : List ℕ) → HavePartners steps 0 others m rows
-none_have_partners steps others m rows i t h r = absurd (omega arith)
-
-module _ (steps others : List Step) (i m : ℕ) (rows : List ℕ) (found : ℕ) where
+module _ (steps others : List Step) (i : ℕ) (rows : List ℕ) {found : ℕ}
+    (partners : Partners others (length others) (get_or steps i no_step).label (get_or rows (get_or steps i no_step).to 0) found) where
   abbrev related : ℕ
   related = get_or rows (get_or steps i no_step).from 0
 
-  module _ (partners : Partners others m (get_or steps i no_step).label (get_or rows (get_or steps i no_step).to 0) found) where
-    pub next_has_partners : HavePartners steps i others m rows → intersection related found ≡ related → HavePartners steps (i + 1) others m rows
-    next_has_partners before e j t h r = on (dec_le i j)
-      where
-        on : Dec (i ≤ j) → PartnerStep others m (get_or steps j no_step).label (get_or rows (get_or steps j no_step).to 0) t
-        on (yes y) =
-            let last : j ≡ i = omega arith in
-            let r' : Has related t = rw last at r in
-            rw last ((partners.is t).0 (inside_all related found e t r'))
-        on (no earlier) = before j t (lt_of_not-le earlier) r
+  pub next_has_partners : HavePartners steps i others rows → intersection related found ≡ related → HavePartners steps (i + 1) others rows
+  next_has_partners before e j t h r = on (dec_le i j)
+    where
+      on : Dec (i ≤ j) → PartnerStep others (length others) (get_or steps j no_step).label (get_or rows (get_or steps j no_step).to 0) t
+      on (yes y) =
+          let last : j ≡ i = omega arith in
+          let r' : Has related t = rw last at r in
+          rw last ((partners.is t).0 (inside_all related found e t r'))
+      on (no earlier) = before j t (lt_of_not-le earlier) r
 
-    pub lacks_partners : (n : ℕ) → i < n → (intersection related found ≡ related → ⊥) → HavePartners steps n others m rows → ⊥
-    lacks_partners n h differ all = differ (all_inside related found (λ t r. (partners.is t).1 (all i t h r)))
+  pub lacks_partners : i < length steps → (intersection related found ≡ related → ⊥) → HavePartners steps (length steps) others rows → ⊥
+  lacks_partners h differ all = differ (all_inside related found (λ t r. (partners.is t).1 (all i t h r)))

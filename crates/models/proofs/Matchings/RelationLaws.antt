@@ -34,7 +34,7 @@ rows_with : {R S : (x y : ℕ) → Type 0} {rows : List ℕ} (x y : ℕ) → x <
     → Rows S (set rows x (union (get_or rows x 0) (singleton y)))
 rows_with {R} {S} {rows} x y inside more r = record {
   long = simp length-set r.long;
-  are = λ a b. set_everywhere (λ a row. Has row b ↔ S a b) rows x _ (omega (arith, r.long)) (here b) (there b) a;
+  are = λ a b. set_everywhere 0 (λ a row. Has row b ↔ S a b) rows x _ (omega (arith, r.long)) (here b) (there b) a;
 }
   where
     here : (b : ℕ) → Has (union (get_or rows x 0) (singleton y)) b ↔ S x b

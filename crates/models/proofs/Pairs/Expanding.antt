@@ -1,51 +1,94 @@
--- Expanding a pair, one outgoing step after the other: each step either is the first left on the chain, and then is followed, or stands after
--- it on the chain or has been followed before.
-use Prim.Native.Nat.{ℕ, suc, ◌+◌, ◌*◌, ◌%◌}
-use mathlib.Core.Path.{◌≡◌, sym}
-use mathlib.Core.Logic.{◌⊎◌, inl, inr}
+-- Expanding a pair, one outgoing step after the other along the chain of its state: each step from there on has been followed.
+use Prim.Native.Nat.{ℕ, ◌+◌, ◌*◌, ◌/◌, ◌%◌, ◌≤◌, ◌<◌}
+use mathlib.Core.Path.{◌≡◌, refl, sym, ◌∙◌, ap}
 use mathlib.Core.List.{List}
-use lib.ListN.{get_or}
-use Rattle.synthesis.specs.Monitor.{mark}
+use Rattle.std.proofs.Common.{Option, Some, None}
+use native.Mathlib.Decide.{dec_le, dec_lt}
+use native.Mathlib.Omega.{arith}
+use lib.ListN.{length, get_or}
 use Rattle.models.specs.Phone.{no_step}
-use Rattle.models.specs.Exploring.{OnChain, chain_first, chain_later, Worklist, Enqueued}
-use Rattle.models.specs.Exploring.{Outgoing, equation_after, pair_after, Successor, Followed, PartlyExpanded}
+use Rattle.synthesis.specs.Monitor.{mark, most}
+use Rattle.synthesis.specs.Table.{WellFormedTable}
+use Rattle.models.specs.Exploring.{StepsWithinLimits, Chains, last_from, pair_limit, Enqueued}
+use Rattle.models.specs.Searching.{Outgoing, equation_after, Followed, DroppedStep, Expands}
 use Rattle.models.specs.declared.Step.{Step}
 use Rattle.models.specs.declared.links.Links.{Links}
-use Rattle.models.proofs.Pairs.Chains.{chain_cases}
-use Rattle.models.proofs.Pairs.WorklistLaws.{extended_same, extended_trans}
+use Rattle.models.specs.declared.worklist.Worklist.{Worklist}
+use Rattle.models.proofs.Pairs.Leading.{leads_inside}
+use Rattle.models.proofs.Pairs.LinkLaws.{IsLast, last_from_none, last_from_some}
+use Rattle.models.proofs.Pairs.WorklistLaws.{extended_trans}
 
-module _ (steps : List Step) (l : Links) (row : List ℕ) (pair : ℕ) (seen₀ pairs₀ : List ℕ) (found₀ : ℕ) where
-  pub expanded_none : Worklist seen₀ pairs₀ found₀
-      → PartlyExpanded steps l row pair seen₀ pairs₀ found₀ (get_or l.last (pair % 64) 0) seen₀ pairs₀ found₀
-  expanded_none w = record {
-    extended = extended_same seen₀ pairs₀ found₀ w (Successor steps l row pair);
-    followed = λ i o. inr o;
-    left_outgoing = λ i o. o;
-  }
+-- how many steps the chain may still have that begins with this one
+abbrev pub left_of : Option ℕ → ℕ
+left_of None = 0
+left_of (Some i) = i + 1
 
-  module _ (step j : ℕ) (begins : step ≡ suc j) (seen pairs : List ℕ) (found : ℕ)
-      (h : PartlyExpanded steps l row pair seen₀ pairs₀ found₀ step seen pairs found) where
-    -- the step that is next on the chain is an outgoing one
-    pub next_outgoing : Outgoing l pair j
-    next_outgoing = h.left_outgoing j (rw begins chain_first)
+-- The pair has been expanded up to the n-th step, and the next one is the last before it from its state.
+pub record ExpandedUpTo (steps : List Step) (table : List ℕ) (pair : ℕ) (w w' : Worklist) (next : Option ℕ) : Type 0 where
+  pub n : ℕ
+  pub few : n ≤ length steps
+  pub next_is : next ≡ last_from steps (pair % 64) n
+  pub expands : Expands steps table pair w w' n
 
-    pub expanded_next : (seen' pairs' : List ℕ) (found' next : ℕ) → next ≡ equation_after steps l row pair j → (next ≡ mark → ⊥)
-        → Enqueued (64 * next + (get_or steps j no_step).to) seen pairs found seen' pairs' found'
-        → PartlyExpanded steps l row pair seen₀ pairs₀ found₀ (get_or l.earlier j 0) seen' pairs' found'
-    expanded_next seen' pairs' found' next is kept enqueued = record {
-      extended = extended_trans (Successor steps l row pair) (λ p. p ≡ 64 * next + (get_or steps j no_step).to) h.extended enqueued.extended
-          (λ p e. record { step = j; outgoing = next_outgoing; kept = step_followed.kept; is = sym (rw is at e) });
-      followed = λ i o. followed i (h.followed i o);
-      left_outgoing = λ i o. h.left_outgoing i (rw begins (chain_later o));
-    }
+module _ {steps : List Step} {table : List ℕ} {pair : ℕ} {w : Worklist} where
+  module _ {w' : Worklist} {next : Option ℕ} (e : ExpandedUpTo steps table pair w w' next) where
+    -- no step is left
+    pub expanded_all : next ≡ None → Expands steps table pair w w' 0
+    expanded_all none = record { extended = e.expands.extended; followed = λ i h out. on i out (dec_le e.n i) }
       where
-        step_followed : Followed steps l row pair seen' j
-        step_followed = record { kept = rw is at kept; is_seen = rw is at enqueued.is_seen }
+        on : (i : ℕ) → Outgoing steps table pair i → Dec (e.n ≤ i) → Followed steps table pair w' i
+        on i out (yes h) = e.expands.followed i h out
+        on i out (no h) = absurd (last_from_none steps (pair % 64) e.n (sym e.next_is ∙ none) i (omega arith) out.from_is)
 
-        followed_or_left : (i : ℕ) → (i ≡ j) ⊎ OnChain l (get_or l.earlier j 0) i → Followed steps l row pair seen' i ⊎ OnChain l (get_or l.earlier j 0) i
-        followed_or_left i (inl e) = inl (rw e step_followed)
-        followed_or_left i (inr o) = inr o
+    module _ {i : ℕ} (some : next ≡ Some i) where
+      pub next_last : IsLast steps (pair % 64) e.n i
+      next_last = last_from_some steps (pair % 64) e.n i (sym e.next_is ∙ some)
 
-        followed : (i : ℕ) → Followed steps l row pair seen i ⊎ OnChain l step i → Followed steps l row pair seen' i ⊎ OnChain l (get_or l.earlier j 0) i
-        followed i (inl d) = inl (record { kept = d.kept; is_seen = enqueued.extended.keeps_seen (pair_after steps l row pair i) d.is_seen })
-        followed i (inr o) = followed_or_left i (chain_cases (rw begins at o))
+      pub next_inside : i < length steps
+      next_inside = omega (arith, next_last.inside, e.few)
+
+      next_outgoing : Outgoing steps table pair i
+      next_outgoing = record { inside = next_inside; from_is = next_last.from_is }
+
+      pub next_dropped : equation_after steps table pair i ≡ None → DroppedStep steps table pair
+      next_dropped none = record { step = i; outgoing = next_outgoing; is_dropped = none }
+
+      -- its pair is one of those that there may be
+      pub next_target : StepsWithinLimits steps → {count : ℕ} → WellFormedTable most mark count table → pair / 64 < count → {equation : ℕ}
+          → Some equation ≡ equation_after steps table pair i → 64 * equation + (get_or steps i no_step).to < pair_limit
+      next_target within wf inside kept =
+          omega (arith, leads_inside table (pair / 64) (get_or steps i no_step).label wf inside _ (sym kept), wf.few, (within.among i).to)
+
+      before_is : {l : Links} → Chains steps l → {next' : Option ℕ} → next' ≡ get_or l.earlier i None → next' ≡ last_from steps (pair % 64) i
+      before_is chains is = is ∙ chains.earlier_is i next_inside ∙ ap (λ (s : ℕ). last_from steps s i) next_last.from_is
+
+      pub next_smaller : {l : Links} → Chains steps l → {next' : Option ℕ} → next' ≡ get_or l.earlier i None → left_of next' < left_of next
+      next_smaller chains {next'} is = rw some (on next' (before_is chains is))
+        where
+          on : (o : Option ℕ) → o ≡ last_from steps (pair % 64) i → left_of o < i + 1
+          on None e = omega arith
+          on (Some j) e = omega (arith, (last_from_some steps (pair % 64) i j (sym e)).inside)
+
+      pub expanded_next : {l : Links} → Chains steps l → {equation : ℕ} → Some equation ≡ equation_after steps table pair i → {w'' : Worklist}
+          → Enqueued (64 * equation + (get_or steps i no_step).to) w' w'' → {next' : Option ℕ} → next' ≡ get_or l.earlier i None
+          → ExpandedUpTo steps table pair w w'' next'
+      expanded_next {l} chains {equation} kept {w''} enqueued {next'} is = record {
+        n = i;
+        few = omega (arith, next_inside);
+        next_is = before_is chains is;
+        expands = record {
+          extended = extended_trans _ _ e.expands.extended enqueued.extended
+              (λ p h. record { step = i; outgoing = next_outgoing; leads = record { equation = equation; kept = sym kept; is = sym h } });
+          followed = λ j h out. on j h out (dec_le e.n j) (dec_lt i j);
+        };
+      }
+        where
+          here : Followed steps table pair w'' i
+          here = record { target = _; leads = record { equation = equation; kept = sym kept; is = refl }; is_seen = enqueued.is_seen }
+
+          on : (j : ℕ) → i ≤ j → Outgoing steps table pair j → Dec (e.n ≤ j) → Dec (i < j) → Followed steps table pair w'' j
+          on j h out (yes a) d =
+              let f = e.expands.followed j a out in
+              record { target = f.target; leads = f.leads; is_seen = enqueued.extended.keeps_seen f.target f.is_seen }
+          on j h out (no a) (yes b) = absurd (next_last.none_after j b (omega arith) out.from_is)
+          on j h out (no a) (no b) = let same : j ≡ i = omega arith in rw same here

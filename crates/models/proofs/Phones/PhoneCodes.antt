@@ -8,7 +8,8 @@ use lib.ListN.{get_or}
 use borrow.Author.Tests.{eqb-true, eqb-false}
 use Rattle.reading.proofs.Basics.AllLaws.{all-get_or}
 use Rattle.enforcement.specs.Model.{silent, code, ByteCodes}
-use Rattle.models.specs.Phone.{Phone, label_of, no_step, model_of, WellFormedStep, WellFormedPhone}
+use Rattle.models.specs.Phone.{Phone, label_of, no_step, model_of, WellFormedStep, WellFormedPhone, PhoneWithinLimits}
+use Rattle.models.specs.Exploring.{StepsWithinLimits}
 
 pub label_silent : (x : ℕ) → label_of x ≡ silent → x ≡ 256
 label_silent x h = on (eqb x 256) refl
@@ -35,3 +36,7 @@ pub phone_codes : (y : Phone) → WellFormedPhone y → ByteCodes (model_of y)
 phone_codes y w s t c h =
     let (same, other) = label_code (get_or y.steps h.index no_step).label c h.label_is in
     omega (arith, (step_among y w h.index).label, same, other)
+
+-- what is known of the steps of a phone model
+pub phone_steps : {y : Phone} → PhoneWithinLimits y → StepsWithinLimits y.steps
+phone_steps {y} w = record { few = w.few_steps; among = step_among y w.well_formed }

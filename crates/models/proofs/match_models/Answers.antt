@@ -1,7 +1,7 @@
 -- Each return is a row of what matching answers.
 use Rattle.reading.proofs.Basics.ByteLaws.{slice_bytes}
-use Rattle.models.proofs.Files.ReadModels.{model_read}
-use Rattle.models.proofs.Matchings.AnswerLaws.{states_few, answers_first, answers_second, answers_pairs, rows_long, answers_yes, answers_no}
+use Rattle.models.proofs.Files.ReadModels.{model_read, read_steps}
+use Rattle.models.proofs.Matchings.AnswerLaws.{states_few, answers_first, answers_second, answers_pairs, answers_yes, answers_no}
 use Rattle.models.proofs.match_models.Goals as goal
 
 pub returns-in_default : goal.returns-in_default
@@ -32,16 +32,21 @@ returns-in_default-answer-2 c =
     answers_pairs c.args.first.now c.args.second.now c.args.pairs.now one other c.read_pairs-relation.result c.read_pairs-relation.ensures
     c.in_default-answer-2.is c.refuse_pairs.ensures
 
+pub steps-requires : goal.steps-requires
+steps-requires c =
+    (model_read c.args.first.now c.read_model-drawn.ensures (slice_bytes c.args.first.now c.type_inv.first) c.in-Accepted.is).has
+
+pub steps-requires-2 : goal.steps-requires-2
+steps-requires-2 c =
+    (model_read c.args.second.now c.read_model-simplified.ensures (slice_bytes c.args.second.now c.type_inv.second) c.in-Accepted-answer.is).has
+
 pub are_matched-requires : goal.are_matched-requires
 are_matched-requires c =
     let one =
     model_read c.args.first.now c.read_model-drawn.ensures (slice_bytes c.args.first.now c.type_inv.first) c.in-Accepted.is in
     let other =
     model_read c.args.second.now c.read_model-simplified.ensures (slice_bytes c.args.second.now c.type_inv.second) c.in-Accepted-answer.is in
-    let long =
-    rows_long c.args.first.now c.args.second.now c.args.pairs.now one other c.read_pairs-relation.result c.read_pairs-relation.ensures
-    c.in-Accepted-answer-2.is in
-    (one.has, other.has, long.0, long.1)
+    (read_steps one c.steps.ensures, read_steps other c.steps-2.ensures)
 
 pub returns-then-are_matched : goal.returns-then-are_matched
 returns-then-are_matched c =
@@ -50,7 +55,7 @@ returns-then-are_matched c =
     let other =
     model_read c.args.second.now c.read_model-simplified.ensures (slice_bytes c.args.second.now c.type_inv.second) c.in-Accepted-answer.is in
     answers_yes c.args.first.now c.args.second.now c.args.pairs.now one other c.read_pairs-relation.result c.read_pairs-relation.ensures
-    c.in-Accepted-answer-2.is c.are_matched.ensures c.if-are_matched.true
+    c.in-Accepted-answer-2.is c.steps.ensures c.steps-2.ensures c.are_matched.ensures c.if-are_matched.true
 
 pub returns : goal.returns
 returns c =
@@ -59,4 +64,4 @@ returns c =
     let other =
     model_read c.args.second.now c.read_model-simplified.ensures (slice_bytes c.args.second.now c.type_inv.second) c.in-Accepted-answer.is in
     answers_no c.args.first.now c.args.second.now c.args.pairs.now one other c.read_pairs-relation.result c.read_pairs-relation.ensures
-    c.in-Accepted-answer-2.is c.are_matched.ensures c.if-are_matched.false
+    c.in-Accepted-answer-2.is c.steps.ensures c.steps-2.ensures c.are_matched.ensures c.if-are_matched.false

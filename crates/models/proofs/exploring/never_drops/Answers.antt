@@ -1,20 +1,29 @@
--- The invariant of the search holds at its first cursor, and its end says what is asked.
-use Rattle.std.proofs.Common.{arith}
-use Rattle.models.proofs.Pairs.WorklistLaws.{found_at_most, worklist_none}
-use Rattle.models.proofs.Pairs.Searches.{invariant_start, stored_searched}
+-- The invariant of the search holds once the start is seen, and its two ends say what is asked.
+use Rattle.std.proofs.Common.{refl, arith}
+use mathlib.Core.Bool.{false≢true}
+use Rattle.models.proofs.Pairs.WorklistLaws.{empty_lists, taken_lists}
+use Rattle.models.proofs.Pairs.Exploration.{explored_start, explored_next, ends_dropped, ends_undropped}
 use Rattle.models.proofs.exploring.never_drops.Goals as goal
 
-pub enqueue-found-requires : goal.enqueue-found-requires
-enqueue-found-requires c = (worklist_none, omega arith)
+pub enqueue-requires : goal.enqueue-requires
+enqueue-requires c = (empty_lists, omega arith)
 
-pub next_pair-from-requires : goal.next_pair-from-requires
-next_pair-from-requires c =
-    let w = c.enqueue-found.ensures.extended.worklist in
-    (c.of_model-links.ensures.links_in_range.last_length, w.pairs_length, omega arith, found_at_most _ _ _ w)
+pub loop-pair-init : goal.loop-pair-init
+loop-pair-init c = explored_start c.requires.0 c.enqueue.ensures
 
-pub search_array-requires : goal.search_array-requires
-search_array-requires c =
-    invariant_start c.requires.0 c.of_model-links.ensures.links_in_range c.requires.1 c.enqueue-found.ensures c.next_pair-from.ensures
+pub has_dropped-requires-clause-listed : goal.has_dropped-requires-clause-listed
+has_dropped-requires-clause-listed c = taken_lists c.loop-pair.invariant.lists_seen c.in-Some.ensures
+
+pub returns-then-has_dropped : goal.returns-then-has_dropped
+returns-then-has_dropped c = (
+  λ e. absurd (false≢true e),
+  λ never.
+      absurd (ends_dropped c.requires.0 c.loop-pair.invariant c.in-Some.ensures (c.has_dropped.ensures.dropped c.if-has_dropped.true) never),
+)
+
+pub loop-pair-preserved : goal.loop-pair-preserved
+loop-pair-preserved c =
+    explored_next c.requires.0 c.loop-pair.invariant c.in-Some.ensures (c.has_dropped.ensures.kept c.if-has_dropped.false)
 
 pub returns : goal.returns
-returns c y is = stored_searched _ _ _ _ c.search_array.ensures y is (c.of_model-links.ensures.chains y is)
+returns c = (λ e. ends_undropped c.requires.0 c.loop-pair.invariant c.in_default.ensures, λ never. refl)

@@ -1,10 +1,10 @@
--- Steps are read so far, and `next` is what comes after them. The measure is how many of the 512 are left.
-use Rattle.std.proofs.Common.{◌-◌}
-use Rattle.models.specs.Loading.{NextRead}
+-- Steps are read up to `at`. The measure is how many bytes are left.
+use Rattle.std.proofs.Common.{◌-◌, length}
+use Rattle.models.specs.Loading.{StepsBegun}
 use Rattle.models.proofs.loading.read_steps.Given as goal
 
-abbrev pub invariant-loop-next : goal.invariant-loop-next
-invariant-loop-next l = NextRead l.bytes l.states l.steps l.next.n l.next
+abbrev pub invariant-loop-at : goal.invariant-loop-at
+invariant-loop-at l = StepsBegun l.bytes l.states l.steps l.n l.at
 
-abbrev pub decreases-loop-next : goal.decreases-loop-next
-decreases-loop-next l = 512 - l.next.n
+abbrev pub decreases-loop-at : goal.decreases-loop-at
+decreases-loop-at l = length l.bytes - l.at

@@ -1,10 +1,6 @@
--- The partners among the steps passed are found. The measure is how many steps are left.
-use Rattle.std.proofs.Common.{◌-◌, ◌≤◌}
+-- The partners among the steps passed are found.
 use Rattle.models.specs.Relating.{Partners}
 use Rattle.models.proofs.matching.partners.Given as goal
 
-abbrev pub invariant-loop-i : goal.invariant-loop-i
-invariant-loop-i l = record { passed : l.i ≤ l.n; found : Partners l.steps l.i l.label l.targets l.states }
-
-abbrev pub decreases-loop-i : goal.decreases-loop-i
-decreases-loop-i l = l.n - l.i
+abbrev pub invariant-loop-step : goal.invariant-loop-step
+invariant-loop-step l = Partners l.steps l.step-index l.label l.targets l.states

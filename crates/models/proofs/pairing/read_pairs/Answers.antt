@@ -1,31 +1,53 @@
 -- A pair is refused, or one pair more is read, and in the end all of them.
-use Rattle.std.proofs.Common.{◌≡◌, arith}
+use Rattle.std.proofs.Common.{◌≡◌, ◌+◌, ◌*◌, ◌-◌, ◌∙◌, drop, arith}
+use Rattle.std.specs.Iterator.Adapters.{enumerate_source, enumerate_count}
+use Rattle.std.specs.Slice.Iter.{chunks_rest}
 use Rattle.reading.specs.File.{accepted}
 use Rattle.reading.proofs.Basics.Outcomes.{by_case-value}
-use Rattle.models.specs.Pairs.{Pair, pair_at}
+use Rattle.models.specs.Pairs.{Pair, pair_at, most_pairs}
 use Rattle.models.proofs.Matchings.PairChecks.{pair_stands, pair_cases}
-use Rattle.models.proofs.Matchings.PairsRead.{begun_none, begun_one, all_related, refused_related}
+use Rattle.models.proofs.Matchings.PairsRead.{PairsBegun, chunk_is, chunk_inside, chunk_after, chunks_over, begun_none, begun_one, all_related, refused_related}
 use Rattle.models.proofs.pairing.read_pairs.Goals as goal
 
-pub loop-at-init : goal.loop-at-init
-loop-at-init c = record { inside = omega arith; begun = begun_none _ _ _ }
+pub loop-i-init : goal.loop-i-init
+loop-i-init c =
+    let e = c.enumerate-i-items.ensures in
+    rw (c.into_iter-i-iterator.ensures.into_iter_gives, e.source, e.count)
+    (record { size = c.chunks.ensures.size; rest = c.chunks.ensures.rest; few = omega arith; begun = begun_none _ _ _ })
 
 pub returns-in_default : goal.returns-in_default
 returns-in_default c =
-    refused_related c.loop-at.invariant.begun c.loop-at-test.true c.read_pair-found.ensures c.in_default.is _ c.pair_answer.ensures
+    let turn = c.in-Some.ensures.steps in
+    let so_far = c.loop-i.invariant in
+    let rest : chunks_rest (enumerate_source c.loop-i.i-iterator) ≡ drop (2 * c.in-Some.i) c.args.bytes.now = rw turn.1 so_far.rest in
+    let begun : PairsBegun c.args.bytes.now c.args.first c.args.second c.loop-i.rows c.loop-i.columns (most_pairs - c.in-Some.i) (2 * c.in-Some.i) =
+    rw turn.1 so_far.begun in
+    refused_related begun (chunk_inside c.args.bytes.now (2 * c.in-Some.i) _ _ rest so_far.size turn.0.1)
+    (c.read_pair-found.ensures c.args.bytes.now (chunk_is c.args.bytes.now (2 * c.in-Some.i) _ _ rest so_far.size turn.0.1)) c.in_default.is _ c.pair_answer-answer.ensures
 
-pub loop-at-preserved : goal.loop-at-preserved
-loop-at-preserved c =
+pub loop-i-preserved : goal.loop-i-preserved
+loop-i-preserved c =
+    let turn = c.in-Some.ensures.steps in
+    let so_far = c.loop-i.invariant in
+    let rest : chunks_rest (enumerate_source c.loop-i.i-iterator) ≡ drop (2 * c.in-Some.i) c.args.bytes.now = rw turn.1 so_far.rest in
+    let begun : PairsBegun c.args.bytes.now c.args.first c.args.second c.loop-i.rows c.loop-i.columns (most_pairs - c.in-Some.i) (2 * c.in-Some.i) =
+    rw turn.1 so_far.begun in
     let pair : Pair = record { first = c.in-Read.x; second = c.in-Read.y } in
-    let is_pair : pair_at c.args.bytes.now c.args.first c.args.second c.loop-at.at c.loop-at.left ≡ accepted pair =
-    by_case-value pair_cases _ pair c.in-Read.ensures in
-    let stands = pair_stands c.args.bytes.now c.args.first c.args.second c.loop-at.at c.loop-at.left pair is_pair in
+    let is_pair : pair_at c.args.bytes.now c.args.first c.args.second (2 * c.in-Some.i) (most_pairs - c.in-Some.i) ≡ accepted pair =
+    by_case-value pair_cases _ pair (c.in-Read.ensures c.args.bytes.now (chunk_is c.args.bytes.now (2 * c.in-Some.i) _ _ rest so_far.size turn.0.1)) in
+    let stands = pair_stands c.args.bytes.now c.args.first c.args.second (2 * c.in-Some.i) (most_pairs - c.in-Some.i) pair is_pair in
+    let inside = chunk_inside c.args.bytes.now (2 * c.in-Some.i) _ _ rest so_far.size turn.0.1 in
+    let after = chunk_after c.args.bytes.now (2 * c.in-Some.i) _ _ rest so_far.size turn.0.1 stands.whole in
+    let next : 2 * enumerate_count c.next.new.self ≡ 2 * c.in-Some.i + 2 = omega (arith, turn.1, turn.2) in
+    let left : most_pairs - enumerate_count c.next.new.self ≡ most_pairs - c.in-Some.i - 1 = omega (arith, turn.1, turn.2) in
     record {
-      inside = omega (arith, stands.whole);
+      size = turn.0.0 ∙ so_far.size;
+      rest = after ∙ rw next;
+      few = omega (arith, turn.1, turn.2, stands.some_left);
       begun =
-          begun_one c.loop-at.invariant.begun c.requires.0 c.requires.1 c.loop-at-test.true pair is_pair _ _ c.with_state.ensures
-          c.with_state-in-loop-at.ensures;
+          rw (next, left, c.from.ensures, c.from-in-loop-i.ensures)
+          (begun_one begun c.requires.0 c.requires.1 inside pair is_pair);
     }
 
 pub returns : goal.returns
-returns c = all_related c.loop-at.invariant.begun c.loop-at-test.false
+returns c = all_related c.loop-i.invariant.begun (chunks_over _ _ c.loop-i.invariant.rest c.in-None.ensures.steps.0.1.0)
