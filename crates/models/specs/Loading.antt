@@ -3,8 +3,6 @@ use Rattle.std.specs.Prelude.{◌≡◌, List, ℕ, length}
 use Rattle.reading.specs.File.{Outcome, accepted, refused, Records}
 use Rattle.reading.specs.Numbered.{padded}
 use Rattle.reading.specs.Representations.{RecordsBegun}
-use Rattle.reading.specs.declared.FileRead.{FileRead}
-use Rattle.reading.specs.declared.FileRead.TheVariants.{Accepted, Refused}
 use Rattle.models.specs.Phone.{no_step, step_format}
 use Rattle.models.specs.declared.Step.{Step}
 
@@ -13,6 +11,6 @@ abbrev pub StepsBegun : List ℕ → (states : ℕ) (steps : List Step) (n at : 
 StepsBegun f states steps n at = RecordsBegun (step_format f states) no_step 512 2 steps n at
 
 -- the answer to an outcome, with its steps in 512 records and their count; of a refusal the answer alone
-abbrev pub LoadedAs : Outcome (Records Step) → (steps : List Step) (answer : FileRead) (n : ℕ) → Type 0
-LoadedAs (accepted xs) steps answer n = (answer ≡ Accepted) × (steps ≡ padded 512 no_step xs.list) × (n ≡ length xs.list)
-LoadedAs (refused number place) steps answer n = answer ≡ Refused number place
+abbrev pub LoadedAs : Outcome (Records Step) → (steps : List Step) (answer : FILEREAD) (n : ℕ) → Type 0
+LoadedAs (accepted xs) steps answer n = (answer ≡ FILE_ACCEPTED) × (steps ≡ padded 512 no_step xs.list) × (n ≡ length xs.list)
+LoadedAs (refused number place) steps answer n = answer ≡ refused number place

@@ -2,14 +2,10 @@
 -- number, state s its bit s. No public contract cites these.
 use Rattle.std.specs.Prelude.{ℕ, ◌<◌, ◌≡◌, ◌↔◌, List, length, get_or}
 use Rattle.reading.specs.File.{Outcome, accepted, refused, by_case}
-use Rattle.reading.specs.declared.FileRead.{FileRead}
-use Rattle.reading.specs.declared.FileRead as FileRead'
 use Rattle.synthesis.specs.NodeSet.{Has}
 use Rattle.models.specs.Phone.{no_step}
-use Rattle.models.specs.Pairs.{Pair, Listed}
+use Rattle.models.specs.Pairs.{Pair, Listed, MatchAnswer, said, refused_first, refused_second, refused_pairs}
 use Rattle.models.specs.declared.Step.{Step}
-use Rattle.models.specs.declared.Matched.{Matched}
-use Rattle.models.specs.declared.Matched as Matched'
 use Rattle.models.specs.declared.pairing.PairRead.{PairRead}
 use Rattle.models.specs.declared.pairing.PairRead as PairRead'
 use Rattle.models.specs.declared.pairing.Relation.{Relation}
@@ -20,9 +16,9 @@ use Rattle.models.specs.declared.pairing.Relation.{Relation}
 abbrev pub pair_read : Outcome Pair → PairRead
 pair_read = by_case (λ p. PairRead'.TheVariants.Read p.first p.second) PairRead'.TheVariants.Refused
 
-abbrev pub pair_answer : PairRead → FileRead
-pair_answer (PairRead'.TheVariants.Read x y) = FileRead'.TheVariants.Accepted
-pair_answer (PairRead'.TheVariants.Refused number place) = FileRead'.TheVariants.Refused number place
+abbrev pub pair_answer : PairRead → FILEREAD
+pair_answer (PairRead'.TheVariants.Read x y) = FILE_ACCEPTED
+pair_answer (PairRead'.TheVariants.Refused number place) = refused number place
 
 -- Row x has the states that are related to x.
 pub record Rows (R : (x y : ℕ) → Type 0) (rows : List ℕ) : Type 0 where
@@ -36,22 +32,22 @@ pub record Relates (ps : List Pair) (rows columns : List ℕ) : Type 0 where
 
 -- the answer to an outcome, with its relation; of a refusal the answer alone
 abbrev pub RelatedAs : Outcome (List Pair) → Relation → Type 0
-RelatedAs (accepted ps) r = (r.answer ≡ FileRead'.TheVariants.Accepted) × Relates ps r.rows r.columns
-RelatedAs (refused number place) r = r.answer ≡ FileRead'.TheVariants.Refused number place
+RelatedAs (accepted ps) r = (r.answer ≡ FILE_ACCEPTED) × Relates ps r.rows r.columns
+RelatedAs (refused number place) r = r.answer ≡ refused number place
 
 -- ---- refusals passed up
 
-abbrev pub first_refusal : FileRead → Matched
-first_refusal FileRead'.TheVariants.Accepted = Matched'.TheVariants.No
-first_refusal (FileRead'.TheVariants.Refused number place) = Matched'.TheVariants.RefusedFirst number place
+abbrev pub first_refusal : FILEREAD → MatchAnswer
+first_refusal FILE_ACCEPTED = (said false)
+first_refusal (refused number place) = refused_first number place
 
-abbrev pub second_refusal : FileRead → Matched
-second_refusal FileRead'.TheVariants.Accepted = Matched'.TheVariants.No
-second_refusal (FileRead'.TheVariants.Refused number place) = Matched'.TheVariants.RefusedSecond number place
+abbrev pub second_refusal : FILEREAD → MatchAnswer
+second_refusal FILE_ACCEPTED = (said false)
+second_refusal (refused number place) = refused_second number place
 
-abbrev pub pairs_refusal : FileRead → Matched
-pairs_refusal FileRead'.TheVariants.Accepted = Matched'.TheVariants.No
-pairs_refusal (FileRead'.TheVariants.Refused number place) = Matched'.TheVariants.RefusedPairs number place
+abbrev pub pairs_refusal : FILEREAD → MatchAnswer
+pairs_refusal FILE_ACCEPTED = (said false)
+pairs_refusal (refused number place) = refused_pairs number place
 
 -- ---- partners
 

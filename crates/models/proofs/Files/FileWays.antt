@@ -7,8 +7,6 @@ use lib.ListN.{length, set}
 use borrow.Author.Tests.{lt-ltb, le-ltb}
 use Rattle.reading.specs.File.{Outcome, accepted, refused, and_then, Records}
 use Rattle.reading.specs.Representations.{record_at}
-use Rattle.reading.specs.declared.FileRead.{FileRead}
-use Rattle.reading.specs.declared.FileRead.TheVariants.{Accepted, Refused}
 use Rattle.reading.proofs.Basics.Outcomes.{by_case-refused}
 use Rattle.reading.proofs.RecordLists.RecordsRead.{begun_one, begun_all, begun_refused}
 use Rattle.models.specs.Phone.{states_of, record_length, step_format, steps_at, phone_of}
@@ -27,11 +25,11 @@ use Rattle.models.proofs.Files.Cases.{states_cases, step_cases}
 -- ---- the ways out of `read_steps`
 
 module _ (f : List ℕ) (states : ℕ) {steps : List Step} {n at : ℕ} (b : StepsBegun f states steps n at) where
-  pub steps_all : length f ≤ at → LoadedAs (steps_at 512 f states 2) steps Accepted n
+  pub steps_all : length f ≤ at → LoadedAs (steps_at 512 f states 2) steps FILE_ACCEPTED n
   steps_all over = rw (begun_all b (le-ltb _ _ over)) (refl, b.stored, sym b.counted)
 
   pub steps_refused : at < length f → {found : StepRead} → found ≡ step_read (record_at (step_format f states) (512 - n) at)
-      → {number place : ℕ} → found ≡ StepRead'.Refused number place → {answer : FileRead} → answer ≡ step_answer found
+      → {number place : ℕ} → found ≡ StepRead'.Refused number place → {answer : FILEREAD} → answer ≡ step_answer found
       → LoadedAs (steps_at 512 f states 2) steps answer n
   steps_refused inside found e is =
       rw (begun_refused b (lt-ltb _ _ inside) (by_case-refused step_cases (λ x. x) _ _ _ (sym e ∙ found))) (is ∙ rw e)
@@ -44,7 +42,7 @@ module _ (f : List ℕ) (states : ℕ) {steps : List Step} {n at : ℕ} (b : Ste
 
 module _ (f : List ℕ) (found : StatesRead) (is : found ≡ states_read (states_of f)) where
   pub states_refused : {number place : ℕ} → found ≡ StatesRead'.Refused number place
-      → (a : FileRead) → a ≡ states_answer found → (r : ModelReading) → r ≡ record { answer = a; model = blank } → r ≡ model_reading_of (phone_of f)
+      → (a : FILEREAD) → a ≡ states_answer found → (r : ModelReading) → r ≡ record { answer = a; model = blank } → r ≡ model_reading_of (phone_of f)
   unfolding phone_of
   states_refused e a is_a r is-r = is-r ∙ rw (by_case-refused states_cases (λ n. n) (states_of f) _ _ (sym e ∙ is), is_a, e)
 
@@ -53,13 +51,13 @@ module _ (states : ℕ) (steps : List Step) (n : ℕ) where
   abbrev handed : Outcome (Records Step) → ModelReading
   handed o = model_reading_of (and_then o (λ xs. accepted (record { states = states; steps = xs.list })))
 
-  handed_accepted : (o : Outcome (Records Step)) → LoadedAs o steps Accepted n
-      → record { answer = Accepted; model = record { states = states; steps = steps; nsteps = n } } ≡ handed o
+  handed_accepted : (o : Outcome (Records Step)) → LoadedAs o steps FILE_ACCEPTED n
+      → record { answer = FILE_ACCEPTED; model = record { states = states; steps = steps; nsteps = n } } ≡ handed o
   handed_accepted (accepted xs) (_, stored, counted) = rw (stored, counted)
   handed_accepted (refused number place) e = let z : ◌≡◌ {A = ℕ} 0 1 = cc in absurd (omega arith)
 
-  handed_refused : (o : Outcome (Records Step)) {number place : ℕ} → LoadedAs o steps (Refused number place) n
-      → record { answer = Refused number place; model = blank } ≡ handed o
+  handed_refused : (o : Outcome (Records Step)) {number place : ℕ} → LoadedAs o steps (refused number place) n
+      → record { answer = refused number place; model = blank } ≡ handed o
   handed_refused (accepted xs) (e, _, _) = let z : ◌≡◌ {A = ℕ} 0 1 = cc in absurd (omega arith)
   handed_refused (refused number place) e = rw e
 
@@ -69,10 +67,10 @@ module _ (f : List ℕ) {states : ℕ} (states-are : states_of f ≡ accepted st
   unfolding phone_of
   phone_after_states = rw states-are
 
-  pub loaded_accepted : l.answer ≡ Accepted
+  pub loaded_accepted : l.answer ≡ FILE_ACCEPTED
       → record { answer = l.answer; model = record { states = states; steps = steps; nsteps = l.nsteps } } ≡ model_reading_of (phone_of f)
   loaded_accepted e = rw (e, phone_after_states) (handed_accepted states steps l.nsteps (steps_at 512 f states 2) (rw e at loaded))
 
-  pub loaded_refused : {number place : ℕ} → l.answer ≡ Refused number place
+  pub loaded_refused : {number place : ℕ} → l.answer ≡ refused number place
       → (r : ModelReading) → r ≡ record { answer = l.answer; model = blank } → r ≡ model_reading_of (phone_of f)
   loaded_refused e r is = is ∙ rw (e, phone_after_states) (handed_refused states steps l.nsteps (steps_at 512 f states 2) (rw e at loaded))

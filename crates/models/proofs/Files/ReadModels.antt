@@ -4,7 +4,6 @@ use mathlib.Core.List.{List}
 use Prim.Native.Nat.{ℕ}
 use Rattle.reading.specs.Rule.{Bytes}
 use Rattle.reading.specs.File.{accepted, refused}
-use Rattle.reading.specs.declared.FileRead.TheVariants.{Accepted, Refused}
 use Rattle.models.specs.Phone.{Phone, phone_of}
 use Rattle.models.specs.Judging.{stored, model_reading_of}
 use Rattle.models.specs.Exploring.{HasPhone, StepsWithinLimits}
@@ -21,7 +20,7 @@ pub record ModelRead (f : List ℕ) (model : PhoneModel) : Type 0 where
   pub phone_is : phone_of f ≡ accepted has.phone
 
 module _ (f : List ℕ) {reading : ModelReading} (read : reading ≡ model_reading_of (phone_of f)) where
-  pub model_read : Bytes f → reading.answer ≡ Accepted → ModelRead f reading.model
+  pub model_read : Bytes f → reading.answer ≡ FILE_ACCEPTED → ModelRead f reading.model
   model_read bytes told =
       let (y, is, model) = phone_accepted (phone_of f) (sym (ap (λ (x : ModelReading). x.answer) read) ∙ told) in
       record {
@@ -33,7 +32,7 @@ module _ (f : List ℕ) {reading : ModelReading} (read : reading ≡ model_readi
         phone_is = is;
       }
 
-  pub model_unread : {number place : ℕ} → reading.answer ≡ Refused number place → phone_of f ≡ refused number place
+  pub model_unread : {number place : ℕ} → reading.answer ≡ refused number place → phone_of f ≡ refused number place
   model_unread {number} {place} told = (model_refused (phone_of f) number place).1 (sym (ap (λ (x : ModelReading). x.answer) read) ∙ told)
 
 -- the steps that the struct gives are those of the model, within the limits

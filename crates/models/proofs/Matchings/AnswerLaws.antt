@@ -6,16 +6,13 @@ use mathlib.Core.List.{List}
 use Prim.Native.Nat.{ℕ, ◌≤◌}
 use native.Mathlib.Omega.{arith}
 use Rattle.reading.specs.File.{Outcome, accepted, refused}
-use Rattle.reading.specs.declared.FileRead.TheVariants.{Accepted, Refused}
 use Rattle.models.specs.Phone.{Phone, phone_of}
 use Rattle.models.specs.Judging.{stored, model_reading_of}
-use Rattle.models.specs.Pairs.{Pair, pairs_of, matching, first_refused, second_refused, pairs_refused, matching_of, MatchedAs, Matches}
+use Rattle.models.specs.Pairs.{Pair, pairs_of, matching, first_refused, second_refused, pairs_refused, matching_of, MatchedAs, Matches, MatchAnswer, said}
 use Rattle.models.specs.Relating.{Relates, RelatedAs, MatchedBy, first_refusal, second_refusal, pairs_refusal}
 use Rattle.models.specs.declared.Step.{Step}
 use Rattle.models.specs.declared.PhoneModel.{PhoneModel}
 use Rattle.models.specs.declared.ModelReading.{ModelReading}
-use Rattle.models.specs.declared.Matched.{Matched}
-use Rattle.models.specs.declared.Matched.TheVariants as Matched'
 use Rattle.models.specs.declared.pairing.Relation.{Relation}
 use Rattle.models.proofs.Files.ReadModels.{ModelRead, model_unread, steps_are}
 use Rattle.models.proofs.Matchings.Bisimulations.{matched_matches}
@@ -48,13 +45,13 @@ pub states_few : {f : List ℕ} {model : PhoneModel} → ModelRead f model → m
 states_few m = omega (arith, ap (λ (x : PhoneModel). x.states) m.has.is_stored, m.has.within_limits.well_formed.few_states)
 
 module _ (f g l : List ℕ) where
-  pub answers_first : {reading : ModelReading} {number place : ℕ} {r : Matched} → reading ≡ model_reading_of (phone_of f)
-      → reading.answer ≡ Refused number place → r ≡ first_refusal reading.answer → MatchedAs (matching_of f g l) r
+  pub answers_first : {reading : ModelReading} {number place : ℕ} {r : MatchAnswer} → reading ≡ model_reading_of (phone_of f)
+      → reading.answer ≡ refused number place → r ≡ first_refusal reading.answer → MatchedAs (matching_of f g l) r
   answers_first read told is = rw (matching_first f g l (model_unread f read told)) (is ∙ rw told)
 
   module _ {one : PhoneModel} (m : ModelRead f one) where
-    pub answers_second : {reading : ModelReading} {number place : ℕ} {r : Matched} → reading ≡ model_reading_of (phone_of g)
-        → reading.answer ≡ Refused number place → r ≡ second_refusal reading.answer → MatchedAs (matching_of f g l) r
+    pub answers_second : {reading : ModelReading} {number place : ℕ} {r : MatchAnswer} → reading ≡ model_reading_of (phone_of g)
+        → reading.answer ≡ refused number place → r ≡ second_refusal reading.answer → MatchedAs (matching_of f g l) r
     answers_second read told is = rw (matching_second f g l m.phone_is (model_unread g read told)) (is ∙ rw told)
 
     module _ {other : PhoneModel} (n : ModelRead g other) (relation : Relation)
@@ -64,7 +61,7 @@ module _ (f g l : List ℕ) where
       related_pairs =
           rw (← ap (λ (x : PhoneModel). x.states) m.has.is_stored, ← ap (λ (x : PhoneModel). x.states) n.has.is_stored) related
 
-      pub answers_pairs : {number place : ℕ} {r : Matched} → relation.answer ≡ Refused number place → r ≡ pairs_refusal relation.answer
+      pub answers_pairs : {number place : ℕ} {r : MatchAnswer} → relation.answer ≡ refused number place → r ≡ pairs_refusal relation.answer
           → MatchedAs (matching_of f g l) r
       answers_pairs {number} {place} told is =
           rw (matching_pairs f g l m.phone_is n.phone_is (on _ refl related_pairs)) (is ∙ rw told)
@@ -74,7 +71,7 @@ module _ (f g l : List ℕ) where
           on (accepted ps) e (accepts, _) = absurd (let z : ◌≡◌ {A = ℕ} 0 1 = cc in omega arith)
           on (refused number' place') e refuses = let same : number' ≡ number = cc in let same' : place' ≡ place = cc in e ∙ rw (same, same')
 
-      module _ (told : relation.answer ≡ Accepted) where
+      module _ (told : relation.answer ≡ FILE_ACCEPTED) where
         -- the pairs of the list, and that the rows and columns are their relation
         listed : (ps : List Pair) × (pairs_of l m.has.phone.states n.has.phone.states ≡ accepted ps)
             × Relates ps relation.rows relation.columns
@@ -97,12 +94,12 @@ module _ (f g l : List ℕ) where
               rw (steps_are m one_are, steps_are n other_are) at matched in
               (λ e. iff.0 (same.0 e), λ h. same.1 (iff.1 h))
 
-          pub answers_yes : r ≡ true → MatchedAs (matching_of f g l) Matched'.Yes
+          pub answers_yes : r ≡ true → MatchedAs (matching_of f g l) (said true)
           answers_yes e =
               let (ps, read, relates) = listed in
               rw (matching_accepts f g l m.phone_is n.phone_is read) (inl (refl, (matched_iff relates).0 e))
 
-          pub answers_no : r ≡ false → MatchedAs (matching_of f g l) Matched'.No
+          pub answers_no : r ≡ false → MatchedAs (matching_of f g l) (said false)
           answers_no e =
               let (ps, read, relates) = listed in
               rw (matching_accepts f g l m.phone_is n.phone_is read) (inr (refl, λ h. never_true ((matched_iff relates).1 h)))
