@@ -62,11 +62,10 @@ fn run_end(row: &[u16], c: usize) -> usize
     ensures { RunTo row.now c result }
 {
     let entry = row[c];
-    let mut last = c;
-    while last + 1 < row.len() && row[last + 1] == entry {
-        last += 1;
+    match row[c..].iter().position(|&other| other != entry) {
+        Some(many) => c + many - 1,
+        None => row.len() - 1,
     }
-    last
 }
 
 // The line of the run at a position after the "equations" line. Code 0 of equation 0 has the position `start`.

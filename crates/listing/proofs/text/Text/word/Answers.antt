@@ -1,5 +1,5 @@
 -- The word stands behind the text, and before bytes that are 0.
-use Rattle.std.proofs.Common.{◌≡◌, ◌∙◌, ◌+◌, ◌≤◌, ◌++◌, length, sym, ap, arith}
+use Rattle.std.proofs.Common.{◌∙◌, ◌+◌, ◌≤◌, ◌++◌, length, sym, ap, arith}
 use Rattle.reading.specs.Numbered.{padded}
 use Rattle.listing.proofs.Additions.{text_length, word_put, word_taken}
 use Rattle.listing.proofs.text.Text.word.Goals as goal
