@@ -14,32 +14,36 @@ use Rattle.listing.specs.declared.Line.{Line}
 
 -- ---- one word
 
--- the first n bytes are the text
-module _ (n : ℕ) (bytes : List ℕ) (few : n ≤ 64) (is : bytes ≡ padded 64 0 (take n bytes)) where
-  pub text_length : length (take n bytes) ≡ n
+-- the first n bytes are the text t
+module _ (n : ℕ) (bytes t : List ℕ) (stored : (n ≤ 64) × (bytes ≡ padded 64 0 (take n bytes))) (text : take n bytes ≡ t) where
+  text_length : length t ≡ n
   text_length =
-      let t = take n bytes in
-      let rest : List ℕ = replicate (64 - length t) 0 in
-      let zeros : length rest ≡ 64 - length t = length-replicate (64 - length t) 0 in
-      omega (arith, length-take n bytes, ap length is, length-append t rest, zeros)
+      let rest : List ℕ = replicate (64 - length (take n bytes)) 0 in
+      let zeros : length rest ≡ 64 - length (take n bytes) = length-replicate (64 - length (take n bytes)) 0 in
+      omega (arith, stored.0, ap length text, length-take n bytes, ap length stored.1, length-append (take n bytes) rest, zeros)
 
   -- a word is put behind it
-  module _ (w now : List ℕ) (put : now ≡ w) (room : n + length w ≤ 64) where
-    pub word_put : put_mid n (n + length w - n) bytes now ≡ padded 64 0 (take n bytes ++ w)
+  module _ (w now : List ℕ) (put : now ≡ w) (room : length t + length w ≤ 64) where
+    pub word_fits : n + length w ≤ 64
+    word_fits = omega (arith, room, text_length)
+
+    word_put : put_mid n (n + length w - n) bytes now ≡ padded 64 0 (t ++ w)
     word_put =
-        let t = take n bytes in
         let rest : List ℕ = replicate (64 - length t) 0 in
+        let padding : bytes ≡ t ++ rest = rw text at stored.1 in
         let after : drop (n + length w - n) (drop n bytes) ≡ replicate (64 - length (t ++ w)) 0 =
-        ap (drop (n + length w - n)) (ap (drop n) is ∙ drop_at t rest n text_length)
+        ap (drop (n + length w - n)) (ap (drop n) padding ∙ drop_at t rest n text_length)
         ∙ drop-replicate (n + length w - n) (64 - length t) 0
         ∙ ap (λ (m : ℕ). replicate m 0) (omega (arith, length-append t w, text_length))
         in
-        ap₂ (λ (a b : List ℕ). t ++ (a ++ b)) put after ∙ sym (append_assoc t w _)
+        ap₂ (λ (a b : List ℕ). a ++ b) text (ap₂ (λ (a b : List ℕ). a ++ b) put after) ∙ sym (append_assoc t w _)
 
-    pub word_taken : take (n + length w) (put_mid n (n + length w - n) bytes now) ≡ take n bytes ++ w
+    pub word_taken : take (n + length w) (put_mid n (n + length w - n) bytes now) ≡ t ++ w
     word_taken =
-        let longer = length-append (take n bytes) w in
-        ap (take (n + length w)) word_put ∙ take_at (take n bytes ++ w) _ (n + length w) (omega (arith, longer, text_length))
+        ap (take (n + length w)) word_put ∙ take_at (t ++ w) _ (n + length w) (omega (arith, length-append t w, text_length))
+
+    pub word_stored : put_mid n (n + length w - n) bytes now ≡ padded 64 0 (take (n + length w) (put_mid n (n + length w - n) bytes now))
+    word_stored = word_put ∙ ap (padded 64 0) (sym word_taken)
 
 -- ---- four fields
 
