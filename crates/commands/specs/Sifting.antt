@@ -1,12 +1,11 @@
 -- What `sift` hands back: a state in which calls end, one after the other. That it makes these calls, that their scans are those of standard input,
 -- and that the kept ones are written, no contract can say.
-use Rattle.std.specs.Prelude.{ℕ, ◌≤◌, ◌≡◌, ◌⊎◌, List, length}
-use Rattle.reading.specs.Rule.{Bytes}
+use Rattle.std.specs.Prelude.{ℕ, ◌≡◌, List}
 use Rattle.reading.specs.File.{Outcome}
 use Rattle.synthesis.specs.Monitor.{mark, most}
 use Rattle.synthesis.specs.Building.{Synthesis, synthesis_of, counted_of, table_after}
 use Rattle.synthesis.specs.declared.Counted.TheVariants.{Equations}
-use Rattle.running.specs.Running.{run_of, checked_of, result_of}
+use Rattle.running.specs.Running.{checked_of}
 use Rattle.running.specs.Calls.{Call, History, outcome_of, Calls, OnTable}
 use Rattle.running.specs.declared.Checked.TheVariants.{Fit}
 use Rattle.running.specs.declared.State.{State}
@@ -24,13 +23,6 @@ pub record FitOn (table : List ℕ) (count : ℕ) (h : History) (c : Call) : Typ
 
 abbrev pub EndsCallsOn : (table : List ℕ) → (count : ℕ) → State → Type 0
 EndsCallsOn table count = EndsCalls (FitOn table count)
-
--- s' is s, or the state after one more call on the table from s, with room for its scans
-abbrev pub GoesOn : (table : List ℕ) → (count : ℕ) → (s s' : State) → Type 0
-GoesOn table count s s' =
-    (s' ≡ s)
-    ⊎ ((c : Call) × Bytes c.scans × (length c.scans ≤ length c.output) × (length c.scans ≤ length c.verdicts)
-    × (s' ≡ (result_of s (run_of most mark table count s c.scans (length c.output) (length c.verdicts))).state))
 
 -- such calls on the table that filling leaves, with the count that it answers; where the rule is refused, there are none
 pub record UnderRule (outcome : Outcome Synthesis) (table : List ℕ) (h : History) (c : Call) : Type 0 where
