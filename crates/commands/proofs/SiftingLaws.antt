@@ -2,10 +2,10 @@
 -- accepted rule they sift by it, as all calls on a filled table do: what the programs' limit accepts the library's accepts.
 use Prim.Native.Nat.{ℕ, ◌≤◌}
 use mathlib.Core.Path.{◌≡◌, refl, ap, ◌∙◌}
-use mathlib.Core.Logic.{inl, inr}
+use mathlib.Core.Logic.{inl}
 use mathlib.Core.List.{List}
 use native.Mathlib.Omega.{arith}
-use lib.ListN.{length}
+use lib.ListN.{length, replicate, length-replicate}
 use Rattle.reading.specs.Rule.{Bytes}
 use Rattle.reading.specs.File.{Outcome, accepted, refused}
 use Rattle.synthesis.specs.Monitor.{mark, most}
@@ -19,7 +19,7 @@ use Rattle.running.proofs.Histories.{calls_weaken, one_run}
 use Rattle.running.proofs.DemandTwo.{drops_exactly}
 use Rattle.synthesis.proofs.Quotients.TwoLimits.{fills_more}
 use Rattle.commands.specs.Printing.{program_limit}
-use Rattle.commands.specs.Sifting.{EndsCalls, FitOn, EndsCallsOn, GoesOn, UnderRule}
+use Rattle.commands.specs.Sifting.{EndsCalls, FitOn, EndsCallsOn, UnderRule}
 use Rattle.commands.specs.Promises.{SiftsByRule, NoCallsRefused, SiftHandsBack}
 use Rattle.commands.proofs.ProgramTables.{any_table}
 
@@ -30,24 +30,19 @@ fit_calls_on_table : (table : List ℕ) (count : ℕ) (h : History) → Calls mo
     → Calls most mark (OnTableOrRefused most mark table count) h
 fit_calls_on_table table count = calls_weaken most mark (λ h c may. inl may.on)
 
--- one more call, with room for its scans
-pub call_goes_on : (table : List ℕ) (count : ℕ) (s : State) (scans output verdicts : List ℕ) {s' : State}
-    → length scans ≤ length output → length scans ≤ length verdicts → Bytes scans
-    → s' ≡ (result_of s (run_of most mark table count s scans (length output) (length verdicts))).state → GoesOn table count s s'
-call_goes_on table count s scans output verdicts ro rv bytes e =
-    inr (record { table = table; count = count; scans = scans; output = output; verdicts = verdicts }, bytes, ro, rv, e)
-
--- Fit calls, and maybe one more on the same well-formed table: it isn't refused.
-pub ends_calls_next : (table : List ℕ) (count : ℕ) {s s' : State} → WellFormedTable most mark count table → EndsCallsOn table count s
-    → GoesOn table count s s' → EndsCallsOn table count s'
-ends_calls_next table count wf (h, calls, same) (inl e) = (h, calls, e ∙ same)
-ends_calls_next table count wf (h, calls, same) (inr (x, bytes, ro, rv, e)) =
-    let c : Call = record { table = table; count = count; scans = x.scans; output = x.output; verdicts = x.verdicts } in
+-- Fit calls, and one more on the same well-formed table, with room for its scans: it isn't refused.
+pub ends_calls_next : {table : List ℕ} {count : ℕ} {s s' : State} (scans : List ℕ) (room : ℕ) → WellFormedTable most mark count table
+    → EndsCallsOn table count s → length scans ≤ room → Bytes scans
+    → s' ≡ (result_of s (run_of most mark table count s scans room room)).state → EndsCallsOn table count s'
+ends_calls_next {table} {count} scans room wf (h, calls, same) fits bytes e =
+    let blank : List ℕ = replicate room 0 in
+    let long : length blank ≡ room = length-replicate room 0 in
+    let c : Call = record { table = table; count = count; scans = scans; output = blank; verdicts = blank } in
     let inside = (one_run most mark count table wf h (fit_calls_on_table table count h calls)).inside in
-    let fits = (runs_on_tables most mark table count h.state x.scans (length x.output) (length x.verdicts)).follows ro rv wf inside in (
+    let follows = (runs_on_tables most mark table count h.state scans (length blank) (length blank)).follows (omega arith) (omega arith) wf inside in (
       with_call most mark h c,
-      call h c calls bytes (record { on = record { same_rows = refl; same_count = refl }; fit = rw fits }),
-      e ∙ ap (λ (s : State). (result_of s (run_of most mark table count s x.scans (length x.output) (length x.verdicts))).state) same,
+      call h c calls bytes (record { on = record { same_rows = refl; same_count = refl }; fit = rw follows }),
+      rw (← long) at e ∙ ap (λ (s : State). (result_of s (run_of most mark table count s scans (length blank) (length blank))).state) same,
     )
 
 -- ---- calls under a rule

@@ -1,7 +1,9 @@
-// Reading and writing. What fails is said under the name that the caller gives it, with why.
-ghost use Rattle.std.specs.Prelude.{◌≤◌, length, IfSome};
+// Reading and writing. What fails is said on standard error under a name, with why.
+ghost use Rattle.std.specs.Prelude.{◌≡◌, ◌≤◌, length, IfOk, IfErr};
 ghost use Rattle.std.specs.Io.{ReadsAtMost};
+ghost use Rattle.listing.specs.Positions.{Within};
 
+use listing::Line;
 use std::fmt::InlineText;
 use std::fs;
 use std::io::{Error, ErrorKind, Read, Result, Write};
@@ -12,21 +14,11 @@ const NUMBER: &str = " (os error ";
 
 // The words of an error's text.
 fn words_of(text: &str) -> &str {
-    match text.split_once(NUMBER) {
-        Some((words, _)) => words,
-        None => text,
-    }
+    text.split_once(NUMBER).map_or(text, |(words, _)| words)
 }
 
-// Says what failed, and why.
-fn say<E: Write>(what: &str, why: Error, stderr: &mut E) {
-    let text = InlineText::<128>::of(why);
-    let words = words_of(text.as_str());
-    let _ = writeln!(stderr, "{what}: {words}");
-}
-
-// Reads once, and again where a signal interrupts it.
-fn read_once<R: Read>(input: &mut R, buffer: &mut [u8]) -> Result<usize>
+// Reads once, and again where a signal interrupts it. 0 bytes come at the end.
+pub(crate) fn read_once<R: Read>(input: &mut R, buffer: &mut [u8]) -> Result<usize>
     ensures { ReadsAtMost result buffer.new }
 {
     for _ in 0..u64::MAX {
@@ -38,75 +30,74 @@ fn read_once<R: Read>(input: &mut R, buffer: &mut [u8]) -> Result<usize>
     Err(Error::from(ErrorKind::Interrupted))
 }
 
-// Reads once. Answers how many bytes came, 0 at the end, or none where the read fails.
-pub(crate) fn read_some<R: Read, E: Write>(
-    what: &str,
-    input: &mut R,
-    buffer: &mut [u8],
-    stderr: &mut E,
-) -> Option<usize>
-    ensures { IfSome result (λ n. n ≤ length buffer.new) }
-{
-    match read_once(input, buffer) {
-        Ok(n) => Some(n),
-        Err(why) => {
-            say(what, why, stderr);
-            None
-        }
-    }
-}
-
-// Reads until the buffer is full or the input ends, and says how many bytes there are. An input of which a read fails has none.
-pub(crate) fn read_whole<R: Read, E: Write>(
-    what: &str,
-    input: &mut R,
-    file: &mut [u8],
-    stderr: &mut E,
-) -> usize
-    ensures { result ≤ length file.new }
+// Reads until the buffer is full or the input ends, and says how many bytes there are.
+pub(crate) fn read_whole<R: Read>(input: &mut R, file: &mut [u8]) -> Result<usize>
+    ensures { ReadsAtMost result file.new }
 {
     let mut done = 0;
     while done < file.len() {
-        match read_some(what, input, &mut file[done..], stderr) {
-            None => return 0,
-            Some(0) => return done,
-            Some(more) => done += more,
+        match read_once(input, &mut file[done..])? {
+            0 => break,
+            more => done += more,
         }
     }
-    done
+    Ok(done)
 }
 
-// Reads the file of this name in the same way. One that can't be opened has no bytes.
-pub(crate) fn read_file<F: Files, E: Write>(
-    what: &str,
-    files: &F,
-    name: &str,
-    file: &mut [u8],
-    stderr: &mut E,
-) -> usize
-    ensures { result ≤ length file.new }
+// Reads the file of this name in the same way.
+pub(crate) fn read_file<F: Files>(files: &F, name: &str, file: &mut [u8]) -> Result<usize>
+    ensures { ReadsAtMost result file.new }
 {
-    match fs::open(files, name) {
-        Ok(mut input) => read_whole(what, &mut input, file, stderr),
-        Err(why) => {
-            say(what, why, stderr);
-            0
-        }
-    }
+    let mut input = fs::open(files, name)?;
+    read_whole(&mut input, file)
 }
 
-// Writes all of the bytes, or stops at a write that fails; says whether all were written. A write that a signal interrupts is made again.
-pub(crate) fn write_whole<W: Write, E: Write>(
-    what: &str,
-    bytes: &[u8],
-    output: &mut W,
-    stderr: &mut E,
-) -> bool {
-    match output.write_all(bytes) {
-        Ok(()) => true,
-        Err(why) => {
-            say(what, why, stderr);
-            false
+// Standard output and error of a program, and its name.
+#[derive(Drop)]
+pub(crate) struct Terminal<'a, W, E> {
+    pub(crate) program: &'static str,
+    pub(crate) stdout: &'a mut W,
+    pub(crate) stderr: &'a mut E,
+}
+
+impl<W: Write, E: Write> Terminal<'_, W, E> {
+    // Says what failed, and why.
+    fn say(&mut self, what: &str, why: Error) {
+        let text = InlineText::<128>::of(why);
+        let words = words_of(text.as_str());
+        let program = self.program;
+        let _ = writeln!(self.stderr, "{program}: {what}: {words}");
+    }
+
+    // How many bytes were read: none where reading failed, which is said.
+    pub(crate) fn read(&mut self, what: &str, read: Result<usize>) -> usize
+        ensures read { IfOk read (λ n. result ≡ n) }
+        ensures failed { IfErr read (λ _. result ≡ 0) }
+    {
+        match read {
+            Ok(n) => n,
+            Err(why) => {
+                self.say(what, why);
+                0
+            }
         }
+    }
+
+    // Writes all of the bytes, or stops at a write that fails; says whether all were written. A write that a signal interrupts is made again.
+    pub(crate) fn write_whole(&mut self, bytes: &[u8]) -> bool {
+        match self.stdout.write_all(bytes) {
+            Ok(()) => true,
+            Err(why) => {
+                self.say("standard output", why);
+                false
+            }
+        }
+    }
+
+    // Prints a line, and says whether it was written.
+    pub(crate) fn print(&mut self, line: Line) -> bool
+        requires { Within line }
+    {
+        self.write_whole(&line.bytes[..line.len])
     }
 }

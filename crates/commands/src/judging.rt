@@ -4,8 +4,8 @@ ghost use Rattle.reading.specs.Rule.{Bytes};
 ghost use Rattle.listing.specs.Positions.{line_of, Within};
 ghost use Rattle.commands.specs.Printing.{program_limit, judged_text, JudgesFiles};
 
-use crate::files::read_file;
-use crate::{FILE, LIMIT, TABLE, print_line};
+use crate::files::{Terminal, read_file};
+use crate::{FILE, LIMIT, TABLE};
 use listing::Line;
 use models::Judged;
 use std::io::Write;
@@ -28,20 +28,14 @@ fn print_judged<W: Write, E: Write>(
     rule: &[u8],
     model: &[u8],
     table: &mut [u16],
-    stdout: &mut W,
-    stderr: &mut E,
+    terminal: &mut Terminal<W, E>,
 ) -> Judged
     requires { length table.old ≡ 256 * program_limit }
     ensures bytes { Bytes rule.now × Bytes model.now }
     ensures judges_files { JudgesFiles rule.now model.now result }
 {
     let answer = models::judge_within(rule, model, LIMIT, table);
-    print_line(
-        "meets: standard output",
-        answer_line(answer),
-        stdout,
-        stderr,
-    );
+    terminal.print(answer_line(answer));
     answer
 }
 
@@ -57,10 +51,15 @@ pub fn meets(rt: &HostRuntime) -> Judged
 pub fn meets_of<F: Files, W: Write, E: Write>(files: &F, stdout: &mut W, stderr: &mut E) -> Judged
     ensures { (s : List ℕ) × (f : List ℕ) × Bytes s × Bytes f × JudgesFiles s f result }
 {
+    let mut terminal = Terminal {
+        program: "meets",
+        stdout,
+        stderr,
+    };
     let mut rule = [0u8; FILE];
-    let n = read_file("meets: rule.bin", files, "rule.bin", &mut rule, stderr);
+    let n = terminal.read("rule.bin", read_file(files, "rule.bin", &mut rule));
     let mut model = [0u8; FILE];
-    let k = read_file("meets: model.bin", files, "model.bin", &mut model, stderr);
+    let k = terminal.read("model.bin", read_file(files, "model.bin", &mut model));
     let mut table = [0u16; TABLE];
-    print_judged(&rule[..n], &model[..k], &mut table, stdout, stderr)
+    print_judged(&rule[..n], &model[..k], &mut table, &mut terminal)
 }

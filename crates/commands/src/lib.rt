@@ -9,12 +9,10 @@ ghost use Rattle.std.specs.Prelude.{◌≡◌, List, ℕ, ◌*◌, length};
 ghost use Rattle.reading.specs.Rule.{Bytes};
 ghost use Rattle.reading.specs.File.{rule_of};
 ghost use Rattle.reading.specs.Numbered.{reading_of};
-ghost use Rattle.listing.specs.Positions.{Within};
 ghost use Rattle.commands.specs.Printing.{program_limit, ListingStops, Stops, Shows};
 
-use files::{read_whole, write_whole};
+use files::{Terminal, read_whole};
 pub use judging::{meets, meets_of};
-use listing::Line;
 use reading::NumberedRule;
 use running::State;
 pub use sifting::{sift, sift_of};
@@ -53,22 +51,12 @@ struct Printed {
     written: bool,
 }
 
-// Prints a line, and says whether it was written.
-fn print_line<W: Write, E: Write>(what: &str, line: Line, stdout: &mut W, stderr: &mut E) -> bool
-    requires { Within line }
-{
-    let bytes = line.bytes;
-    let n = line.len;
-    write_whole(what, &bytes[..n], stdout, stderr)
-}
-
 // Prints a listing, up to a line that can't be written.
 fn print_listing<W: Write, E: Write>(
     rule: NumberedRule,
     table: &[u16],
     count: usize,
-    stdout: &mut W,
-    stderr: &mut E,
+    terminal: &mut Terminal<W, E>,
 ) -> Printed
     ensures { ListingStops rule table.now count result.lines result.written }
 {
@@ -76,14 +64,13 @@ fn print_listing<W: Write, E: Write>(
     let mut lines = 0;
     loop {
         let this = listing::listing_line(rule, table, count, at);
-        let line = this.line;
-        if line.len == 0 {
+        if this.line.len == 0 {
             return Printed {
                 lines,
                 written: true,
             };
         }
-        if !print_line("equations: standard output", line, stdout, stderr) {
+        if !terminal.print(this.line) {
             return Printed {
                 lines,
                 written: false,
@@ -99,19 +86,17 @@ fn print_answer<W: Write, E: Write>(
     answer: Counted,
     file: &[u8],
     table: &[u16],
-    stdout: &mut W,
-    stderr: &mut E,
+    terminal: &mut Terminal<W, E>,
 ) -> Printed
     ensures { Stops answer (reading_of (rule_of file.now)).rule table.now result.lines result.written }
 {
     match answer {
         Counted::Equations(count) => {
             let reading = reading::read_rule(file);
-            print_listing(reading.rule, table, count, stdout, stderr)
+            print_listing(reading.rule, table, count, terminal)
         }
         Counted::Refused(number, place) => {
-            let line = listing::refusal_line(number, place);
-            let written = print_line("equations: standard output", line, stdout, stderr);
+            let written = terminal.print(listing::refusal_line(number, place));
             Printed {
                 lines: written as usize,
                 written,
@@ -124,15 +109,14 @@ fn print_answer<W: Write, E: Write>(
 fn print_equations<W: Write, E: Write>(
     file: &[u8],
     table: &mut [u16],
-    stdout: &mut W,
-    stderr: &mut E,
+    terminal: &mut Terminal<W, E>,
 ) -> EquationsResult
     requires { length table.old ≡ 256 * program_limit }
     ensures bytes { Bytes file.now }
     ensures shows { Shows file.now table.old result }
 {
     let answer = synthesis::fill_within(file, LIMIT, table);
-    let printed = print_answer(answer, file, table, stdout, stderr);
+    let printed = print_answer(answer, file, table, terminal);
     EquationsResult {
         answer,
         lines: printed.lines,
@@ -156,8 +140,13 @@ pub fn equations_of<R: Read, W: Write, E: Write>(
 ) -> EquationsResult
     ensures { (s : List ℕ) × (table : List ℕ) × Bytes s × Shows s table result }
 {
+    let mut terminal = Terminal {
+        program: "equations",
+        stdout,
+        stderr,
+    };
     let mut file = [0u8; FILE];
-    let n = read_whole("equations: standard input", stdin, &mut file, stderr);
+    let n = terminal.read("standard input", read_whole(stdin, &mut file));
     let mut table = [0u16; TABLE];
-    print_equations(&file[..n], &mut table, stdout, stderr)
+    print_equations(&file[..n], &mut table, &mut terminal)
 }

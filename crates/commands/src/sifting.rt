@@ -1,14 +1,14 @@
 // The program `sift`.
-ghost use Rattle.std.specs.Prelude.{◌≡◌, List, ℕ, ◌*◌, ◌≤◌, length};
+ghost use Rattle.std.specs.Prelude.{◌≡◌, List, ℕ, ◌*◌, length};
 ghost use Rattle.reading.specs.Rule.{Bytes};
 ghost use Rattle.synthesis.specs.Monitor.{mark, most};
 ghost use Rattle.synthesis.specs.Table.{WellFormedTable};
 ghost use Rattle.running.specs.Running.{run_of, result_of};
 ghost use Rattle.commands.specs.Printing.{program_limit};
-ghost use Rattle.commands.specs.Sifting.{EndsCallsOn, GoesOn, Sifts};
+ghost use Rattle.commands.specs.Sifting.{EndsCallsOn, Sifts};
 
-use crate::files::{read_file, read_some, write_whole};
-use crate::{FILE, LIMIT, SiftResult, TABLE, print_line};
+use crate::files::{Terminal, read_file, read_once};
+use crate::{FILE, LIMIT, SiftResult, TABLE};
 use running::State;
 use std::io::{Read, Write};
 use std::rt::Files;
@@ -17,105 +17,64 @@ use synthesis::Counted;
 // The most scans that are read at once.
 const BLOCK: usize = 65_536;
 
-// The state after a block of scans, and whether there may be more.
-#[derive(Clone, Copy)]
-struct BlockResult {
-    state: State,
-    goes_on: bool,
-}
-
-// Runs over a block of scans, and writes those that are kept. (A slice of u8 consists of bytes.)
-fn sift_block<W: Write, E: Write>(
-    table: &[u16],
+// A run on a rule's table: the state in which its calls end, and room for what a call over a block of scans writes. (That they end in it is no ghost field:
+// calls are data, and a ghost field is a proposition.)
+#[derive(Drop)]
+struct Sifter<'a> {
+    table: &'a [u16],
     count: usize,
     state: State,
-    scans: &[u8],
-    output: &mut [u8],
-    verdicts: &mut [u8],
-    stdout: &mut W,
-    stderr: &mut E,
-) -> BlockResult
-    ensures bytes { Bytes scans.now }
-    ensures state_value { result.state ≡ (result_of state (run_of most mark table.now count state scans.now
-        (length output.old) (length verdicts.old))).state }
-{
-    let ran = running::run(table, count, state, scans, output, verdicts);
-    let kept = ran.kept;
-    let goes_on = write_whole("sift: standard output", &output[..kept], stdout, stderr);
-    let state = ran.state;
-    BlockResult { state, goes_on }
+    output: [u8; BLOCK],
+    verdicts: [u8; BLOCK],
 }
 
-// Reads once, and sifts what came.
-fn sift_some<R: Read, W: Write, E: Write>(
-    table: &[u16],
-    count: usize,
-    state: State,
-    scans: &mut [u8],
-    output: &mut [u8],
-    verdicts: &mut [u8],
-    stdin: &mut R,
-    stdout: &mut W,
-    stderr: &mut E,
-) -> BlockResult
-    requires { (length scans.old ≤ length output.old) × (length scans.old ≤ length verdicts.old) }
-    ensures { GoesOn table.now count state result.state }
-{
-    let got = read_some("sift: standard input", stdin, scans, stderr);
-    let n = got.unwrap_or(0);
-    if n == 0 {
-        return BlockResult {
-            state,
-            goes_on: false,
-        };
+impl Sifter<'_> {
+    // Runs over some scans, and writes those that are kept. Says whether they were written. (A slice of u8 consists of bytes.)
+    fn sift<W: Write, E: Write>(&mut self, scans: &[u8], terminal: &mut Terminal<W, E>) -> bool
+        ensures bytes { Bytes scans.now }
+        ensures state_value { self.new.state ≡ (result_of self.old.state (run_of most mark self.old.table.now self.old.count
+            self.old.state scans.now BLOCK BLOCK)).state }
+        ensures same_table { self.new.table.now ≡ self.old.table.now }
+        ensures same_count { self.new.count ≡ self.old.count }
+    {
+        let ran = running::run(
+            self.table,
+            self.count,
+            self.state,
+            scans,
+            &mut self.output,
+            &mut self.verdicts,
+        );
+        self.state = ran.state;
+        terminal.write_whole(&self.output[..ran.kept])
     }
-    sift_block(
-        table,
-        count,
-        state,
-        &scans[..n],
-        output,
-        verdicts,
-        stdout,
-        stderr,
-    )
 }
 
-// Sifts all of standard input. The loop counts down from a number of turns that no input uses up, so that it ends.
+// Sifts all of standard input. No input uses up so many turns.
 fn sift_all<R: Read, W: Write, E: Write>(
     table: &[u16],
     count: usize,
     stdin: &mut R,
-    stdout: &mut W,
-    stderr: &mut E,
+    terminal: &mut Terminal<W, E>,
 ) -> State
     requires { WellFormedTable most mark count table.now }
     ensures { EndsCallsOn table.now count result }
 {
     let mut scans = [0u8; BLOCK];
-    let mut output = [0u8; BLOCK];
-    let mut verdicts = [0u8; BLOCK];
-    let mut state = running::start();
-    let mut left = u64::MAX;
-    while 0 < left {
-        let turn = sift_some(
-            table,
-            count,
-            state,
-            &mut scans,
-            &mut output,
-            &mut verdicts,
-            stdin,
-            stdout,
-            stderr,
-        );
-        state = turn.state;
-        if !turn.goes_on {
-            return state;
+    let mut sifter = Sifter {
+        table,
+        count,
+        state: running::start(),
+        output: [0; BLOCK],
+        verdicts: [0; BLOCK],
+    };
+    for _ in 0..u64::MAX {
+        let n = terminal.read("standard input", read_once(stdin, &mut scans));
+        if n == 0 || !sifter.sift(&scans[..n], terminal) {
+            return sifter.state;
         }
-        left -= 1;
     }
-    state
+    sifter.state
 }
 
 // Fills the table of a rule file, and sifts standard input under it.
@@ -123,8 +82,7 @@ fn sift_under<R: Read, W: Write, E: Write>(
     file: &[u8],
     table: &mut [u16],
     stdin: &mut R,
-    stdout: &mut W,
-    stderr: &mut E,
+    terminal: &mut Terminal<W, E>,
 ) -> SiftResult
     requires { length table.old ≡ 256 * program_limit }
     ensures bytes { Bytes file.now }
@@ -133,16 +91,11 @@ fn sift_under<R: Read, W: Write, E: Write>(
     let answer = synthesis::fill_within(file, LIMIT, table);
     match answer {
         Counted::Equations(count) => {
-            let state = sift_all(table, count, stdin, stdout, stderr);
+            let state = sift_all(table, count, stdin, terminal);
             SiftResult { answer, state }
         }
         Counted::Refused(number, place) => {
-            print_line(
-                "sift: standard output",
-                listing::refusal_line(number, place),
-                stdout,
-                stderr,
-            );
+            terminal.print(listing::refusal_line(number, place));
             let state = running::start();
             SiftResult { answer, state }
         }
@@ -165,8 +118,13 @@ pub fn sift_of<F: Files, R: Read, W: Write, E: Write>(
 ) -> SiftResult
     ensures { (s : List ℕ) × (table : List ℕ) × Bytes s × Sifts s table result }
 {
+    let mut terminal = Terminal {
+        program: "sift",
+        stdout,
+        stderr,
+    };
     let mut file = [0u8; FILE];
-    let n = read_file("sift: rule.bin", files, "rule.bin", &mut file, stderr);
+    let n = terminal.read("rule.bin", read_file(files, "rule.bin", &mut file));
     let mut table = [0u16; TABLE];
-    sift_under(&file[..n], &mut table, stdin, stdout, stderr)
+    sift_under(&file[..n], &mut table, stdin, &mut terminal)
 }

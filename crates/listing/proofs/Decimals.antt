@@ -58,6 +58,16 @@ decimal_digits (suc k) n h = on (ltb n 10) refl (decimal_digits k (n / 10) fewer
     on true e rest = rw (decimal_one n (ltb-true n 10 e)) (omega arith)
     on false e rest = omega (arith, decimal_length n (ltb-false n 10 e))
 
+-- so of a number of 8, 16 and 64 bits
+pub digits_byte : (n : ℕ) → n < 2 ^ 8 → length (decimal n) ≤ 3
+digits_byte n h = decimal_digits 2 n (omega arith)
+
+pub digits_short : (n : ℕ) → n < 2 ^ 16 → length (decimal n) ≤ 5
+digits_short n h = decimal_digits 4 n (omega arith)
+
+pub digits_word : (n : ℕ) → n < 2 ^ 64 → length (decimal n) ≤ 20
+digits_word n h = decimal_digits 19 n (omega arith)
+
 -- ---- the text of an entry
 
 module _ (x : ℕ) where
@@ -73,6 +83,9 @@ module _ (x : ℕ) where
       on : (b : Bool) → eqb x mark ≡ b → length (answer_text (meaning mark x)) ≤ 5
       on true e = rw (drop_text (eqb-true x mark e)) (omega arith)
       on false e = rw (next_text (eqb-false x mark e)) (omega (arith, decimal_digits 4 x (omega arith)))
+
+-- how long the fields of a line are
+pub ruleset field_lengths = (length-append, digits_byte, digits_short, digits_word, answer_digits)
 
 -- ---- the line of a pattern
 

@@ -10,21 +10,24 @@ use lib.Dec.{eqb, leb, ltb}
 use lib.ListN.{length, get_or, drop, drop_of_length-le}
 use lib.Seq.{drop-cons}
 use borrow.Author.Tests.{eq-eqb, ne_eqb, eqb-true, eqb-false, leb-true, leb-false, ltb-true, ltb-false}
+use Rattle.std.proofs.Common.{not, Some, None, get_or-drop, length-drop}
+use Rattle.std.specs.List.{position, position_or_len}
+use Rattle.std.proofs.lemmas.List.Sums.{position_or_len_is}
 use Rattle.listing.specs.Runs.{CodeRun, code_run, joined, runs_from, RunTo}
 
 -- ---- equal entries
 
 -- the entries from c to last are the same
-pub record Same (row : List ℕ) (c last : ℕ) : Type 0 where
+record Same (row : List ℕ) (c last : ℕ) : Type 0 where
   pub some : c ≤ last
   pub inside : last < length row
   pub same : (j : ℕ) → c ≤ j → j ≤ last → get_or row j 0 ≡ get_or row c 0
 
 module _ (row : List ℕ) (c : ℕ) where
-  pub same_single : c < length row → Same row c c
+  same_single : c < length row → Same row c c
   same_single h = record { some = omega arith; inside = h; same = λ j l m. let is : j ≡ c = omega arith in rw is }
 
-  pub same_next : (last : ℕ) → Same row c last → last + 1 < length row → get_or row (last + 1) 0 ≡ get_or row c 0 → Same row c (last + 1)
+  same_next : (last : ℕ) → Same row c last → last + 1 < length row → get_or row (last + 1) 0 ≡ get_or row c 0 → Same row c (last + 1)
   same_next last s h e = record {
     some = omega (arith, s.some);
     inside = h;
@@ -35,7 +38,7 @@ module _ (row : List ℕ) (c : ℕ) where
       on j l m true f = s.same j l (leb-true j last f)
       on j l m false f = let is : j ≡ last + 1 = omega (arith, leb-false j last f) in rw is e
 
-  pub same_ends : (last : ℕ) → Same row c last → (last + 1 < length row → get_or row (last + 1) 0 ≡ get_or row c 0 → ⊥) → RunTo row c last
+  same_ends : (last : ℕ) → Same row c last → (last + 1 < length row → get_or row (last + 1) 0 ≡ get_or row c 0 → ⊥) → RunTo row c last
   same_ends last s stop =
       record { some = s.some; inside = s.inside; same = s.same; ends = rw (add-one last) at stop }
 
@@ -105,3 +108,33 @@ module _ (row : List ℕ) where
 
   pub some_run : (c : ℕ) → c < length row → (end : ℕ) × RunTo row c end
   some_run c h = run_extends (length row) c c (same_single row c h) (omega arith)
+
+-- ---- the run that a search for another entry finds
+
+module _ (row : List ℕ) (c : ℕ) (h : c < length row) where
+  abbrev pub differs : ℕ → Bool
+  differs x = not (eqb x (get_or row c 0))
+
+  first_other : (end : ℕ) → RunTo row c end → position_or_len differs (drop c row) ≡ suc end - c
+  first_other end r = position_or_len_is differs (drop c row) (suc end - c) 0 (omega (arith, r.some, r.inside, length-drop c row)) same other
+    where
+      same : (k : ℕ) → k < suc end - c → differs (get_or (drop c row) k 0) ≡ false
+      same k l = rw (get_or-drop c row k 0, eq-eqb _ _ (r.same (c + k) (omega arith) (omega (arith, r.some)))) refl
+
+      other : suc end - c < length (drop c row) → differs (get_or (drop c row) (suc end - c) 0) ≡ true
+      other l =
+          let at : c + (suc end - c) ≡ suc end = omega (arith, r.some) in
+          rw (get_or-drop c row (suc end - c) 0, at, ne_eqb _ _ (r.ends (omega (arith, length-drop c row)))) refl
+
+  -- the run goes up to the entry before the first other one, or to the end
+  pub ends_before : {many : ℕ} → position differs (drop c row) ≡ Some many → RunTo row c (c + many - 1)
+  ends_before {many} e =
+      let (end, run) = some_run row c h in
+      let is : end ≡ c + many - 1 = grind (arith, first_other end run, run.some) in
+      rw is at run
+
+  pub ends_row : position differs (drop c row) ≡ None → RunTo row c (length row - 1)
+  ends_row e =
+      let (end, run) = some_run row c h in
+      let is : end ≡ length row - 1 = grind (arith, first_other end run, run.some, run.inside, length-drop c row) in
+      rw is at run

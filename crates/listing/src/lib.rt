@@ -49,7 +49,10 @@ pub fn judgment_line(meets: bool) -> Line
 fn no_line(at: usize) -> ListingLine
     ensures { Gives (no_line at) result }
 {
-    let line = Line::empty();
+    let line = Line {
+        bytes: [0; 64],
+        len: 0,
+    };
     ListingLine { line, next: at }
 }
 
@@ -59,11 +62,10 @@ fn run_end(row: &[u16], c: usize) -> usize
     ensures { RunTo row.now c result }
 {
     let entry = row[c];
-    let mut last = c;
-    while last + 1 < row.len() && row[last + 1] == entry {
-        last += 1;
+    match row[c..].iter().position(|&other| other != entry) {
+        Some(many) => c + many - 1,
+        None => row.len() - 1,
     }
-    last
 }
 
 // The line of the run at a position after the "equations" line. Code 0 of equation 0 has the position `start`.
@@ -88,28 +90,19 @@ fn row_line(table: &[u16], count: usize, start: usize, at: usize) -> ListingLine
     }
 }
 
-// How many patterns of a rule are listed: an array of 32 has no more.
-fn pattern_count(n: usize) -> usize
-    ensures { result ≡ min n 32 }
-{
-    if n < 32 { n } else { 32 }
-}
-
 // The line of a listing at a position. The next one stands at `next`; at an empty line the listing has ended.
 pub fn listing_line(rule: NumberedRule, table: &[u16], count: usize, at: usize) -> ListingLine
     ensures value { result ≡ listing_line_at rule table.now count at }
     ensures within { Within result.line }
 {
-    let n = pattern_count(rule.npatterns);
+    // An array of 32 has no more, whatever number the rule says.
+    let n = rule.npatterns.min(32);
     if at == 0 {
         let line = lines::counted(b"patterns", n);
         return ListingLine { line, next: 1 };
     }
     if at <= n {
-        let i = at - 1;
-        let extents = rule.extents;
-        let extent = extents[i];
-        let line = lines::pattern(i, extent);
+        let line = lines::pattern(at - 1, rule.extents[at - 1]);
         return ListingLine { line, next: at + 1 };
     }
     if at == n + 1 {

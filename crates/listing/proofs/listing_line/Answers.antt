@@ -5,14 +5,14 @@ use Rattle.listing.proofs.listing_line.Goals as goal
 
 pub returns-then-at-eq0-clause-value : goal.returns-then-at-eq0-clause-value
 returns-then-at-eq0-clause-value c =
-    let n = c.pattern_count-n in
+    let n = c.min-n in
     let x = c.args in
     (listed x.rule x.table.now x.count x.at n.result n.ensures
     (gives (at_patterns n.result x.rule.extents x.table.now x.count x.at c.if-at-eq0.true) (gives_line 1 1 refl c.counted-line.ensures))).0
 
 pub returns-then-at-n-clause-value : goal.returns-then-at-n-clause-value
 returns-then-at-n-clause-value c =
-    let n = c.pattern_count-n in
+    let n = c.min-n in
     let x = c.args in
     (listed x.rule x.table.now x.count x.at n.result n.ensures
     (gives (at_pattern n.result x.rule.extents x.table.now x.count x.at c.if-at-eq0.false c.if-at-n.true)
@@ -20,7 +20,7 @@ returns-then-at-n-clause-value c =
 
 pub returns-then-at-n-2-clause-value : goal.returns-then-at-n-2-clause-value
 returns-then-at-n-2-clause-value c =
-    let n = c.pattern_count-n in
+    let n = c.min-n in
     let x = c.args in
     (listed x.rule x.table.now x.count x.at n.result n.ensures
     (gives (at_equations n.result x.rule.extents x.table.now x.count x.at c.if-at-n-2.true)
@@ -28,7 +28,7 @@ returns-then-at-n-2-clause-value c =
 
 pub returns-clause-value : goal.returns-clause-value
 returns-clause-value c =
-    let n = c.pattern_count-n in
+    let n = c.min-n in
     let x = c.args in
     (listed x.rule x.table.now x.count x.at n.result n.ensures
     (gives (at_row n.result x.rule.extents x.table.now x.count x.at (omega arith)) c.row_line.ensures)).0

@@ -1,9 +1,8 @@
--- The calls of `sift_all` are all on the one table. The measure is how many iterations are left.
+-- The calls are all on the one table.
+use Rattle.std.proofs.Common.{◌≡◌}
 use Rattle.commands.specs.Sifting.{EndsCallsOn}
 use Rattle.commands.proofs.sifting.sift_all.Given as goal
 
-abbrev pub invariant-loop-left : goal.invariant-loop-left
-invariant-loop-left g l = EndsCallsOn l.table l.count l.state
-
-abbrev pub decreases-loop-left : goal.decreases-loop-left
-decreases-loop-left g l = l.left
+abbrev pub invariant-loop : goal.invariant-loop
+invariant-loop g l =
+    (l.sifter.table.now ≡ l.table) × (l.sifter.count ≡ l.count) × EndsCallsOn l.table l.count l.sifter.state

@@ -1,5 +1,5 @@
 -- The measure is the number itself.
-use Rattle.listing.proofs.Line.+decimal.Given as goal
+use Rattle.listing.proofs.text.Text.+decimal.Given as goal
 
 abbrev pub decreases-decimal : goal.decreases-decimal
 decreases-decimal l = l.n
