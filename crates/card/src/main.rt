@@ -3,49 +3,42 @@
 #![tactic(auto)]
 
 use reading::slots::{slot_set, slots_under};
-use testing::{STDOUT_FILENO, print_field};
+use std::io;
 
-fn print_width(width: usize) {
-    io::write_all(STDOUT_FILENO, b"under");
-    print_field(width as u64);
-    print_field(slots_under(width) as u64);
-    io::write_all(STDOUT_FILENO, b"\n");
+fn print_width(rt: &HostRuntime, width: usize) -> io::Result<()> {
+    println!(rt; "under {width} {}", slots_under(width))
 }
 
-fn print_set(first: u8, last: u8) {
-    io::write_all(STDOUT_FILENO, b"set");
-    print_field(first as u64);
-    print_field(last as u64);
-    print_field(slot_set(first, last) as u64);
-    io::write_all(STDOUT_FILENO, b"\n");
+fn print_set(rt: &HostRuntime, first: u8, last: u8) -> io::Result<()> {
+    println!(rt; "set {first} {last} {}", slot_set(first, last))
 }
 
 // The widths 0 to 39.
-fn print_widths() {
-    let mut width = 0;
-    while width < 40 {
-        print_width(width);
-        width += 1;
+fn print_widths(rt: &HostRuntime) -> io::Result<()> {
+    for width in 0..40 {
+        print_width(rt, width)?;
     }
+    Ok(())
 }
 
 // Every two of the slots 0 to 39.
-fn print_sets() {
-    let mut pair: u16 = 0;
-    while pair < 1600 {
-        print_set((pair / 40) as u8, (pair % 40) as u8);
-        pair += 1;
+fn print_sets(rt: &HostRuntime) -> io::Result<()> {
+    for first in 0..40 {
+        for last in 0..40 {
+            print_set(rt, first, last)?;
+        }
     }
+    Ok(())
 }
 
-fn main() {
-    print_widths();
-    print_width(261);
-    print_width(4294967301);
-    print_width(18446744073709551615);
-    print_sets();
-    print_set(5, 255);
-    print_set(255, 5);
-    print_set(255, 254);
-    print_set(254, 255);
+fn main(rt: HostRuntime) -> io::Result<()> {
+    print_widths(&rt)?;
+    print_width(&rt, 261)?;
+    print_width(&rt, 4294967301)?;
+    print_width(&rt, usize::MAX)?;
+    print_sets(&rt)?;
+    print_set(&rt, 5, 255)?;
+    print_set(&rt, 255, 5)?;
+    print_set(&rt, 255, 254)?;
+    print_set(&rt, 254, 255)
 }

@@ -19,232 +19,142 @@
 // record.
 #![tactic(auto)]
 
-mod printing;
-
-use printing::{print_ahead, print_changed, print_ran};
-use running::{Duty, OnDuty};
+use running::{Changed, Duty, OnDuty};
+use std::io;
+use std::io::{Error, ErrorKind};
+use synthesis::Counted;
 use testing::{
-    Head, prepare, print_digests, print_filled, read_byte, read_long, read_part, read_prepared,
-    read_size, read_whole,
+    Buffers, each_case, print_checked, read_byte, read_long, read_part, read_prepared, read_size,
 };
 
-// Who is on duty after a record, and whether there was one.
-#[derive(Drop)]
-struct Step {
-    duty: Duty,
-    more: bool,
-}
-
-fn take_prepared(duty: Duty, tables: &mut [u16]) -> Step {
-    let more = read_prepared(tables);
-    Step { duty, more }
-}
-
-fn take_part(duty: Duty, tables: &mut [u16]) -> Step {
-    let more = read_part(tables);
-    Step { duty, more }
-}
-
-// Fills a part of the tables, all rows or the short ones.
-fn fill(rule: &[u8], part: &mut [u16], is_short: bool) {
-    if is_short {
-        print_filled(synthesis::fill_short(rule, part));
-        return;
+// Prints the whole state: the count and all four places.
+fn print_duty(rt: &HostRuntime, duty: &Duty) -> io::Result<()> {
+    print!(rt; " {}", duty.count)?;
+    for rule in &duty.rules {
+        print!(rt;
+            " {} {} {} {}",
+            rule.number, rule.base, rule.count, rule.equation
+        )?;
     }
-    print_filled(synthesis::fill(rule, part));
+    Ok(())
 }
 
-// Fills the space with a rule file, and a part of the tables from it.
-fn read_rule(space: &mut [u8], part: &mut [u16], is_short: bool) -> bool {
-    if !read_whole(space) {
-        return false;
-    }
-    fill(space, part, is_short);
-    true
+// Fills a part of the tables.
+fn take_rule<F: FnOnce(&[u8], &mut [u16]) -> Counted>(
+    rt: &HostRuntime,
+    buffers: &mut Buffers,
+    fill: F,
+) -> io::Result<()>
+    requires { F.IsAlwaysCallable fill }
+{
+    let place = read_size(rt, buffers.table.len())?;
+    buffers.read_rule(rt, place, fill)?;
+    Ok(())
 }
 
-fn read_filling(space: &mut [u8], tables: &mut [u16], is_short: bool) -> bool {
-    let Head::Number(at) = read_size(tables.len()) else {
-        return false;
-    };
-    let Head::Number(n) = read_size(space.len()) else {
-        return false;
-    };
-    read_rule(&mut space[..n], &mut tables[at..], is_short)
+// A number of eight bytes, or 0 where it isn't whole.
+fn read_number(rt: &HostRuntime) -> usize {
+    read_long(rt).unwrap_or(0)
 }
 
-fn take_rule(duty: Duty, space: &mut [u8], tables: &mut [u16], is_short: bool) -> Step {
-    let more = read_filling(space, tables, is_short);
-    Step { duty, more }
-}
-
-// A number of eight bytes.
-fn read_number() -> usize {
-    let Head::Number(n) = read_long() else {
-        return 0;
-    };
-    n
-}
-
-fn read_place() -> OnDuty {
-    let number = read_byte();
-    let base = read_number();
-    let count = read_number();
-    let equation = read_number();
+fn read_place(rt: &HostRuntime) -> OnDuty {
     OnDuty {
-        number,
-        base,
-        count,
-        equation,
+        number: read_byte(rt),
+        base: read_number(rt),
+        count: read_number(rt),
+        equation: read_number(rt),
     }
 }
 
-fn take_duty() -> Step {
-    let count = read_number();
-    let first = read_place();
-    let second = read_place();
-    let third = read_place();
-    let fourth = read_place();
-    Step {
-        duty: Duty {
-            rules: [first, second, third, fourth],
-            count,
-        },
-        more: true,
+fn read_duty(rt: &HostRuntime) -> Duty {
+    Duty {
+        count: read_number(rt),
+        rules: [
+            read_place(rt),
+            read_place(rt),
+            read_place(rt),
+            read_place(rt),
+        ],
     }
-}
-
-fn begin() -> Step {
-    let duty = running::nobody();
-    Step { duty, more: true }
 }
 
 // A rule comes on.
-fn come(duty: Duty, number: u8, tables: &[u16]) -> Step {
-    let base = read_number();
-    let count = read_number();
-    let changed = running::come_on(duty, number, tables, base, count);
-    print_changed(changed);
-    let duty = changed.duty;
-    Step { duty, more: true }
-}
-
-fn take_coming(duty: Duty, tables: &[u16]) -> Step {
-    let number = read_byte();
-    let Head::Number(lent) = read_size(tables.len()) else {
-        return Step { duty, more: false };
-    };
-    come(duty, number, &tables[..lent])
-}
-
-fn take_going(duty: Duty) -> Step {
-    let number = read_byte();
-    let changed = running::go_off(duty, number);
-    print_changed(changed);
-    let duty = changed.duty;
-    Step { duty, more: true }
-}
-
-// Runs, and prints what the run returns and leaves in the buffers. Hands back who is on duty then.
-fn run(duty: Duty, tables: &[u16], scans: &[u8], output: &mut [u8], verdicts: &mut [u8]) -> Duty {
-    let ahead = running::check_on_duty(tables, duty, scans, output.len(), verdicts.len());
-    print_ahead(ahead);
-    let ran = running::run_on_duty(tables, duty, scans, output, verdicts);
-    print_ran(ran);
-    print_digests(output, verdicts);
-    ran.duty
-}
-
-// Fills the space with the scans, and runs.
-fn call(
-    duty: Duty,
-    tables: &[u16],
-    scans: &mut [u8],
-    output: &mut [u8],
-    verdicts: &mut [u8],
-    turn: u64,
-) -> Step {
-    if !read_whole(scans) {
-        return Step { duty, more: false };
-    }
-    prepare(output, turn, 7, 255);
-    prepare(verdicts, turn % 251, 11, 255);
-    let duty = run(duty, tables, scans, output, verdicts);
-    Step { duty, more: true }
-}
-
-fn take_call(
-    duty: Duty,
-    tables: &[u16],
-    scans: &mut [u8],
-    output: &mut [u8],
-    verdicts: &mut [u8],
-    turn: u64,
-) -> Step {
-    let Head::Number(lent) = read_size(tables.len()) else {
-        return Step { duty, more: false };
-    };
-    let Head::Number(out) = read_size(output.len()) else {
-        return Step { duty, more: false };
-    };
-    let Head::Number(ver) = read_size(verdicts.len()) else {
-        return Step { duty, more: false };
-    };
-    let Head::Number(n) = read_size(scans.len()) else {
-        return Step { duty, more: false };
-    };
-    call(
+fn take_coming(rt: &HostRuntime, duty: &mut Duty, tables: &[u16]) -> io::Result<()> {
+    let number = read_byte(rt);
+    let lent = read_size(rt, tables.len())?;
+    let base = read_number(rt);
+    let count = read_number(rt);
+    take_changed(
+        rt,
         duty,
-        &tables[..lent],
-        &mut scans[..n],
-        &mut output[..out],
-        &mut verdicts[..ver],
-        turn,
+        running::come_on(*duty, number, &tables[..lent], base, count),
     )
+}
+
+fn take_going(rt: &HostRuntime, duty: &mut Duty) -> io::Result<()> {
+    let number = read_byte(rt);
+    take_changed(rt, duty, running::go_off(*duty, number))
+}
+
+// Prints a line with what a coming or a going hands back, and keeps its state.
+fn take_changed(rt: &HostRuntime, duty: &mut Duty, changed: Changed) -> io::Result<()> {
+    print_checked(rt, changed.checked)?;
+    print_duty(rt, &changed.duty)?;
+    println!(rt)?;
+    *duty = changed.duty;
+    Ok(())
+}
+
+// Prints whether a run would be refused, runs, and prints what the run returns.
+fn take_call(
+    rt: &HostRuntime,
+    duty: &mut Duty,
+    buffers: &mut Buffers,
+    turn: u64,
+) -> io::Result<()> {
+    let before = *duty;
+    *duty = buffers.read_run(rt, turn, |tables, scans, output, verdicts| {
+        let ahead = running::check_on_duty(tables, before, scans, output.len(), verdicts.len());
+        print_checked(rt, ahead)?;
+        print!(rt; " ")?;
+        let ran = running::run_on_duty(tables, before, scans, output, verdicts);
+        print_checked(rt, ran.checked)?;
+        print_duty(rt, &ran.duty)?;
+        print!(rt; " {} {}", ran.kept, ran.dropped)?;
+        Ok(ran.duty)
+    })?;
+    Ok(())
 }
 
 // Takes the next record.
 fn take_record(
-    duty: Duty,
-    tables: &mut [u16],
-    scans: &mut [u8],
-    output: &mut [u8],
-    verdicts: &mut [u8],
+    rt: &HostRuntime,
+    duty: &mut Duty,
+    buffers: &mut Buffers,
     turn: u64,
-) -> Step {
-    match read_byte() {
-        b'f' => take_prepared(duty, tables),
-        b'w' => take_part(duty, tables),
-        b'r' => take_rule(duty, scans, tables, false),
-        b'm' => take_rule(duty, scans, tables, true),
-        b'n' => begin(),
-        b's' => take_duty(),
-        b'a' => take_coming(duty, tables),
-        b'l' => take_going(duty),
-        b'c' => take_call(duty, tables, scans, output, verdicts, turn),
-        _ => Step { duty, more: false },
-    }
-}
-
-// A proved loop has to end, and nothing says that the input does: so it has as many turns as 64 bits can count.
-fn take_records(tables: &mut [u16], scans: &mut [u8], output: &mut [u8], verdicts: &mut [u8]) {
-    let mut duty = running::nobody();
-    let mut turn = 0;
-    while turn < u64::MAX {
-        let step = take_record(duty, tables, scans, output, verdicts, turn);
-        if !step.more {
-            return;
+) -> io::Result<()> {
+    match read_byte(rt) {
+        b'f' => read_prepared(rt, &mut buffers.table),
+        b'w' => read_part(rt, &mut buffers.table),
+        b'r' => take_rule(rt, buffers, synthesis::fill),
+        b'm' => take_rule(rt, buffers, synthesis::fill_short),
+        b'n' => {
+            *duty = running::nobody();
+            Ok(())
         }
-        let next = step.duty;
-        duty = next;
-        turn += 1;
+        b's' => {
+            *duty = read_duty(rt);
+            Ok(())
+        }
+        b'a' => take_coming(rt, duty, &buffers.table),
+        b'l' => take_going(rt, duty),
+        b'c' => take_call(rt, duty, buffers, turn),
+        _ => Err(Error::from(ErrorKind::InvalidData)),
     }
 }
 
-fn main() {
-    let mut tables = [0u16; 262144];
-    let mut scans = [0u8; 65536];
-    let mut output = [0u8; 65536];
-    let mut verdicts = [0u8; 65536];
-    take_records(&mut tables, &mut scans, &mut output, &mut verdicts);
+fn main(rt: HostRuntime) {
+    let mut duty = running::nobody();
+    let mut buffers = Buffers::new();
+    each_case(|turn| take_record(&rt, &mut duty, &mut buffers, turn));
 }

@@ -6,20 +6,18 @@
 ghost use Rattle.std.specs.Prelude.{◌≤◌, ◌<◌, ◌≡◌, length};
 
 use running::Duty;
+use std::io;
 use synthesis::Counted;
-use testing::{
-    Head, STDIN_FILENO, STDOUT_FILENO, digest, filled_count, print_counted, print_field, read_byte,
-    read_size,
-};
+use testing::{digest, filled_count, print_filled, read_bounded, read_byte, read_size};
 
 // A rule has at most so many equations.
 const LIMIT: usize = 128;
 
 // The entries of a table that has room for them.
-const TABLE: usize = 32768;
+const TABLE: usize = 256 * LIMIT;
 
 // Those of four such tables.
-const TABLES: usize = 131072;
+const TABLES: usize = 4 * TABLE;
 
 // The scans of a lap.
 const SCANS: usize = 65536;
@@ -41,29 +39,22 @@ struct Sums {
 // Makes the scans: each is the low byte of a number, and the number goes through all from 0 to 65,535.
 fn make_scans(scans: &mut [u8]) {
     let mut x: u64 = 1;
-    let mut i = 0;
-    while i < scans.len() {
+    for scan in scans.iter_mut() {
         x = (x * 75 + 74) % 65537;
-        scans[i] = (x % 256) as u8;
-        i += 1;
+        *scan = (x % 256) as u8;
     }
 }
 
 // Fills a table for each of n rules, and lets the rule come on with it. A rule whose filling is refused doesn't come on.
-fn come_all(rule: &[u8], n: usize, tables: &mut [u16]) -> Came
+fn come_all(rule: &[u8], n: u8, tables: &mut [u16]) -> Came
     requires { (n ≤ 4) × (length tables.old ≡ 131072) }
 {
     let mut answer = Counted::Equations(0);
     let mut duty = running::nobody();
-    let mut i = 0;
-    while i < n {
-        let base = TABLE * i;
-        let filled = synthesis::fill_within(rule, LIMIT, &mut tables[base..]);
-        answer = filled;
-        let changed = running::come_on(duty, i as u8, tables, base, filled_count(filled));
-        let next = changed.duty;
-        duty = next;
-        i += 1;
+    for number in 0..n {
+        let base = TABLE * usize::from(number);
+        answer = synthesis::fill_within(rule, LIMIT, &mut tables[base..]);
+        duty = running::come_on(duty, number, tables, base, filled_count(answer)).duty;
     }
     Came { answer, duty }
 }
@@ -71,7 +62,7 @@ fn come_all(rule: &[u8], n: usize, tables: &mut [u16]) -> Came
 // Runs so many laps. Each begins with the rules as the last one left them.
 fn run_laps(
     tables: &[u16],
-    duty: Duty,
+    mut duty: Duty,
     laps: usize,
     scans: &[u8],
     output: &mut [u8],
@@ -79,86 +70,62 @@ fn run_laps(
 ) -> Sums
     requires { (laps < 16777216) × (length scans.now ≡ 65536) }
 {
-    let mut duty = duty;
     let mut kept: u64 = 0;
     let mut dropped: u64 = 0;
-    let mut lap = 0;
-    while lap < laps {
+    for _lap in 0..laps {
         let ran = running::run_on_duty(tables, duty, scans, output, verdicts);
         kept += ran.kept as u64;
         dropped += ran.dropped as u64;
-        let next = ran.duty;
-        duty = next;
-        lap += 1;
+        duty = ran.duty;
     }
     Sums { kept, dropped }
 }
 
-fn print_sums(sums: Sums, verdicts: &[u8]) {
-    io::print_decimal(STDOUT_FILENO, sums.kept);
-    print_field(sums.dropped);
-    print_field(digest(0, verdicts));
-    io::write_all(STDOUT_FILENO, b"\n");
-}
-
-fn print_refused(answer: Counted) {
-    print_counted(answer);
-    io::write_all(STDOUT_FILENO, b"\n");
-}
-
 // Runs the laps and prints what they come to, or prints the refusal of the filling.
 fn answer_laps(
+    rt: &HostRuntime,
     came: Came,
     tables: &[u16],
     laps: usize,
     scans: &[u8],
     output: &mut [u8],
     verdicts: &mut [u8],
-)
+) -> io::Result<()>
     requires { (laps < 16777216) × (length scans.now ≡ 65536) }
 {
-    let answer = came.answer;
-    let Counted::Equations(_) = answer else {
-        print_refused(answer);
-        return;
+    let Counted::Equations(_) = came.answer else {
+        return print_filled(rt, came.answer);
     };
     let sums = run_laps(tables, came.duty, laps, scans, output, verdicts);
-    print_sums(sums, verdicts);
+    println!(rt; "{} {} {}", sums.kept, sums.dropped, digest(0, verdicts))
 }
 
-// Fills the space with a rule file, and answers for so many rules and laps.
-fn read_rule(space: &mut [u8], n: usize, laps: usize)
+// Answers for so many rules and laps.
+fn answer_rule(rt: &HostRuntime, rule: &[u8], n: u8, laps: usize) -> io::Result<()>
     requires { (n ≤ 4) × (laps < 16777216) }
 {
-    if io::read_full(STDIN_FILENO, space) < space.len() {
-        return;
-    }
     let mut tables = [0u16; TABLES];
     let mut scans = [0u8; SCANS];
     let mut output = [0u8; SCANS];
     let mut verdicts = [0u8; SCANS];
     make_scans(&mut scans);
-    let came = come_all(space, n, &mut tables);
-    answer_laps(came, &tables, laps, &scans, &mut output, &mut verdicts);
+    let came = come_all(rule, n, &mut tables);
+    answer_laps(rt, came, &tables, laps, &scans, &mut output, &mut verdicts)
 }
 
-fn take_rule(space: &mut [u8], n: usize, laps: usize)
-    requires { (n ≤ 4) × (laps < 16777216) }
-{
-    let Head::Number(len) = read_size(space.len()) else {
-        return;
-    };
-    read_rule(&mut space[..len], n, laps);
-}
-
-fn main() {
-    let n = read_byte() as usize;
-    if 4 < n {
-        return;
+// Reads the rules and the laps, and answers for them.
+fn answer_input(rt: &HostRuntime) -> io::Result<()> {
+    let n = read_byte(rt);
+    if n > 4 {
+        return Ok(());
     }
-    let Head::Number(laps) = read_size(16777215) else {
-        return;
-    };
+    let laps = read_size(rt, 16777215)?;
     let mut space = [0u8; 1024];
-    take_rule(&mut space, n, laps);
+    let rule = read_bounded(rt, &mut space)?;
+    answer_rule(rt, rule, n, laps)
+}
+
+fn main(rt: HostRuntime) {
+    // An input that is too short has no answer.
+    let _ = answer_input(&rt);
 }

@@ -4,80 +4,87 @@
 // file and the model file. The input ends after the last.
 #![tactic(auto)]
 
-mod printing;
+use models::{ModelReading, PhoneModel, Step};
+use reading::FileRead;
+use std::io;
+use testing::{
+    digest, each_case, prepare, print_judged, print_refusal, read_long, read_size, read_whole,
+};
 
-use printing::{print_judged, print_reading, print_table};
-use testing::{Head, STDIN_FILENO, STDOUT_FILENO, prepare_entries, read_long, read_size};
-
-// Sets the table that is lent to a judgment: entry i is case + 263 × i, modulo 65,521.
-fn refresh(table: &mut [u16], case: u64) {
-    prepare_entries(table, case, 263, 65520);
+// The digest that the digits of `high` and then a step make, as four bytes: from, two bytes of label, to.
+fn step_digest(high: u64, step: &Step) -> u64 {
+    let label = step.label.to_be_bytes();
+    digest(high, &[step.from, label[0], label[1], step.to])
 }
 
-fn answer(rule: &[u8], model: &[u8], limit: usize, table: &mut [u16], case: u64) {
-    print_reading(models::read_model(model));
-    refresh(table, case);
-    print_judged(models::judge(rule, model, table));
-    print_table(table);
-    io::write_all(STDOUT_FILENO, b" within ");
-    refresh(table, case);
-    print_judged(models::judge_within(rule, model, limit, table));
-    print_table(table);
-    io::write_all(STDOUT_FILENO, b"\n");
+// The digest of all 512 steps.
+fn steps_digest(model: &PhoneModel) -> u64 {
+    model.steps.iter().fold(0, step_digest)
 }
 
-// Fills the two spaces with the files of a case, answers it, and says whether the files were whole.
-fn answer_files(
-    rule: &mut [u8],
-    model: &mut [u8],
-    limit: usize,
-    table: &mut [u16],
-    case: u64,
-) -> bool {
-    if io::read_full(STDIN_FILENO, rule) < rule.len() {
-        return false;
+fn print_answer(rt: &HostRuntime, answer: FileRead) -> io::Result<()> {
+    match answer {
+        FileRead::Accepted => print!(rt; "accepted"),
+        FileRead::Refused(number, place) => print_refusal(rt, number, place),
     }
-    if io::read_full(STDIN_FILENO, model) < model.len() {
-        return false;
-    }
-    answer(rule, model, limit, table, case);
-    true
 }
 
-// Answers the next case, and says whether there was one that the spaces can hold.
-fn answer_case(rule: &mut [u8], model: &mut [u8], table: &mut [u16], case: u64) -> bool {
-    let Head::Number(size) = read_size(table.len()) else {
-        return false;
-    };
-    let Head::Number(limit) = read_long() else {
-        return false;
-    };
-    let Head::Number(n) = read_size(rule.len()) else {
-        return false;
-    };
-    let Head::Number(m) = read_size(model.len()) else {
-        return false;
-    };
-    answer_files(
-        &mut rule[..n],
-        &mut model[..m],
-        limit,
-        &mut table[..size],
-        case,
+fn print_reading(rt: &HostRuntime, reading: &ModelReading) -> io::Result<()> {
+    let model = &reading.model;
+    print_answer(rt, reading.answer)?;
+    print!(rt;
+        " {} {} {}",
+        model.states,
+        model.nsteps,
+        steps_digest(model)
     )
 }
 
-// A proved loop has to end, and nothing says that the input does: so it has as many turns as 64 bits can count.
-fn answer_cases(rule: &mut [u8], model: &mut [u8], table: &mut [u16]) {
-    let mut case = 0;
-    while case < u64::MAX && answer_case(rule, model, table, case) {
-        case += 1;
-    }
+// Sets the table that is lent to a judgment: entry i is case + 263 × i, modulo 65,521.
+fn refresh(table: &mut [u16], case: u64) {
+    prepare(table, case, 263, 65520);
 }
 
-fn main() {
+fn answer(
+    rt: &HostRuntime,
+    rule: &[u8],
+    model: &[u8],
+    limit: usize,
+    table: &mut [u16],
+    case: u64,
+) -> io::Result<()> {
+    print_reading(rt, &models::read_model(model))?;
+    print!(rt; " ")?;
+    refresh(table, case);
+    print_judged(rt, models::judge(rule, model, table))?;
+    print!(rt; " {} within ", digest(0, table))?;
+    refresh(table, case);
+    print_judged(rt, models::judge_within(rule, model, limit, table))?;
+    println!(rt; " {}", digest(0, table))
+}
+
+// Answers the next case.
+fn answer_case(
+    rt: &HostRuntime,
+    rule: &mut [u8],
+    model: &mut [u8],
+    table: &mut [u16],
+    case: u64,
+) -> io::Result<()> {
+    let size = read_size(rt, table.len())?;
+    let limit = read_long(rt)?;
+    let rule_len = read_size(rt, rule.len())?;
+    let model_len = read_size(rt, model.len())?;
+    let rule = &mut rule[..rule_len];
+    let model = &mut model[..model_len];
+    read_whole(rt, rule)?;
+    read_whole(rt, model)?;
+    answer(rt, rule, model, limit, &mut table[..size], case)
+}
+
+fn main(rt: HostRuntime) {
     let mut rule = [0u8; 1024];
     let mut model = [0u8; 8192];
     let mut table = [0u16; 262144];
-    answer_cases(&mut rule, &mut model, &mut table);
+    each_case(|case| answer_case(&rt, &mut rule, &mut model, &mut table, case));
 }

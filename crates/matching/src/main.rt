@@ -4,99 +4,90 @@
 // length and its file. All numbers have three bytes, highest first. The input ends after the last case.
 #![tactic(auto)]
 
-mod printing;
-
-use printing::{print_matched, print_word};
-use testing::{Head, STDOUT_FILENO, read_size, read_whole};
+use models::Matched;
+use std::io;
+use testing::{each_case, print_judged, print_refusal, read_bounded, read_size, read_whole};
 
 // A case has no more rules.
 const RULES: usize = 255;
 
-// Fills the space with a rule file, judges both models under it, and says whether the file was whole.
-fn judge_file(rule: &mut [u8], first: &[u8], second: &[u8], table: &mut [u16]) -> bool {
-    if !read_whole(rule) {
-        return false;
-    }
-    print_word(models::judge(rule, first, table));
-    print_word(models::judge(rule, second, table));
-    true
-}
-
-// Judges both models under the next rule, and says whether there was one that the space can hold.
-fn judge_rule(rule: &mut [u8], first: &[u8], second: &[u8], table: &mut [u16]) -> bool {
-    let Head::Number(n) = read_size(rule.len()) else {
-        return false;
-    };
-    judge_file(&mut rule[..n], first, second, table)
-}
-
-// Judges both models under so many rules, and says whether there were as many.
-fn judge_rules(count: usize, first: &[u8], second: &[u8], table: &mut [u16]) -> bool {
-    let mut rule = [0u8; 1024];
-    let mut left = count;
-    while left > 0 {
-        if !judge_rule(&mut rule, first, second, table) {
-            return false;
+fn print_matched(rt: &HostRuntime, matched: Matched) -> io::Result<()> {
+    match matched {
+        Matched::Yes => print!(rt; "yes"),
+        Matched::No => print!(rt; "no"),
+        Matched::RefusedFirst(number, place) => {
+            print!(rt; "first ")?;
+            print_refusal(rt, number, place)
         }
-        left -= 1;
+        Matched::RefusedSecond(number, place) => {
+            print!(rt; "second ")?;
+            print_refusal(rt, number, place)
+        }
+        Matched::RefusedPairs(number, place) => {
+            print!(rt; "pairs ")?;
+            print_refusal(rt, number, place)
+        }
     }
-    true
 }
 
-// Fills the three spaces with the files of a case, answers it, and says whether it was whole.
-fn answer_files(
+// Judges both models under the next rule.
+fn judge_rule(
+    rt: &HostRuntime,
+    space: &mut [u8],
+    first: &[u8],
+    second: &[u8],
+    table: &mut [u16],
+) -> io::Result<()> {
+    let rule = read_bounded(rt, space)?;
+    print!(rt; " ")?;
+    print_judged(rt, models::judge(rule, first, table))?;
+    print!(rt; " ")?;
+    print_judged(rt, models::judge(rule, second, table))
+}
+
+// Judges both models under so many rules.
+fn judge_rules(
+    rt: &HostRuntime,
+    count: usize,
+    first: &[u8],
+    second: &[u8],
+    table: &mut [u16],
+) -> io::Result<()> {
+    let mut space = [0u8; 1024];
+    for _ in 0..count {
+        judge_rule(rt, &mut space, first, second, table)?;
+    }
+    Ok(())
+}
+
+// Answers the next case. Its line ends also where a rule can't be read.
+fn answer_case(
+    rt: &HostRuntime,
     first: &mut [u8],
     second: &mut [u8],
     pairs: &mut [u8],
-    rules: usize,
     table: &mut [u16],
-) -> bool {
-    if !read_whole(first) {
-        return false;
-    }
-    if !read_whole(second) {
-        return false;
-    }
-    if !read_whole(pairs) {
-        return false;
-    }
-    print_matched(models::match_models(first, second, pairs));
-    let is_whole = judge_rules(rules, first, second, table);
-    io::write_all(STDOUT_FILENO, b"\n");
-    is_whole
+) -> io::Result<()> {
+    let first_len = read_size(rt, first.len())?;
+    let second_len = read_size(rt, second.len())?;
+    let pairs_len = read_size(rt, pairs.len())?;
+    let rules = read_size(rt, RULES)?;
+    let first = &mut first[..first_len];
+    let second = &mut second[..second_len];
+    let pairs = &mut pairs[..pairs_len];
+    read_whole(rt, first)?;
+    read_whole(rt, second)?;
+    read_whole(rt, pairs)?;
+    print_matched(rt, models::match_models(first, second, pairs))?;
+    let judged = judge_rules(rt, rules, first, second, table);
+    println!(rt)?;
+    judged
 }
 
-// Answers the next case, and says whether there was one that the spaces can hold.
-fn answer_case(first: &mut [u8], second: &mut [u8], pairs: &mut [u8], table: &mut [u16]) -> bool {
-    let Head::Number(n) = read_size(first.len()) else {
-        return false;
-    };
-    let Head::Number(m) = read_size(second.len()) else {
-        return false;
-    };
-    let Head::Number(k) = read_size(pairs.len()) else {
-        return false;
-    };
-    let Head::Number(rules) = read_size(RULES) else {
-        return false;
-    };
-    answer_files(
-        &mut first[..n],
-        &mut second[..m],
-        &mut pairs[..k],
-        rules,
-        table,
-    )
-}
-
-// A proved loop has to end, and nothing says that the input does: so it has as many turns as 64 bits can count.
-fn main() {
+fn main(rt: HostRuntime) {
     let mut first = [0u8; 4096];
     let mut second = [0u8; 4096];
     let mut pairs = [0u8; 16384];
     let mut table = [0u16; 262144];
-    let mut case = 0;
-    while case < u64::MAX && answer_case(&mut first, &mut second, &mut pairs, &mut table) {
-        case += 1;
-    }
+    each_case(|_| answer_case(&rt, &mut first, &mut second, &mut pairs, &mut table));
 }

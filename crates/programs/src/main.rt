@@ -7,18 +7,13 @@ mod signals;
 use signals::Signalled;
 use std::{fs, io};
 
-// How many colons of a line have come, up to two, after one more byte of a text.
+// How many colons of a line have come, after one more byte of a text.
 fn colons_after(colons: u64, byte: u8) -> u64 {
-    if byte == b'\n' {
-        return 0;
+    match byte {
+        b'\n' => 0,
+        b':' => colons.saturating_add(1),
+        _ => colons,
     }
-    if byte != b':' {
-        return colons;
-    }
-    if colons < 2 {
-        return colons + 1;
-    }
-    colons
 }
 
 // Prints what stands before the second colon of each line: a program, and what it was about. Why a write fails may be told in other words

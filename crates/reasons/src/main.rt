@@ -3,59 +3,37 @@
 // scan. The input ends after the last.
 #![tactic(auto)]
 
+use std::io;
 use synthesis::Reason;
-use testing::{
-    Head, STDIN_FILENO, STDOUT_FILENO, print_field, print_refusal, read_byte, read_size,
-};
+use testing::{each_case, print_refusal, read_byte, read_size, read_whole};
 
 // A case has no longer rule, and no more kept scans.
 const MOST: usize = 1024;
 
-fn print_reason(reason: Reason) {
+fn print_reason(rt: &HostRuntime, reason: Reason) -> io::Result<()> {
     match reason {
-        Reason::Kept => {
-            io::write_all(STDOUT_FILENO, b"kept");
-        }
-        Reason::Node(number) => {
-            io::write_all(STDOUT_FILENO, b"node");
-            print_field(number as u64);
-        }
+        Reason::Kept => println!(rt; "kept"),
+        Reason::Node(number) => println!(rt; "node {number}"),
         Reason::Refused(number, place) => {
-            print_refusal(number, place);
+            print_refusal(rt, number, place)?;
+            println!(rt)
         }
     }
-    io::write_all(STDOUT_FILENO, b"\n");
 }
 
-// Fills the two spaces with the rule file and the kept scans of a case, answers it, and says whether both were whole.
-fn answer_scans(rule: &mut [u8], kept: &mut [u8]) -> bool {
-    if io::read_full(STDIN_FILENO, rule) < rule.len() {
-        return false;
-    }
-    if io::read_full(STDIN_FILENO, kept) < kept.len() {
-        return false;
-    }
-    print_reason(synthesis::explain(rule, kept, read_byte()));
-    true
-}
-
-// Answers the next case, and says whether there was one that the spaces can hold.
-fn answer_case() -> bool {
+// Answers the next case.
+fn answer_case(rt: &HostRuntime) -> io::Result<()> {
     let mut rule = [0u8; MOST];
     let mut kept = [0u8; MOST];
-    let Head::Number(n) = read_size(MOST) else {
-        return false;
-    };
-    let Head::Number(m) = read_size(MOST) else {
-        return false;
-    };
-    answer_scans(&mut rule[..n], &mut kept[..m])
+    let rule_len = read_size(rt, MOST)?;
+    let kept_len = read_size(rt, MOST)?;
+    let rule = &mut rule[..rule_len];
+    let kept = &mut kept[..kept_len];
+    read_whole(rt, rule)?;
+    read_whole(rt, kept)?;
+    print_reason(rt, synthesis::explain(rule, kept, read_byte(rt)))
 }
 
-// A proved loop has to end, and nothing says that the input does: so it has as many turns as 64 bits can count.
-fn main() {
-    let mut case = 0;
-    while case < u64::MAX && answer_case() {
-        case += 1;
-    }
+fn main(rt: HostRuntime) {
+    each_case(|_| answer_case(&rt));
 }

@@ -13,13 +13,11 @@
 // COUNT and EQUATION are eight bytes, an entry, FIRST, STEP and TOP two, the other numbers three, highest first. The input ends after the last record.
 #![tactic(auto)]
 
-mod printing;
-
-use printing::print_ran;
 use running::State;
+use std::io;
+use std::io::{Error, ErrorKind};
 use testing::{
-    Head, filled_count, prepare, print_digests, print_filled, read_byte, read_long, read_part,
-    read_prepared, read_size, read_whole,
+    Buffers, each_case, filled_count, print_checked, read_byte, read_long, read_part, read_prepared,
 };
 
 // What the records so far have set, the table left aside.
@@ -29,167 +27,61 @@ struct Held {
     state: State,
 }
 
-// What a record leaves, or that there is none left.
-#[derive(Drop)]
-enum Step {
-    Next(Held),
-    Ended,
-}
-
-fn take_prepared(held: Held, table: &mut [u16]) -> Step {
-    if !read_prepared(table) {
-        return Step::Ended;
+impl Held {
+    // The state is the start, and the count is what filling answers.
+    fn take_rule(&mut self, rt: &HostRuntime, buffers: &mut Buffers) -> io::Result<()> {
+        let filled = buffers.read_rule(rt, 0, synthesis::fill)?;
+        self.count = filled_count(filled);
+        self.state = running::start();
+        Ok(())
     }
-    Step::Next(held)
-}
 
-fn take_part(held: Held, table: &mut [u16]) -> Step {
-    if !read_part(table) {
-        return Step::Ended;
+    // Runs, and prints what the run returns.
+    fn take_call(&mut self, rt: &HostRuntime, buffers: &mut Buffers, turn: u64) -> io::Result<()> {
+        let Held { count, state } = *self;
+        self.state = buffers.read_run(rt, turn, |table, scans, output, verdicts| {
+            let ran = running::run(table, count, state, scans, output, verdicts);
+            print_checked(rt, ran.checked)?;
+            print!(rt; " {} {} {}", ran.state.equation, ran.kept, ran.dropped)?;
+            Ok(ran.state)
+        })?;
+        Ok(())
     }
-    Step::Next(held)
-}
 
-// Fills the space with a rule file, and the table from it.
-fn read_rule(space: &mut [u8], table: &mut [u16]) -> Step {
-    if !read_whole(space) {
-        return Step::Ended;
-    }
-    let filled = synthesis::fill(space, table);
-    print_filled(filled);
-    Step::Next(Held {
-        count: filled_count(filled),
-        state: running::start(),
-    })
-}
-
-fn take_rule(space: &mut [u8], table: &mut [u16]) -> Step {
-    let Head::Number(n) = read_size(space.len()) else {
-        return Step::Ended;
-    };
-    read_rule(&mut space[..n], table)
-}
-
-fn take_count(held: Held) -> Step {
-    let Head::Number(count) = read_long() else {
-        return Step::Ended;
-    };
-    let state = held.state;
-    Step::Next(Held { count, state })
-}
-
-fn take_state(held: Held) -> Step {
-    let Head::Number(equation) = read_long() else {
-        return Step::Ended;
-    };
-    Step::Next(Held {
-        count: held.count,
-        state: State { equation },
-    })
-}
-
-fn begin(held: Held) -> Step {
-    Step::Next(Held {
-        count: held.count,
-        state: running::start(),
-    })
-}
-
-// Fills the space with the scans, runs, and prints what the run returns and leaves in the buffers.
-fn call(
-    held: Held,
-    table: &[u16],
-    scans: &mut [u8],
-    output: &mut [u8],
-    verdicts: &mut [u8],
-    turn: u64,
-) -> Step {
-    if !read_whole(scans) {
-        return Step::Ended;
-    }
-    prepare(output, turn, 7, 255);
-    prepare(verdicts, turn % 251, 11, 255);
-    let ran = running::run(table, held.count, held.state, scans, output, verdicts);
-    print_ran(ran);
-    print_digests(output, verdicts);
-    let state = ran.state;
-    Step::Next(Held {
-        count: held.count,
-        state,
-    })
-}
-
-fn take_call(
-    held: Held,
-    table: &[u16],
-    scans: &mut [u8],
-    output: &mut [u8],
-    verdicts: &mut [u8],
-    turn: u64,
-) -> Step {
-    let Head::Number(lent) = read_size(table.len()) else {
-        return Step::Ended;
-    };
-    let Head::Number(out) = read_size(output.len()) else {
-        return Step::Ended;
-    };
-    let Head::Number(ver) = read_size(verdicts.len()) else {
-        return Step::Ended;
-    };
-    let Head::Number(n) = read_size(scans.len()) else {
-        return Step::Ended;
-    };
-    call(
-        held,
-        &table[..lent],
-        &mut scans[..n],
-        &mut output[..out],
-        &mut verdicts[..ver],
-        turn,
-    )
-}
-
-// Takes the next record.
-fn take_record(
-    held: Held,
-    table: &mut [u16],
-    scans: &mut [u8],
-    output: &mut [u8],
-    verdicts: &mut [u8],
-    turn: u64,
-) -> Step {
-    match read_byte() {
-        b'f' => take_prepared(held, table),
-        b'w' => take_part(held, table),
-        b'r' => take_rule(scans, table),
-        b'n' => take_count(held),
-        b'b' => begin(held),
-        b's' => take_state(held),
-        b'c' => take_call(held, table, scans, output, verdicts, turn),
-        _ => Step::Ended,
+    // Takes the next record.
+    fn take_record(
+        &mut self,
+        rt: &HostRuntime,
+        buffers: &mut Buffers,
+        turn: u64,
+    ) -> io::Result<()> {
+        match read_byte(rt) {
+            b'f' => read_prepared(rt, &mut buffers.table),
+            b'w' => read_part(rt, &mut buffers.table),
+            b'r' => self.take_rule(rt, buffers),
+            b'n' => {
+                self.count = read_long(rt)?;
+                Ok(())
+            }
+            b'b' => {
+                self.state = running::start();
+                Ok(())
+            }
+            b's' => {
+                self.state.equation = read_long(rt)?;
+                Ok(())
+            }
+            b'c' => self.take_call(rt, buffers, turn),
+            _ => Err(Error::from(ErrorKind::InvalidData)),
+        }
     }
 }
 
-// A proved loop has to end, and nothing says that the input does: so it has as many turns as 64 bits can count.
-fn take_records(table: &mut [u16], scans: &mut [u8], output: &mut [u8], verdicts: &mut [u8]) {
+fn main(rt: HostRuntime) {
     let mut held = Held {
         count: 0,
         state: running::start(),
     };
-    let mut turn = 0;
-    while turn < u64::MAX {
-        let Step::Next(next) = take_record(held, table, scans, output, verdicts, turn) else {
-            return;
-        };
-        held = next;
-        turn += 1;
-    }
-}
-
-fn main() {
-    let mut table = [0u16; 262144];
-    let mut scans = [0u8; 65536];
-    let mut output = [0u8; 65536];
-    let mut verdicts = [0u8; 65536];
-    take_records(&mut table, &mut scans, &mut output, &mut verdicts);
+    let mut buffers = Buffers::new();
+    each_case(|turn| held.take_record(&rt, &mut buffers, turn));
 }

@@ -4,24 +4,23 @@
 // ends after the last.
 #![tactic(auto)]
 
-ghost use Rattle.std.specs.Prelude.{◌≤◌};
 ghost use Rattle.listing.specs.Positions.{Within};
 
 use listing::Line;
 use reading::NumberedRule;
+use std::io;
 use synthesis::Counted;
 use testing::{
-    Head, STDIN_FILENO, STDOUT_FILENO, digest, digest_entries, filled_count, prepare_entries,
-    print_field, print_refusal, read_long, read_size,
+    digest, each_case, filled_count, prepare, print_refusal, read_bounded, read_long, read_size,
 };
 
 // A listing has no more lines: two, one for each pattern, and one for each entry at most.
 const LINES: usize = 34 + 256 * synthesis::MOST;
 
 // 2^56: 256 times this is 2^64. And 2^55: the bytes of so many rows are 2^64.
-const WRAPPING: usize = 72057594037927936;
+const WRAPPING: usize = 1 << 56;
 
-const WRAPPING_BYTES: usize = 36028797018963968;
+const WRAPPING_BYTES: usize = 1 << 55;
 
 // A text of several parts, or rows: how long they are together, and the digest of them all.
 #[derive(Clone, Copy)]
@@ -34,30 +33,19 @@ struct Summary {
 fn rows_summary(table: &[u16], n: usize) -> Summary {
     let mut len = 0;
     let mut sum = 0;
-    let mut k = 0;
-    while k < n {
+    for k in 0..n {
         let row = synthesis::row(table, k);
         len += row.len();
-        sum = digest_entries(sum, row);
-        k += 1;
+        sum = digest(sum, row);
     }
     Summary { len, digest: sum }
-}
-
-// How long the text of a line is: an array of 64 has no longer one.
-fn line_len(line: Line) -> usize
-    ensures { result ≤ 64 }
-{
-    if line.len < 64 { line.len } else { 64 }
 }
 
 // The digest that the digits of `high` and then the text of a line make.
 fn line_digest(high: u64, line: Line) -> u64
     requires { Within line }
 {
-    let bytes = line.bytes;
-    let n = line.len;
-    digest(high, &bytes[..n])
+    digest(high, &line.bytes[..line.len])
 }
 
 // The listing of a rule and its table.
@@ -65,17 +53,14 @@ fn listing_summary(rule: NumberedRule, table: &[u16], count: usize) -> Summary {
     let mut len = 0;
     let mut sum = 0;
     let mut at = 0;
-    let mut left = LINES;
-    while 0 < left {
+    for _line in 0..LINES {
         let this = listing::listing_line(rule, table, count, at);
-        let line = this.line;
-        if line.len == 0 {
-            return Summary { len, digest: sum };
+        if this.line.len == 0 {
+            break;
         }
-        len += line_len(line);
-        sum = line_digest(sum, line);
+        len += this.line.len;
+        sum = line_digest(sum, this.line);
         at = this.next;
-        left -= 1;
     }
     Summary { len, digest: sum }
 }
@@ -92,147 +77,132 @@ fn refusal_summary(number: u8, place: usize) -> Summary {
 // What the program `equations` prints of a file on which filling gives this answer and leaves this table.
 fn text_summary(answer: Counted, file: &[u8], table: &[u16]) -> Summary {
     match answer {
-        Counted::Equations(count) => {
-            let reading = reading::read_rule(file);
-            listing_summary(reading.rule, table, count)
-        }
+        Counted::Equations(count) => listing_summary(reading::read_rule(file).rule, table, count),
         Counted::Refused(number, place) => refusal_summary(number, place),
     }
 }
 
-fn print_summary(summary: Summary) {
-    print_field(summary.len as u64);
-    print_field(summary.digest);
+fn print_summary(rt: &HostRuntime, summary: Summary) -> io::Result<()> {
+    print!(rt; " {} {}", summary.len, summary.digest)
 }
 
 // A row, but for an empty one.
-fn print_row(table: &[u16], k: usize) {
+fn print_row(rt: &HostRuntime, table: &[u16], k: usize) -> io::Result<()> {
     let row = synthesis::row(table, k);
-    if row.len() == 0 {
-        return;
+    if row.is_empty() {
+        return Ok(());
     }
-    print_field(k as u64);
-    print_field(row.len() as u64);
-    print_field(digest_entries(0, row));
+    print!(rt; " {k} {} {}", row.len(), digest(0, row))
 }
 
 // The first n rows together, and some others by themselves.
-fn print_rows(table: &[u16], n: usize) {
-    io::write_all(STDOUT_FILENO, b" rows");
-    print_summary(rows_summary(table, n));
-    print_row(table, n);
-    print_row(table, 127);
-    print_row(table, 128);
-    print_row(table, 155);
-    print_row(table, 156);
-    print_row(table, 999);
-    print_row(table, 1000);
-    print_row(table, 1023);
-    print_row(table, WRAPPING_BYTES);
-    print_row(table, WRAPPING);
-    print_row(table, usize::MAX);
+fn print_rows(rt: &HostRuntime, table: &[u16], n: usize) -> io::Result<()> {
+    print!(rt; " rows")?;
+    print_summary(rt, rows_summary(table, n))?;
+    let others = [
+        n,
+        127,
+        128,
+        155,
+        156,
+        999,
+        1000,
+        1023,
+        WRAPPING_BYTES,
+        WRAPPING,
+        usize::MAX,
+    ];
+    for k in others {
+        print_row(rt, table, k)?;
+    }
+    Ok(())
 }
 
 // What counting or filling answers: the number of equations, or a refusal.
-fn print_answer(answer: Counted) {
+fn print_answer(rt: &HostRuntime, answer: Counted) -> io::Result<()> {
     match answer {
-        Counted::Equations(n) => {
-            io::print_decimal(STDOUT_FILENO, n as u64);
-        }
-        Counted::Refused(number, place) => {
-            print_refusal(number, place);
-        }
+        Counted::Equations(count) => print!(rt; "{count}"),
+        Counted::Refused(number, place) => print_refusal(rt, number, place),
     }
 }
 
 // What counting answers, and what filling answers and leaves in the table.
-fn print_filled(counted: Counted, filled: Counted, table: &[u16]) {
-    print_answer(counted);
-    io::write_all(STDOUT_FILENO, b" ");
-    print_answer(filled);
-    print_field(digest_entries(0, table));
+fn print_filled(
+    rt: &HostRuntime,
+    counted: Counted,
+    filled: Counted,
+    table: &[u16],
+) -> io::Result<()> {
+    print_answer(rt, counted)?;
+    print!(rt; " ")?;
+    print_answer(rt, filled)?;
+    print!(rt; " {}", digest(0, table))
 }
 
 // The same, and what is listed of it.
-fn print_answers(counted: Counted, filled: Counted, file: &[u8], table: &[u16]) {
-    print_filled(counted, filled, table);
-    print_summary(text_summary(filled, file, table));
+fn print_answers(
+    rt: &HostRuntime,
+    counted: Counted,
+    filled: Counted,
+    file: &[u8],
+    table: &[u16],
+) -> io::Result<()> {
+    print_filled(rt, counted, filled, table)?;
+    print_summary(rt, text_summary(filled, file, table))
 }
 
-fn answer_long(rule: &[u8], table: &mut [u16]) {
+fn answer_long(rt: &HostRuntime, rule: &[u8], table: &mut [u16]) -> io::Result<()> {
     let counted = synthesis::count(rule);
     let filled = synthesis::fill(rule, table);
-    print_answers(counted, filled, rule, table);
-    print_rows(table, filled_count(filled));
+    print_answers(rt, counted, filled, rule, table)?;
+    print_rows(rt, table, filled_count(filled))
 }
 
-fn answer_page(rule: &[u8], table: &mut [u16]) {
-    io::write_all(STDOUT_FILENO, b" page ");
+fn answer_page(rt: &HostRuntime, rule: &[u8], table: &mut [u16]) -> io::Result<()> {
+    print!(rt; " page ")?;
     let counted = synthesis::count_preview(rule);
     let filled = synthesis::fill_preview(rule, table);
-    print_answers(counted, filled, rule, table);
+    print_answers(rt, counted, filled, rule, table)
 }
 
-fn answer_short(rule: &[u8], table: &mut [u16]) {
-    io::write_all(STDOUT_FILENO, b" short ");
+fn answer_short(rt: &HostRuntime, rule: &[u8], table: &mut [u16]) -> io::Result<()> {
+    print!(rt; " short ")?;
     let counted = synthesis::count_short(rule);
     let filled = synthesis::fill_short(rule, table);
-    print_answers(counted, filled, rule, table);
+    print_answers(rt, counted, filled, rule, table)
 }
 
-fn answer_within(rule: &[u8], limit: usize, table: &mut [u16]) {
-    io::write_all(STDOUT_FILENO, b" within ");
+fn answer_within(rt: &HostRuntime, rule: &[u8], limit: usize, table: &mut [u16]) -> io::Result<()> {
+    print!(rt; " within ")?;
     let counted = synthesis::count_within(rule, limit);
     let filled = synthesis::fill_within(rule, limit, table);
-    print_filled(counted, filled, table);
-    io::write_all(STDOUT_FILENO, b"\n");
+    print_filled(rt, counted, filled, table)?;
+    println!(rt)
 }
 
 // Sets the table that is lent to a filling: entry i is case + 263 × i, modulo 65,521.
 fn refresh(table: &mut [u16], case: u64) {
-    prepare_entries(table, case, 263, 65520);
+    prepare(table, case, 263, 65520);
 }
 
-// Fills the space with a rule file, answers it, and says whether the file was whole.
-fn answer_file(space: &mut [u8], limit: usize, table: &mut [u16], case: u64) -> bool {
-    if io::read_full(STDIN_FILENO, space) < space.len() {
-        return false;
-    }
+// Answers the next case.
+fn answer_case(rt: &HostRuntime, space: &mut [u8], table: &mut [u16], case: u64) -> io::Result<()> {
+    let size = read_size(rt, table.len())?;
+    let limit = read_long(rt)?;
+    let rule = read_bounded(rt, space)?;
+    let table = &mut table[..size];
     refresh(table, case);
-    answer_long(space, table);
+    answer_long(rt, rule, table)?;
     refresh(table, case);
-    answer_page(space, table);
+    answer_page(rt, rule, table)?;
     refresh(table, case);
-    answer_short(space, table);
+    answer_short(rt, rule, table)?;
     refresh(table, case);
-    answer_within(space, limit, table);
-    true
+    answer_within(rt, rule, limit, table)
 }
 
-// Answers the next case, and says whether there was one.
-fn answer_case(space: &mut [u8], table: &mut [u16], case: u64) -> bool {
-    let Head::Number(size) = read_size(table.len()) else {
-        return false;
-    };
-    let Head::Number(limit) = read_long() else {
-        return false;
-    };
-    let Head::Number(n) = read_size(space.len()) else {
-        return false;
-    };
-    answer_file(&mut space[..n], limit, &mut table[..size], case)
-}
-
-// A proved loop has to end, and nothing says that the input does: so it has as many turns as 64 bits can count.
-fn answer_cases(space: &mut [u8], table: &mut [u16]) {
-    let mut case = 0;
-    while case < u64::MAX && answer_case(space, table, case) {
-        case += 1;
-    }
-}
-
-fn main() {
+fn main(rt: HostRuntime) {
     let mut space = [0u8; 1024];
     let mut table = [0u16; 262144];
-    answer_cases(&mut space, &mut table);
+    each_case(|case| answer_case(&rt, &mut space, &mut table, case));
 }

@@ -1,9 +1,14 @@
 -- Numbers in any base, digests, and the count in an answer.
+<<<<<<< HEAD
 use Rattle.std.specs.Prelude.{ℕ, ◌+◌, ◌*◌, ◌%◌, ◌≤◌, List, [], ◌∷◌}
 use Rattle.testing.specs.declared.numbers.Head.{Head}
 use Rattle.testing.specs.declared.numbers.Head.TheVariants.{Number, Ended}
 use Rattle.testing.specs.declared.records.Part.{Part}
 use Rattle.testing.specs.declared.records.Part.TheVariants.{Between, Outside}
+=======
+use Rattle.std.specs.Prelude.{ℕ, ◌+◌, ◌*◌, ◌%◌, List, [], ◌∷◌}
+use Rattle.reading.specs.File.{Outcome, accepted, refused}
+>>>>>>> 9154efe1d7289a34ebb21e63b71a5fecee8f9a99
 
 -- the number that the digits of `high` and then these make, highest first
 abbrev pub number_of : (base high : ℕ) → List ℕ → ℕ
@@ -13,16 +18,6 @@ number_of base high (d ∷ ds) = number_of base (high * base + d) ds
 -- its digest, which is the rest modulo a prime
 abbrev pub digest_of : (base high : ℕ) → List ℕ → ℕ
 digest_of base high digits = number_of base high digits % 1000000007
-
--- a number that was read is at most the limit
-abbrev pub AtMost : (limit : ℕ) → Head → Type 0
-AtMost limit (Number n) = n ≤ limit
-AtMost limit Ended = Unit
-
--- a part that was read is inside what is so long
-abbrev pub Inside : (len : ℕ) → Part → Type 0
-Inside len (Between at end) = (at ≤ end) × (end ≤ len)
-Inside len Outside = Unit
 
 -- how many equations an answer says; none where it is a refusal
 abbrev pub count_in : Outcome ℕ → ℕ

@@ -1,33 +1,18 @@
 // Digests of bytes and of entries.
-ghost use Rattle.std.specs.Prelude.{◌≡◌};
+ghost use Rattle.std.specs.Prelude.{◌≡◌, map};
 ghost use Rattle.testing.specs.Numbers.{digest_of};
 
-use crate::numbers::{wide, wide_entry};
+use crate::digits::Digit;
 
 const PRIME: u64 = 1000000007;
 
-// The number that the digits of `high` and then the bytes make in base 256, modulo the prime.
-pub fn digest(high: u64, bytes: &[u8]) -> u64
-    ensures { result ≡ digest_of 256 high bytes.now }
+// The number that the digits of `high` and then these make in their base, modulo the prime.
+pub fn digest<D: Digit>(high: u64, digits: &[D]) -> u64
+    ensures { result ≡ digest_of D.BASE high (map D.number_of digits.now) }
 {
     let mut sum = high % PRIME;
-    let mut i = 0;
-    while i < bytes.len() {
-        sum = (sum * 256 + wide(bytes[i])) % PRIME;
-        i += 1;
-    }
-    sum
-}
-
-// The same of entries in base 65,536.
-pub fn digest_entries(high: u64, entries: &[u16]) -> u64
-    ensures { result ≡ digest_of 65536 high entries.now }
-{
-    let mut sum = high % PRIME;
-    let mut i = 0;
-    while i < entries.len() {
-        sum = (sum * 65536 + wide_entry(entries[i])) % PRIME;
-        i += 1;
+    for digit in digits {
+        sum = (sum * D::BASE + digit.wide()) % PRIME;
     }
     sum
 }

@@ -1,21 +1,23 @@
 // What the test programs share. The definitions that the contracts cite stand in specs/.
 #![tactic(auto)]
 
+mod buffers;
+mod cases;
 mod digests;
+mod digits;
 mod numbers;
 mod preparing;
 mod printing;
 mod records;
 
-pub use digests::{digest, digest_entries};
-pub use numbers::{Head, read_byte, read_long, read_size};
-pub use preparing::{prepare, prepare_entries};
+pub use buffers::Buffers;
+pub use cases::each_case;
+pub use digests::digest;
+pub use digits::Digit;
+pub use numbers::{read_byte, read_long, read_size};
+pub use preparing::prepare;
 pub use printing::{
-    filled_count, print_counted, print_digests, print_field, print_filled, print_refusal,
+    filled_count, print_checked, print_counted, print_digests, print_filled, print_judged,
+    print_refusal,
 };
-pub use records::{read_part, read_prepared, read_whole};
-
-// The numbers of standard input and of standard output.
-pub const STDIN_FILENO: i32 = 0;
-
-pub const STDOUT_FILENO: i32 = 1;
+pub use records::{read_bounded, read_part, read_prepared, read_whole};

@@ -1,33 +1,17 @@
 // Buffers and tables with bytes and entries that are known.
-ghost use Rattle.std.specs.Prelude.{◌≡◌, ◌+◌, length};
+ghost use Rattle.std.specs.Prelude.{◌≡◌, ◌+◌, length, map};
 ghost use Rattle.testing.specs.Preparing.{prepared};
 
-use crate::numbers::{wide, wide_entry};
+use crate::digits::Digit;
 
-// Sets every byte of a buffer: byte i is first + step × i, modulo top + 1.
-pub fn prepare(buf: &mut [u8], first: u64, step: u8, top: u8)
-    ensures { buf.new ≡ prepared (top + 1) first step (length buf.old) }
+// Sets every byte of a buffer, or every entry of a table: number i is first + step × i, modulo top + 1.
+pub fn prepare<D: Digit>(digits: &mut [D], first: u64, step: D, top: D)
+    ensures { map D.number_of digits.new ≡ prepared (D.number_of top + 1) first (D.number_of step) (length digits.old) }
 {
-    let size = wide(top) + 1;
-    let mut byte = first % size;
-    let mut i = 0;
-    while i < buf.len() {
-        buf[i] = byte as u8;
-        byte = (byte + wide(step)) % size;
-        i += 1;
-    }
-}
-
-// The same of a table: entry i is first + step × i, modulo top + 1.
-pub fn prepare_entries(table: &mut [u16], first: u64, step: u16, top: u16)
-    ensures { table.new ≡ prepared (top + 1) first step (length table.old) }
-{
-    let size = wide_entry(top) + 1;
-    let mut entry = first % size;
-    let mut i = 0;
-    while i < table.len() {
-        table[i] = entry as u16;
-        entry = (entry + wide_entry(step)) % size;
-        i += 1;
+    let size = top.wide() + 1;
+    let mut next = first % size;
+    for digit in digits.iter_mut() {
+        *digit = D::narrow(next);
+        next = (next + step.wide()) % size;
     }
 }

@@ -2,48 +2,51 @@
 ghost use Rattle.std.specs.Prelude.{◌≡◌};
 ghost use Rattle.testing.specs.Numbers.{count_in};
 
-use crate::STDOUT_FILENO;
 use crate::digests::digest;
+use models::Judged;
+use running::Checked;
+use std::io;
 use synthesis::Counted;
 
-// Prints a space and a number.
-pub fn print_field(n: u64) {
-    io::write_all(STDOUT_FILENO, b" ");
-    io::print_decimal(STDOUT_FILENO, n);
-}
-
 // Prints the number and the place of a refusal.
-pub fn print_refusal(number: u8, place: usize) {
-    io::write_all(STDOUT_FILENO, b"refused");
-    print_field(number as u64);
-    io::write_all(STDOUT_FILENO, b" at");
-    print_field(place as u64);
+pub fn print_refusal(rt: &HostRuntime, number: u8, place: usize) -> io::Result<()> {
+    print!(rt; "refused {number} at {place}")
 }
 
 // Prints what counting or filling answers.
-pub fn print_counted(answer: Counted) {
+pub fn print_counted(rt: &HostRuntime, answer: Counted) -> io::Result<()> {
     match answer {
-        Counted::Equations(n) => {
-            io::write_all(STDOUT_FILENO, b"equations");
-            print_field(n as u64);
-        }
-        Counted::Refused(number, place) => {
-            print_refusal(number, place);
-        }
+        Counted::Equations(count) => print!(rt; "equations {count}"),
+        Counted::Refused(number, place) => print_refusal(rt, number, place),
     }
 }
 
 // Prints a line with what filling answers.
-pub fn print_filled(answer: Counted) {
-    print_counted(answer);
-    io::write_all(STDOUT_FILENO, b"\n");
+pub fn print_filled(rt: &HostRuntime, answer: Counted) -> io::Result<()> {
+    print_counted(rt, answer)?;
+    println!(rt)
+}
+
+// Prints whether a run was refused.
+pub fn print_checked(rt: &HostRuntime, answer: Checked) -> io::Result<()> {
+    match answer {
+        Checked::Fit => print!(rt; "fit"),
+        Checked::Refused(number, place) => print_refusal(rt, number, place),
+    }
+}
+
+// Prints what is judged.
+pub fn print_judged(rt: &HostRuntime, judged: Judged) -> io::Result<()> {
+    match judged {
+        Judged::Meets => print!(rt; "meets"),
+        Judged::Breaks => print!(rt; "breaks"),
+        Judged::Refused(number, place) => print_refusal(rt, number, place),
+    }
 }
 
 // Ends a line with the digests of two buffers.
-pub fn print_digests(output: &[u8], verdicts: &[u8]) {
-    print_field(digest(0, output));
-    print_field(digest(0, verdicts));
-    io::write_all(STDOUT_FILENO, b"\n");
+pub fn print_digests(rt: &HostRuntime, output: &[u8], verdicts: &[u8]) -> io::Result<()> {
+    println!(rt; " {} {}", digest(0, output), digest(0, verdicts))
 }
 
 // How many equations filling answered, and so how many rows it wrote.
@@ -51,7 +54,7 @@ pub fn filled_count(answer: Counted) -> usize
     ensures { result ≡ count_in answer }
 {
     match answer {
-        Counted::Equations(n) => n,
+        Counted::Equations(count) => count,
         Counted::Refused(_, _) => 0,
     }
 }

@@ -14,4 +14,4 @@ pub loop-lap-preserved : goal.loop-lap-preserved
 loop-lap-preserved c =
     let counts = lap_counts most mark c.args.tables.now c.loop-lap.duty c.args.scans.now (length c.loop-lap.output) (length c.loop-lap.verdicts)
     c.run_on_duty-ran.ensures.value in
-    (omega arith, omega (arith, counts), omega (arith, counts), search rules, search rules)
+    (omega (arith, counts), omega (arith, counts))

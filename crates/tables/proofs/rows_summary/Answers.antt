@@ -18,6 +18,6 @@ row_more table k len before within = on (dec_lt 0 (length (row_of 256 table k)))
 pub loop-k-preserved : goal.loop-k-preserved
 loop-k-preserved c =
     let inv = c.loop-k.invariant in
-    let more = row_more c.args.table.now c.loop-k.k c.loop-k.len inv.1 inv.2 in
+    let more = row_more c.args.table.now c.loop-k.k c.loop-k.len inv.0 inv.1 in
     let row = ap length c.row-row.ensures in
-    (omega arith, omega (arith, more, row), omega (arith, more, row))
+    (omega (arith, more, row), omega (arith, more, row))

@@ -1,12 +1,23 @@
-use Rattle.std.proofs.Common.{arith}
-use Rattle.testing.proofs.PreparingLaws.{preparing_start, preparing_next, preparing_end}
+use Rattle.std.proofs.Common.{ℕ, ◌≡◌, ◌≤◌, ◌<◌, ◌%◌, ◌+◌, arith, rules, mod-lt}
+use Rattle.testing.specs.Preparing.{prepared}
+use Rattle.testing.proofs.PreparingLaws.{prepared_more, next_more}
 use Rattle.testing.proofs.preparing.prepare.Goals as goal
 
-pub loop-i-init : goal.loop-i-init
-loop-i-init c = preparing_start _ _ _ _ (omega arith)
+pub loop-digit-init : goal.loop-digit-init
+unfolding prepared
+loop-digit-init g c = search rules
 
-pub loop-i-preserved : goal.loop-i-preserved
-loop-i-preserved c = rw c.wide.ensures.value (preparing_next _ _ _ _ c.loop-i.buf c.loop-i.byte c.loop-i.i c.loop-i.invariant (omega arith))
+-- what comes next is below the size, and so below the base
+below_base : (n : ℕ) {next size base : ℕ} → next ≡ n % size → 0 < size → size ≤ base → next < base
+below_base n e some fits = let below = mod-lt n some in omega (arith, below, e)
 
-pub returns : goal.returns
-returns c = rw (← c.wide-size.ensures.value) (preparing_end _ _ _ _ c.loop-i.buf c.loop-i.byte c.loop-i.i c.loop-i.invariant (omega arith))
+pub narrow-requires : goal.narrow-requires
+narrow-requires g c = below_base _ c.loop-digit.invariant.1 (omega arith) (omega arith)
+
+pub loop-digit-preserved : goal.loop-digit-preserved
+loop-digit-preserved g c =
+    let inv = c.loop-digit.invariant in (
+      prepared_more _ _ _ g.D.Digit.number_of c.loop-digit.digits c.loop-digit.digit-index c.narrow.result (omega arith) inv.0
+          c.narrow.ensures inv.1,
+      rw (inv.1, c.wide.ensures.value) (next_more _ _ _ c.loop-digit.digit-index),
+    )

@@ -1,10 +1,8 @@
-use Prim.Native.Nat.{◌-◌}
-use lib.ListN.{length}
-use Rattle.testing.proofs.PreparingLaws.{Preparing}
+use Rattle.std.proofs.Common.{◌≡◌, ◌+◌, ◌*◌, ◌%◌, map, take}
+use Rattle.testing.specs.Preparing.{prepared}
 use Rattle.testing.proofs.preparing.prepare.Given as goal
 
-abbrev pub invariant-loop-i : goal.invariant-loop-i
-invariant-loop-i l = Preparing l.size l.first l.step l.initial.buf l.buf l.byte l.i
-
-abbrev pub decreases-loop-i : goal.decreases-loop-i
-decreases-loop-i l = length l.initial.buf - l.i
+abbrev pub invariant-loop-digit : goal.invariant-loop-digit
+invariant-loop-digit g l =
+    (map g.D.Digit.number_of (take l.digit-index l.digits) ≡ prepared l.size l.first (g.D.Digit.number_of l.step) l.digit-index)
+    × (l.next ≡ (l.first + g.D.Digit.number_of l.step * l.digit-index) % l.size)
