@@ -1,14 +1,6 @@
 -- Numbers in any base, digests, and the count in an answer.
-<<<<<<< HEAD
-use Rattle.std.specs.Prelude.{ℕ, ◌+◌, ◌*◌, ◌%◌, ◌≤◌, List, [], ◌∷◌}
-use Rattle.testing.specs.declared.numbers.Head.{Head}
-use Rattle.testing.specs.declared.numbers.Head.TheVariants.{Number, Ended}
-use Rattle.testing.specs.declared.records.Part.{Part}
-use Rattle.testing.specs.declared.records.Part.TheVariants.{Between, Outside}
-=======
 use Rattle.std.specs.Prelude.{ℕ, ◌+◌, ◌*◌, ◌%◌, List, [], ◌∷◌}
 use Rattle.reading.specs.File.{Outcome, accepted, refused}
->>>>>>> 9154efe1d7289a34ebb21e63b71a5fecee8f9a99
 
 -- the number that the digits of `high` and then these make, highest first
 abbrev pub number_of : (base high : ℕ) → List ℕ → ℕ
