@@ -10,8 +10,9 @@ use lib.ListN.{length, get_or, drop, length-append, length-take, length-map, dro
 use lib.Seq.{take-append_seam, drop-cons, get_or-take, length-take-le, take_at}
 use borrow.Author.Tests.{ne_eqb, ltb-true, ltb-false}
 use Rattle.reading.specs.Pattern.{extent_of}
-use Rattle.reading.specs.Numbered.{numbered, no_extent}
+use Rattle.reading.specs.Numbered.{numbered, no_extent, listed, none_listed}
 use Rattle.reading.specs.declared.Extent.{Extent}
+use Rattle.reading.specs.declared.Pattern.{Pattern}
 use Rattle.reading.specs.declared.NumberedRule.{NumberedRule}
 use Rattle.reading.proofs.Numbering.NumberedLaws.{padded_long}
 use Rattle.synthesis.specs.Monitor.{mark, row_of, meaning}
@@ -19,10 +20,11 @@ use Rattle.synthesis.proofs.Tables.Rows.{row_none, row_inside, row_short}
 use Rattle.listing.specs.Text.{text, decimal}
 use Rattle.listing.specs.Runs.{runs_from, RunTo}
 use Rattle.listing.specs.Lines.{spaced, line, lowest_text, answer_text, run_lines, row_lines, pattern_line, pattern_lines, listing}
-use Rattle.listing.specs.Positions.{line_then, no_line, row_line_at, line_at, pattern_count, extents_of, listing_line_at, lines_from}
+use Rattle.listing.specs.Positions.{extent_in, extents, line_then, no_line, row_line_at, line_at, pattern_count, extents_of, listing_line_at, lines_from}
 use Rattle.listing.specs.Promises.{ListsAll, ListsRule}
 use Rattle.listing.proofs.RunLaws.{first_run, no_runs, some_run}
 use Rattle.listing.proofs.LineLaws.{past_last, past_row, at_run, at_patterns, at_pattern, at_equations, at_row}
+use Rattle.std.proofs.lemmas.List.{take-map}
 
 -- after a row that isn't wholly inside the table there is no line
 row_lines-none : (table : List ℕ) (k many : ℕ) → length table < 256 * k + 256 → row_lines table k many ≡ []
@@ -80,7 +82,7 @@ module _ (rule : NumberedRule) (table : List ℕ) (count : ℕ) where
 
   line_at_lem : (k c : ℕ) → c < 256 → listing_line_at rule table count (place k c) ≡ row_line_at table count (n + 2) k c (place k c)
   unfolding listing_line_at
-  line_at_lem k c h = at_code n rule.extents table count k c h
+  line_at_lem k c h = at_code n (extents rule) table count k c h
 
   -- the equations from k on
   rows_complete : (most : ℕ) → RunsComplete most → (k many : ℕ) → k + many ≡ count → 256 * many ≤ most
@@ -126,55 +128,60 @@ module _ (rule : NumberedRule) (table : List ℕ) (count : ℕ) where
   -- ---- the patterns
 
   pattern_line_lem : (i : ℕ) → i < n
-      → listing_line_at rule table count (suc i) ≡ line_then (pattern_line i (get_or rule.extents i no_extent)) (suc (suc i))
+      → listing_line_at rule table count (suc i) ≡ line_then (pattern_line i (get_or (extents rule) i no_extent)) (suc (suc i))
   unfolding listing_line_at
   pattern_line_lem i h =
       let this : suc i - 1 ≡ i = omega arith in
       let next : suc i + 1 ≡ suc (suc i) = omega arith in
-      at_pattern n rule.extents table count (suc i) (λ z. omega arith) h ∙ rw (this, next)
+      at_pattern n (extents rule) table count (suc i) (λ z. omega arith) h ∙ rw (this, next)
 
-  patterns_complete : length rule.extents ≡ 32 → (more most all i : ℕ) → all ≡ more + most → i + more ≡ n
+  patterns_complete : length (extents rule) ≡ 32 → (more most all i : ℕ) → all ≡ more + most → i + more ≡ n
       → from all (suc i) ≡ pattern_lines i (drop i (extents_of rule)) ++ from most (suc n)
   patterns_complete extents-length zero most all i a e =
       let is : all ≡ most = omega arith in
       let last : i ≡ n = omega arith in
-      rw (is, last, drop_of_length-le (extents_of rule) {i = n} (omega (arith, length-take n rule.extents)))
+      rw (is, last, drop_of_length-le (extents_of rule) {i = n} (omega (arith, length-take n (extents rule))))
   patterns_complete extents-length (suc more) most all i a e =
       let is : all ≡ suc (more + most) = omega arith in
-      let x = get_or rule.extents i no_extent in
+      let x = get_or (extents rule) i no_extent in
       let fields = text "p" ∷ decimal i ∷ lowest_text x.lowest ∷ decimal x.count ∷ [] in
-      let inside : i < length (extents_of rule) = omega (arith, length-take-le n rule.extents (omega arith)) in
-      rw (is, drop-cons (extents_of rule) i no_extent inside, get_or-take n rule.extents i no_extent (omega arith))
+      let inside : i < length (extents_of rule) = omega (arith, length-take-le n (extents rule) (omega arith)) in
+      rw (is, drop-cons (extents_of rule) i no_extent inside, get_or-take n (extents rule) i no_extent (omega arith))
       (lines_from-line (more + most) (suc i) (suc (suc i)) fields (pattern_line_lem i (omega arith))
       ∙ rw (patterns_complete extents-length more most (more + most) (suc i) refl (omega arith)) (sym (append_assoc (line fields) _ _)))
 
   -- ---- all lines
 
-  lines_complete : length rule.extents ≡ 32 → (most : ℕ) → 256 * count ≤ most
+  lines_complete : length (extents rule) ≡ 32 → (most : ℕ) → 256 * count ≤ most
       → from (suc (n + suc most)) 0 ≡ listing (extents_of rule) count table
   unfolding listing listing_line_at
   lines_complete extents-length most h =
-      let many : length (extents_of rule) ≡ n = length-take-le n rule.extents (omega arith) in
+      let many : length (extents_of rule) ≡ n = length-take-le n (extents rule) (omega arith) in
       let next : suc n + 1 ≡ place 0 0 = omega arith in
-      let first = lines_from-line (n + suc most) 0 1 (text "patterns" ∷ decimal n ∷ []) (at_patterns n rule.extents table count 0 refl) in
+      let first = lines_from-line (n + suc most) 0 1 (text "patterns" ∷ decimal n ∷ []) (at_patterns n (extents rule) table count 0 refl) in
       let patterns = patterns_complete extents-length n (suc most) (n + suc most) 0 refl (omega arith) in
       let equations = lines_from-line most (suc n) (suc n + 1) (text "equations" ∷ decimal count ∷ [])
-      (at_equations n rule.extents table count (suc n) (omega arith)) in
+      (at_equations n (extents rule) table count (suc n) (omega arith)) in
       let rows = rows_complete most (runs_complete most) 0 count (omega arith) h in
       rw (first, patterns, equations, next, rows, many)
 
 pub lists_all : ListsAll
-lists_all rule table count most extents-length h =
+lists_all rule table count most patterns-length h =
     let m = most - (pattern_count rule + 2) in
     let is : most ≡ suc (pattern_count rule + suc m) = omega arith in
-    rw is (lines_complete rule table count extents-length m (omega arith))
+    rw is (lines_complete rule table count (length-map rule.patterns extent_in ∙ patterns-length) m (omega arith))
+
+extents_listed : (ps : List Pattern) → map extent_in (map listed ps) ≡ map extent_of ps
+extents_listed [] = refl
+extents_listed (p ∷ ps) = ap (λ (l : List Extent). extent_of p ∷ l) (extents_listed ps)
 
 pub lists_rule : ListsRule
 lists_rule r table count most w h =
     let ps = r.patterns in
-    let es = map extent_of ps in
-    let same : length es ≡ length ps = length-map ps extent_of in
-    let extents-length : length (numbered r).extents ≡ 32 = padded_long no_extent 32 es (omega (arith, w.few_patterns)) in
+    let ls = map listed ps in
+    let same : length ls ≡ length ps = length-map ps listed in
+    let long : length (numbered r).patterns ≡ 32 = padded_long none_listed 32 ls (omega (arith, w.few_patterns)) in
     let n : pattern_count (numbered r) ≡ length ps = omega (arith, w.few_patterns) in
-    let these : extents_of (numbered r) ≡ es = rw n (take_at es _ (length ps) same) in
-    lists_all (numbered r) table count most extents-length h ∙ ap (λ (l : List Extent). listing l count table) these
+    let these : extents_of (numbered r) ≡ map extent_of ps =
+    rw (n, take-map extent_in (length ps) (numbered r).patterns, take_at ls _ (length ps) same) (extents_listed ps) in
+    lists_all (numbered r) table count most long h ∙ ap (λ (l : List Extent). listing l count table) these

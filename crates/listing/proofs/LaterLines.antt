@@ -10,7 +10,7 @@ use borrow.Author.Tests.{eqb-true, eqb-false, leb-true, leb-false, ltb-true, ltb
 use Rattle.reading.specs.declared.Extent.{Extent}
 use Rattle.reading.specs.declared.NumberedRule.{NumberedRule}
 use Rattle.synthesis.specs.Monitor.{row_of}
-use Rattle.listing.specs.Positions.{no_line, line_at, pattern_count, listing_line_at}
+use Rattle.listing.specs.Positions.{extents, no_line, line_at, pattern_count, listing_line_at}
 use Rattle.listing.specs.declared.ListingLine.{ListingLine}
 use Rattle.listing.proofs.RunLaws.{some_run}
 use Rattle.synthesis.proofs.Tables.Rows.{row_inside}
@@ -72,5 +72,5 @@ pub listing_line_later : (rule : NumberedRule) (table : List ℕ) (count at : �
     → (at < (listing_line_at rule table count at).next) × ((listing_line_at rule table count at).next ≤ 34 + 256 * count)
 unfolding listing_line_at
 listing_line_later rule table count at some =
-    let (after, inside) = line_later (pattern_count rule) rule.extents table count at some in
+    let (after, inside) = line_later (pattern_count rule) (extents rule) table count at some in
     (after, omega arith)

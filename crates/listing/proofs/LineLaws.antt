@@ -11,7 +11,7 @@ use Rattle.reading.specs.declared.NumberedRule.{NumberedRule}
 use Rattle.synthesis.specs.Monitor.{row_of}
 use Rattle.listing.specs.Runs.{code_run, RunTo}
 use Rattle.listing.specs.Lines.{patterns_line, pattern_line, equations_line, run_line}
-use Rattle.listing.specs.Positions.{Within, line_then, no_line, row_line_at, line_at, pattern_count, listing_line_at}
+use Rattle.listing.specs.Positions.{extents, Within, line_then, no_line, row_line_at, line_at, pattern_count, listing_line_at}
 use Rattle.listing.specs.LineParts.{Prints, Gives}
 use Rattle.listing.specs.declared.Line.{Line}
 use Rattle.listing.specs.declared.ListingLine.{ListingLine}
@@ -59,6 +59,6 @@ gives_line next next' e p =
     record { is = ap₂ (λ (l : Line) (n : ℕ). record { line = l; next = n }) p.is e; within = p.within }
 
 pub listed : (rule : NumberedRule) (table : List ℕ) (count at n : ℕ) {l : ListingLine} → n ≡ pattern_count rule
-    → Gives (line_at n rule.extents table count at) l → (l ≡ listing_line_at rule table count at) × Within l.line
+    → Gives (line_at n (extents rule) table count at) l → (l ≡ listing_line_at rule table count at) × Within l.line
 unfolding listing_line_at
-listed rule table count at n e g = (g.is ∙ ap (λ (m : ℕ). line_at m rule.extents table count at) e, g.within)
+listed rule table count at n e g = (g.is ∙ ap (λ (m : ℕ). line_at m (extents rule) table count at) e, g.within)

@@ -1,7 +1,5 @@
 -- The lines of a listing, and all of them.
-use Rattle.std.specs.Prelude.{ℕ, zero, suc, Bool, true, false, List, [], ◌∷◌, ◌++◌, length}
-use Rattle.reading.specs.declared.Lowest.{Lowest}
-use Rattle.reading.specs.declared.Lowest.TheVariants.{Absent, Code}
+use Rattle.std.specs.Prelude.{ℕ, zero, suc, Bool, true, false, List, [], ◌∷◌, ◌++◌, length, Option, Some, None}
 use Rattle.reading.specs.declared.Extent.{Extent}
 use Rattle.synthesis.specs.Monitor.{mark, Answer, cases, row_of, meaning}
 use Rattle.listing.specs.Text.{text, decimal}
@@ -32,9 +30,9 @@ abbrev pub patterns_line : (count : ℕ) → List ℕ
 patterns_line count = line (text "patterns" ∷ decimal count ∷ [])
 
 -- a lowest code: "none" where it is absent, and else its number
-abbrev pub lowest_text : Lowest → List ℕ
-lowest_text Absent = text "none"
-lowest_text (Code code) = decimal code
+abbrev pub lowest_text : Option ℕ → List ℕ
+lowest_text None = text "none"
+lowest_text (Some code) = decimal code
 
 abbrev pub pattern_line : (number : ℕ) → Extent → List ℕ
 pattern_line i e = line (text "p" ∷ decimal i ∷ lowest_text e.lowest ∷ decimal e.count ∷ [])

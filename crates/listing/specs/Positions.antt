@@ -1,8 +1,9 @@
 -- A listing line by line: which line stands at a position, and the position of the next one. `Line` and `ListingLine` are the structs
 -- of src/lib.rt.
-use Rattle.std.specs.Prelude.{ℕ, zero, suc, ◌+◌, ◌-◌, ◌*◌, ◌/◌, ◌%◌, min, ◌≤◌, ◌≡◌, cond, List, [], ◌∷◌, ◌++◌, eqb, ltb, leb, length, get_or, take, drop}
+use Rattle.std.specs.Prelude.{ℕ, zero, suc, ◌+◌, ◌-◌, ◌*◌, ◌/◌, ◌%◌, min, ◌≤◌, ◌≡◌, cond, List, [], ◌∷◌, ◌++◌, map, eqb, ltb, leb, length, get_or, take, drop}
 use Rattle.reading.specs.Numbered.{padded, no_extent}
 use Rattle.reading.specs.declared.Extent.{Extent}
+use Rattle.reading.specs.declared.Listed.{Listed}
 use Rattle.reading.specs.declared.NumberedRule.{NumberedRule}
 use Rattle.synthesis.specs.Monitor.{row_of}
 use Rattle.listing.specs.Runs.{CodeRun, runs_from}
@@ -25,9 +26,15 @@ Within l = (l.len ≤ length l.bytes) × (l.len ≡ length (text_of l))
 abbrev pub pattern_count : NumberedRule → ℕ
 pattern_count rule = min rule.npatterns 32
 
--- their extents
+-- the extents of all, and of these
+abbrev pub extent_in : Listed → Extent
+extent_in l = l.extent
+
+abbrev pub extents : NumberedRule → List Extent
+extents rule = map extent_in rule.patterns
+
 abbrev pub extents_of : NumberedRule → List Extent
-extents_of rule = take (pattern_count rule) rule.extents
+extents_of rule = take (pattern_count rule) (extents rule)
 
 -- ---- the line at a position
 
@@ -60,7 +67,7 @@ line_at n extents table count at =
     (row_line_at table count (n + 2) (codes / 256) (codes % 256) at)))
 
 unfoldable pub listing_line_at : NumberedRule → (table : List ℕ) → (count at : ℕ) → ListingLine
-listing_line_at rule table count at = line_at (pattern_count rule) rule.extents table count at
+listing_line_at rule table count at = line_at (pattern_count rule) (extents rule) table count at
 
 -- ---- all lines from a position on
 

@@ -1,10 +1,9 @@
 -- What this crate promises, as statements over the definitions; proofs/ has a theorem of each of these types.
-use Rattle.std.specs.Prelude.{ℕ, suc, ◌+◌, ◌*◌, ◌/◌, ◌%◌, ◌≤◌, ◌<◌, ◌≡◌, List, [], ◌∷◌, ◌++◌, map, length, get_or}
+use Rattle.std.specs.Prelude.{ℕ, suc, ◌+◌, ◌*◌, ◌/◌, ◌%◌, ◌≤◌, ◌<◌, ◌≡◌, List, [], ◌∷◌, ◌++◌, map, length, get_or, Some}
 use Rattle.reading.specs.Pattern.{extent_of}
 use Rattle.reading.specs.Rule.{Rule, RuleWithinLimits, All}
 use Rattle.reading.specs.Numbered.{numbered}
 use Rattle.reading.specs.declared.Pattern.{Pattern}
-use Rattle.reading.specs.declared.Lowest.TheVariants.{Code}
 use Rattle.reading.specs.declared.NumberedRule.{NumberedRule}
 use Rattle.synthesis.specs.Monitor.{mark, most, row_of, meaning, lookup}
 use Rattle.synthesis.specs.Alike.{RulesAlike}
@@ -16,10 +15,10 @@ use Rattle.listing.specs.Positions.{extents_of, listing_line_at, lines_from}
 use Rattle.reading.specs.File.{accepted}
 
 -- 1. Read line by line from position 0 on, up to an empty line, the text is the listing; so many lines are enough. A rule is any value
--- whose array has 32 extents;
+-- whose array has 32 patterns;
 abbrev pub ListsAll : Type 0
 ListsAll =
-    (rule : NumberedRule) (table : List ℕ) (count lines : ℕ) → length rule.extents ≡ 32 → 34 + 256 * count ≤ lines
+    (rule : NumberedRule) (table : List ℕ) (count lines : ℕ) → length rule.patterns ≡ 32 → 34 + 256 * count ≤ lines
     → lines_from rule table count lines 0 ≡ listing (extents_of rule) count table
 
 -- in particular of a rule that was read.
@@ -73,7 +72,7 @@ ListedAlike =
 
 -- The line of a pattern has its lowest code and how many codes it covers; of one of no kind, none and 0.
 pub record PatternListed (i : ℕ) (p : Pattern) : Type 0 where
-  pub code : (low : ℕ) → (extent_of p).lowest ≡ Code low
+  pub code : (low : ℕ) → (extent_of p).lowest ≡ Some low
       → pattern_line i (extent_of p) ≡ line (text "p" ∷ decimal i ∷ decimal low ∷ decimal (extent_of p).count ∷ [])
   pub none : p.mask ≡ 0 → pattern_line i (extent_of p) ≡ line (text "p" ∷ decimal i ∷ text "none" ∷ text "0" ∷ [])
 

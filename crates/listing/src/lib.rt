@@ -102,7 +102,7 @@ pub fn listing_line(rule: NumberedRule, table: &[u16], count: usize, at: usize) 
         return ListingLine { line, next: 1 };
     }
     if at <= n {
-        let line = lines::pattern(at - 1, rule.extents[at - 1]);
+        let line = lines::pattern(at - 1, rule.patterns[at - 1].extent);
         return ListingLine { line, next: at + 1 };
     }
     if at == n + 1 {

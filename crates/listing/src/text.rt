@@ -6,7 +6,6 @@ ghost use Rattle.listing.specs.Lines.{lowest_text, answer_text};
 ghost use Rattle.listing.specs.LineParts.{Prints};
 
 use crate::Line;
-use reading::Lowest;
 use std::marker::Model;
 use synthesis::DROPPED;
 
@@ -81,14 +80,14 @@ impl Text {
 
     // The text with a space and a lowest code. A caller can't tell how large the code in an enum is, so it is said here how long the text may be.
     #[tactic(auto, using(crate::proofs::Decimals::field_lengths))]
-    pub(crate) fn lowest(self, lowest: Lowest) -> Self
+    pub(crate) fn lowest(self, lowest: Option<u8>) -> Self
         requires { length self + 5 ≤ 64 }
         ensures adds { result ≡ self ++ (text " " ++ lowest_text lowest) }
         ensures lowest_len_bound { length (lowest_text lowest) ≤ 4 }
     {
         match lowest {
-            Lowest::Absent => self.word(b" none"),
-            Lowest::Code(code) => self.field(code as usize),
+            None => self.word(b" none"),
+            Some(code) => self.field(code as usize),
         }
     }
 
