@@ -1,4 +1,4 @@
-// Refusals 15 and 16.
+// Refusals 15 and 16. A table and its count stay two parameters, as in the promise of `run`: a struct would be made for two calls and taken apart in them.
 ghost use Rattle.std.specs.Prelude.{◌≡◌};
 ghost use Rattle.synthesis.specs.Monitor.{mark, most};
 ghost use Rattle.running.specs.Running.{in_range, entries_in_range, is_well_formed, fits, has_room, run_of, checked_of};
