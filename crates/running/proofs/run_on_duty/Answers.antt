@@ -13,9 +13,3 @@ returns-clause-value c =
     let e = c.follow_all-end.ensures in
     let rest = rest_dropped (together mark x.tables.now) (on_duty c.in-Ok.roster.duty) x.scans.now e.kept_value in
     rw (c.in-Ok.ensures.outcome, ← c.in-Ok.ensures.rules) (rw (e.state_value, rest, e.kept_value))
-
-pub returns-clause-output_after : goal.returns-clause-output_after
-returns-clause-output_after c = rw (c.in-Ok.ensures.outcome, ← c.in-Ok.ensures.rules) c.follow_all-end.ensures.output_after
-
-pub returns-clause-verdicts_after : goal.returns-clause-verdicts_after
-returns-clause-verdicts_after c = rw (c.in-Ok.ensures.outcome, ← c.in-Ok.ensures.rules) c.follow_all-end.ensures.verdicts_after
