@@ -13,7 +13,7 @@ use Rattle.running.specs.declared.State.{State}
 use Rattle.running.proofs.Tables.{fits_well_formed}
 use Rattle.running.proofs.Refusals.{has_room-lengths}
 
-fit_accepted : {A : Type 0} (o : Outcome A) {checked : Outcome Unit} → checked ≡ checked_of o → checked ≡ (accepted unit) → (y : A) × (o ≡ accepted y)
+fit_accepted : {A : Type 0} (o : Outcome A) {checked : Outcome Unit} → checked ≡ checked_of o → checked ≡ (accepted tt) → (y : A) × (o ≡ accepted y)
 fit_accepted (accepted y) e f = (y, refl)
 fit_accepted (refused number place) e f = let z : ◌≡◌ {A = ℕ} 0 1 = cc in absurd (omega arith)
 
