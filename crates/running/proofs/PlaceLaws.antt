@@ -17,10 +17,6 @@ use Rattle.running.proofs.ListTests.{any_append}
 
 -- ---- the first n places
 
-pub places_more : (i : ℕ) (places : List OnDuty) → in_places (i + 1) places ≡ in_places i places ++ (get_or places i vacant ∷ [])
-unfolding in_places
-places_more i places = rw add-one
-
 pub places_length : (n : ℕ) (places : List OnDuty) → length (in_places n places) ≡ n
 unfolding in_places
 places_length zero places = refl

@@ -1,14 +1,13 @@
 -- Who is on duty, rule by rule: what one more rule behind the others adds to the tests and to the places, and a rule whose table begins at any place
 -- of what is lent. Each is a law of lists, by induction or by what is in the library.
-use Prim.Native.Nat.{ℕ, zero, suc, ◌+◌, ◌-◌, ◌*◌, ◌≤◌, ◌<◌}
+use Prim.Native.Nat.{ℕ, zero, suc, ◌+◌, ◌*◌, ◌≤◌, ◌<◌}
 use mathlib.Core.Path.{◌≡◌, refl, sym, ◌∙◌, ap}
 use mathlib.Core.Bool.{Bool, true, false, not, cond, ◌&&◌, ◌||◌, and-false}
 use mathlib.Core.List.{List, [], ◌∷◌, ◌++◌, append-nil}
 use native.Mathlib.Omega.{arith}
 use lib.Dec.{eqb, leb, ltb}
 use borrow.Author.Tests.{eqb-true, eqb-false, eq-eqb, ne_eqb, lt-leb, le-leb}
-use lib.ListN.{length, get_or, set, take, drop, length-append, length-take, length-drop, drop_of_length-le}
-use lib.Seq.{take_all}
+use lib.ListN.{length, get_or, set, take, length-append, length-take, drop_of_length-le}
 use Rattle.std.proofs.lemmas.List.{take_more}
 use Rattle.reading.specs.Numbered.{padded}
 use Rattle.reading.proofs.RecordLists.RecordsRead.{set_padded}
@@ -99,10 +98,6 @@ module _ (number : ℕ) (ds : List OnDuty) (i : ℕ) where
   without_next b h is = rw (take_more ds i vacant h, filter_last, is)
 
 -- ---- a table that begins at any place
-
--- what is lent from a place on
-pub part_rest : (n : ℕ) (l : List ℕ) → take (length l - n) (drop n l) ≡ drop n l
-part_rest n l = take_all (length l - n) (drop n l) (omega (arith, length-drop n l))
 
 -- a table that begins behind the end of what is lent isn't well formed
 pub no_table : (limit mark : ℕ) (tables : List ℕ) (d : OnDuty) → length tables ≤ d.base → fits_at limit mark tables d ≡ false

@@ -1,19 +1,15 @@
 -- The loop over the scans under several rules: it goes by their equations, and in these the rules are where the run of all of them stands.
 use Prim.Native.Nat.{ℕ, ◌+◌, ◌≤◌, ◌<◌}
-use mathlib.Core.Path.{◌≡◌, refl, ◌∙◌}
-use mathlib.Core.Bool.{Bool, true, false, not, cond}
+use mathlib.Core.Path.{◌≡◌}
+use mathlib.Core.Bool.{Bool, not, cond}
 use mathlib.Core.List.{List, map}
-use native.Mathlib.Omega.{arith}
-use lib.ListN.{length, get_or, set, length-map}
+use lib.ListN.{length, get_or, set}
 use Rattle.std.specs.Int.{from_bool}
-use Rattle.synthesis.specs.Monitor.{Answer, dropped, next, ended}
-use Rattle.synthesis.proofs.Monitors.Runs.{run_induction}
+use Rattle.synthesis.specs.Monitor.{Answer, dropped, next}
 use Rattle.running.specs.Duty.{in_places, some_drops, moved_by, together}
 use Rattle.running.specs.Places.{standing}
 use Rattle.running.specs.declared.OnDuty.{OnDuty}
 use Rattle.running.proofs.Buffers.{stands_at, stands_next, Filled, filled_next}
-
--- ---- one more scan
 
 module _ (mark : ℕ) (tables : List ℕ) (n : ℕ) (rules : List OnDuty) (output₀ buffer₀ scans : List ℕ) where
   -- what holds after i of the scans
@@ -45,15 +41,3 @@ module _ (mark : ℕ) (tables : List ℕ) (n : ℕ) (rules : List OnDuty) (outpu
       -- where all rules go if none of them drops the scan
       onward : List OnDuty
       onward = map (moved_by mark tables (get_or scans i 0)) at
-
--- ---- how many they are
-
--- a scan moves rules, and makes none come or go
-pub together_length : (mark : ℕ) (tables : List ℕ) (ds : List OnDuty) (w : List ℕ) → length (ended (together mark tables) ds w) ≡ length ds
-together_length mark tables =
-    run_induction (together mark tables) (λ ds w. length (ended (together mark tables) ds w) ≡ length ds) (λ ds. refl) (λ ds c w q h. rw q h)
-    (λ ds ds' c w q h. rw q (h ∙ on ds ds' c (some_drops mark tables ds c) q))
-  where
-    on : (ds ds' : List OnDuty) (c : ℕ) (b : Bool) → cond b dropped (next (map (moved_by mark tables c) ds)) ≡ next ds' → length ds' ≡ length ds
-    on ds ds' c true q = let z : ◌≡◌ {A = ℕ} 0 1 = cc in absurd (omega arith)
-    on ds ds' c false q = let e : map (moved_by mark tables c) ds ≡ ds' = cc in rw (← e) (length-map ds (moved_by mark tables c))

@@ -1,6 +1,6 @@
 -- The loop over the scans on one table: it goes by where a row begins, and that is the row of the equation in which the run stands.
 use Prim.Native.Nat.{ℕ, ◌+◌, ◌*◌, ◌/◌, ◌≤◌, ◌<◌}
-use mathlib.Core.Path.{◌≡◌, ◌∙◌, ap}
+use mathlib.Core.Path.{◌≡◌}
 use mathlib.Core.Bool.{Bool, true, false, not, cond}
 use mathlib.Core.List.{List}
 use native.Mathlib.Omega.{arith}
@@ -9,12 +9,10 @@ use lib.Dec.{eqb}
 use lib.ListN.{length, get_or, set}
 use Rattle.std.specs.Int.{from_bool}
 use Rattle.synthesis.specs.Monitor.{Answer, dropped, next, row_of}
-use Rattle.running.specs.Running.{start, moved, answer_in, run_from}
+use Rattle.running.specs.Running.{moved, answer_in}
 use Rattle.running.specs.declared.State.{State}
 use Rattle.running.proofs.Entries.{by_entry}
-use Rattle.running.proofs.Buffers.{stands_at, stands_next, stands_all, FilledBy, Filled, filled_none, filled_next, filled_all}
-
--- ---- one more scan
+use Rattle.running.proofs.Buffers.{stands_at, stands_next, Filled, filled_next}
 
 module _ (mark : ℕ) (table : List ℕ) (s : State) (output₀ buffer₀ scans : List ℕ) where
   -- what holds after i of the scans, with the bound that the code needs
@@ -54,31 +52,3 @@ module _ (mark : ℕ) (table : List ℕ) (s : State) (output₀ buffer₀ scans 
       from_next : (b : Bool) → cond b from (256 * entry) ≡ 256 * (cond b at (moved at entry)).equation
       from_next true = h.from_is
       from_next false = omega arith
-
--- ---- where the loop begins and ends
-
--- the state of a run that stands where a row begins
-abbrev pub state_at : (from : ℕ) → State
-state_at from = moved start (from / 256)
-
-module _ (mark : ℕ) (table : List ℕ) (s : State) (output₀ buffer₀ scans : List ℕ) where
-  -- from the beginning of a row back to its equation
-  row_begin_is : 256 * s.equation / 256 ≡ s.equation
-  row_begin_is = mul-div_right s.equation (omega arith)
-
-  pub after_none : s.equation < 65536
-      → After mark table (state_at (256 * s.equation)) output₀ buffer₀ scans output₀ buffer₀ (256 * s.equation) 0 0
-  after_none r = record {
-    small = omega arith;
-    from_is = rw row_begin_is;
-    filled = filled_none (answer_in mark table) (state_at (256 * s.equation)) output₀ buffer₀ scans;
-  }
-
-  pub after_all : (output buffer : List ℕ) (from keeps i : ℕ)
-      → After mark table (state_at (256 * s.equation)) output₀ buffer₀ scans output buffer from keeps i → length scans ≤ i
-      → let run = run_from mark table s scans in (state_at from ≡ run.state) × FilledBy (answer_in mark table) s output₀ buffer₀ run output buffer keeps
-  after_all output buffer from keeps i h r =
-      let F = answer_in mark table in
-      let e = rw row_begin_is at h in
-      let row : from / 256 ≡ (stands_at F s scans i).equation = rw e.from_is (mul-div_right _ (omega arith)) in
-      (ap (moved start) row ∙ stands_all F s scans i r, filled_all F s output₀ buffer₀ scans output buffer keeps i e.filled r)

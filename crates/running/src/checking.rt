@@ -1,4 +1,4 @@
-// Refusals 15 and 16.
+// Refusals 15 and 16. A table and its count stay two parameters, as in the promise of `run`: a struct would be made for two calls and taken apart in them.
 ghost use Rattle.std.specs.Prelude.{◌≡◌};
 ghost use Rattle.reading.specs.Refusals.{as_outcome};
 ghost use Rattle.synthesis.specs.Monitor.{mark, most};

@@ -7,7 +7,7 @@ mod following;
 mod roster;
 mod serving;
 
-ghost use Rattle.std.specs.Prelude.{◌≡◌, length};
+ghost use Rattle.std.specs.Prelude.{◌≡◌, ◌-◌, ◌≤◌, Ok, Err, length};
 ghost use Rattle.reading.specs.File.{accepted, and_then};
 ghost use Rattle.reading.specs.Refusals.{as_outcome};
 ghost use Rattle.synthesis.specs.Monitor.{mark, most};
@@ -15,7 +15,7 @@ ghost use Rattle.running.specs.Running.{start, run_of, checked_of, returned, res
 ghost use Rattle.running.specs.Duty.{nobody, changed_by, duty_of, coming_of, going_of, change_returned, changed_of, duty_run_of, duty_ran_of};
 
 use checking::check;
-use following::follow;
+use following::{End, follow};
 use reading::{Fault, Refusal};
 use roster::Roster;
 use serving::{admitted, fits_at, follow_all};
@@ -77,6 +77,19 @@ impl<S> RunResult<S> {
             dropped: 0,
         }
     }
+
+    // What any other run hands back, of so many scans.
+    fn ended(end: End<S>, scans: usize) -> Self
+        requires { end.kept ≤ scans }
+        ensures { result ≡ record { checked = Ok tt; state = end.state; kept = end.kept; dropped = scans - end.kept } }
+    {
+        RunResult {
+            checked: Ok(()),
+            state: end.state,
+            kept: end.kept,
+            dropped: scans - end.kept,
+        }
+    }
 }
 
 /// Runs the monitor of a table with `count` equations over scans. The kept scans go to the front of the output, and one verdict a scan
@@ -102,12 +115,7 @@ pub fn run(
         return RunResult::refused(refusal, state);
     }
     let end = follow(table, state, scans, output, verdicts);
-    RunResult {
-        checked: Ok(()),
-        state: end.state,
-        kept: end.kept,
-        dropped: scans.len() - end.kept,
-    }
+    RunResult::ended(end, scans.len())
 }
 
 // What stands in a place that no rule has.
@@ -239,10 +247,5 @@ pub fn run_on_duty(
         Err(refusal) => return RunResult::refused(refusal, duty),
     };
     let end = follow_all(tables, roster, scans, output, verdicts);
-    RunResult {
-        checked: Ok(()),
-        state: end.state,
-        kept: end.kept,
-        dropped: scans.len() - end.kept,
-    }
+    RunResult::ended(end, scans.len())
 }

@@ -48,7 +48,8 @@ pub(crate) fn admitted(
     ensures room { IfOk result (λ _. (length scans.now ≤ output) × (length scans.now ≤ verdicts)) }
     ensures rules { IfOk result (λ roster. on_duty roster.duty ≡ on_duty duty) }
     ensures outcome { let outcome = duty_run_of most mark tables.now duty scans.now output verdicts in
-        MatchResult result (λ _. outcome ≡ accepted (run_by (together mark tables.now) (on_duty duty) scans.now)) (λ refusal. outcome ≡ refused (number refusal.fault) refusal.place) }
+        let ran = accepted (run_by (together mark tables.now) (on_duty duty) scans.now) in
+        MatchResult result (λ _. outcome ≡ ran) (λ refusal. outcome ≡ refused (number refusal.fault) refusal.place) }
 {
     if !has_room(scans, output, verdicts) {
         return Err(Fault::NoRoom.at(0));
@@ -90,7 +91,8 @@ fn look_in_place(
     if entry == MARK { None } else { Some(entry) }
 }
 
-// What a scan does: whether a rule would drop it, and the equations in which it leaves the rules.
+// What a scan does: whether a rule would drop it, and the equations in which it leaves the rules. A flag and no Option, so that each equation is chosen
+// without a jump.
 #[derive(Drop)]
 struct Looked {
     drops: bool,
@@ -106,11 +108,10 @@ fn look(tables: &[u16], roster: Roster, equations: [usize; 4], code: u8) -> Look
         ≡ cond result.drops stand (map (moved_by mark tables.now code) stand) }
 {
     let n = roster.duty.count;
-    let rules = roster.duty.rules;
-    let a = look_in_place(tables, 0 < n, rules[0], equations[0], code);
-    let b = look_in_place(tables, 1 < n, rules[1], equations[1], code);
-    let c = look_in_place(tables, 2 < n, rules[2], equations[2], code);
-    let d = look_in_place(tables, 3 < n, rules[3], equations[3], code);
+    let a = look_in_place(tables, 0 < n, roster.duty.rules[0], equations[0], code);
+    let b = look_in_place(tables, 1 < n, roster.duty.rules[1], equations[1], code);
+    let c = look_in_place(tables, 2 < n, roster.duty.rules[2], equations[2], code);
+    let d = look_in_place(tables, 3 < n, roster.duty.rules[3], equations[3], code);
     let drops = a.is_none() | b.is_none() | c.is_none() | d.is_none();
     Looked {
         drops,
@@ -137,7 +138,8 @@ fn placed(roster: Roster, equations: [usize; 4]) -> Duty
     moved.duty
 }
 
-// Runs over the scans under the rules. A kept scan moves every rule, a dropped one none.
+// Runs over the scans under the rules. A kept scan moves every rule, a dropped one none. The three lines that write stand in `follow` too: a trait
+// over both monitors is longer than they are.
 pub(crate) fn follow_all(
     tables: &[u16],
     roster: Roster,

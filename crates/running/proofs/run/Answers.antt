@@ -12,8 +12,8 @@ follow-end-requires c =
     let f = passed most mark _ _ _ _ _ _ c.check.ensures (ap as_outcome c.in_default.is) in
     (f.below, f.output_room, f.verdicts_room)
 
-pub overflow_sub-result : goal.overflow_sub-result
-overflow_sub-result c = kept_few (answer_in mark c.args.table.now) c.args.state c.args.scans.now c.follow-end.ensures.kept_value
+pub ended-requires : goal.ended-requires
+ended-requires c = kept_few (answer_in mark c.args.table.now) c.args.state c.args.scans.now c.follow-end.ensures.kept_value
 
 pub returns-clause-value : goal.returns-clause-value
 returns-clause-value c =
@@ -21,7 +21,7 @@ returns-clause-value c =
     let f = passed most mark _ _ _ _ _ _ c.check.ensures (ap as_outcome c.in_default.is) in
     let e = c.follow-end.ensures in
     let rest = rest_dropped (answer_in mark x.table.now) x.state x.scans.now e.kept_value in
-    rw f.is (rw (e.state_value, rest, e.kept_value))
+    rw f.is (rw (c.ended.ensures, e.state_value, rest, e.kept_value))
 
 pub returns-clause-output_after : goal.returns-clause-output_after
 returns-clause-output_after c =

@@ -29,10 +29,3 @@ loop-i-preserved c =
     in
     rw (standing_more i d.rules c.args.equations, ← at)
     (pushed_onto (standing i d.rules c.args.equations) _ c.loop-i.invariant c.push.ensures)
-
-pub returns : goal.returns
-returns c =
-    let d = c.args.roster.duty in
-    let many = ap length c.rules-rule-items.ensures ∙ places_length d.count d.rules in
-    let end : c.loop-i.i ≡ d.count = omega (arith, many) in
-    rw (← end) c.loop-i.invariant
