@@ -3,34 +3,37 @@
 #![tactic(auto)]
 
 ghost use Rattle.std.specs.Prelude.{◌≡◌, length};
+ghost use Rattle.reading.specs.File.{Outcome};
+ghost use Rattle.reading.specs.Refusals.{as_outcome};
 ghost use Rattle.synthesis.specs.Monitor.{mark, most};
 ghost use Rattle.synthesis.specs.Building.{synthesis_of, filling_of, preview_of, preview_filling_of, short_of, short_filling_of, counted_of, table_after};
 ghost use Rattle.synthesis.specs.Reason.{explanation_of, reason_of};
 ghost use Rattle.running.specs.Running.{run_of, output_after, verdicts_after};
 ghost use Rattle.models.specs.Judging.{judging_of, JudgedAs, table_judged};
-ghost use Rattle.models.specs.Pairs.{matching_of, MatchedAs};
+ghost use Rattle.models.specs.declared.Judgment.{Judgment};
+ghost use Rattle.models.specs.Pairs.{matching_of, MatchAnswer, match_answer, MatchedAs};
 ghost use Rattle.boundary.specs.Results.{counted_result, reason_result, judged_result, matched_result, checked_number, state_of, IsRun};
 
-use models::{Judged, Matched};
-use running::{Checked, State};
-use synthesis::{Counted, Reason};
+use models::{Judgment, MatchError};
+use reading::Refusal;
+use running::State;
 
 // What is handed back in place of a node where a scan is kept. No node of a rule has this number.
 const KEPT_VALUE: usize = 64;
 
 // Hands back what counting or filling answers: 0, with the count of equations in `value`, or the number of a refusal, with its place.
-fn hand_back(answer: Counted, value: &mut usize) -> u8
-    ensures value { result ≡ (counted_result answer).number }
-    ensures value_after { value.new ≡ (counted_result answer).value }
+fn hand_back(answer: Result<usize, Refusal>, value: &mut usize) -> u8
+    ensures value { result ≡ (counted_result (as_outcome answer)).number }
+    ensures value_after { value.new ≡ (counted_result (as_outcome answer)).value }
 {
     match answer {
-        Counted::Equations(count) => {
+        Ok(count) => {
             *value = count;
             0
         }
-        Counted::Refused(number, place) => {
-            *value = place;
-            number
+        Err(refusal) => {
+            *value = refusal.place;
+            refusal.fault.number()
         }
     }
 }
@@ -92,46 +95,28 @@ pub fn jarveun_explain(rule: &[u8], kept: &[u8], scan: u8, value: &mut usize) ->
     ensures value { result ≡ (reason_result (reason_of (explanation_of most rule.now kept.now scan))).number }
     ensures value_after { value.new ≡ (reason_result (reason_of (explanation_of most rule.now kept.now scan))).value }
 {
-    match synthesis::explain(rule, kept, scan) {
-        Reason::Kept => {
-            *value = KEPT_VALUE;
-            0
-        }
-        Reason::Node(node) => {
-            *value = node as usize;
-            0
-        }
-        Reason::Refused(number, place) => {
-            *value = place;
-            number
-        }
-    }
+    let answer = synthesis::explain(rule, kept, scan);
+    hand_back(
+        answer.map(|node| node.map_or(KEPT_VALUE, usize::from)),
+        value,
+    )
 }
 
 // Judges a model under a rule. Answers 0, with 1 in `value` where it meets the rule and 0 where it breaks it, or the number of a refusal, with
 // its place.
 pub fn jarveun_judge(rule: &[u8], model: &[u8], table: &mut [u16], value: &mut usize) -> u8
-    ensures judged_as { (answer : Judged) × JudgedAs (judging_of most rule.now (length table.old) model.now) answer
+    ensures judged_as { (answer : Outcome Judgment) × JudgedAs (judging_of most rule.now (length table.old) model.now) answer
         × (result ≡ (judged_result answer).number) × (value.new ≡ (judged_result answer).value) }
     ensures table_after { table.new
         ≡ table_judged (judging_of most rule.now (length table.old) model.now)
         (table_after mark (filling_of most rule.now (length table.old)) table.old)
         table.old }
 {
-    match models::judge(rule, model, table) {
-        Judged::Meets => {
-            *value = 1;
-            0
-        }
-        Judged::Breaks => {
-            *value = 0;
-            0
-        }
-        Judged::Refused(number, place) => {
-            *value = place;
-            number
-        }
-    }
+    let answer = models::judge(rule, model, table);
+    hand_back(
+        answer.map(|judgment| usize::from(judgment == Judgment::Meets)),
+        value,
+    )
 }
 
 // What matching hands back: 0 or the number of a refusal, the value beside it, and which of the three inputs the refusal is about, or 0.
@@ -143,35 +128,25 @@ struct MatchResult {
 }
 
 // What is handed back for an answer.
-fn match_result(answer: Matched) -> MatchResult
-    ensures { result ≡ matched_result answer }
+fn match_result(answer: Result<bool, MatchError>) -> MatchResult
+    ensures { result ≡ matched_result (match_answer answer) }
 {
-    match answer {
-        Matched::Yes => MatchResult {
-            number: 0,
-            value: 1,
-            input: 0,
-        },
-        Matched::No => MatchResult {
-            number: 0,
-            value: 0,
-            input: 0,
-        },
-        Matched::RefusedFirst(number, place) => MatchResult {
-            number,
-            value: place,
-            input: 1,
-        },
-        Matched::RefusedSecond(number, place) => MatchResult {
-            number,
-            value: place,
-            input: 2,
-        },
-        Matched::RefusedPairs(number, place) => MatchResult {
-            number,
-            value: place,
-            input: 3,
-        },
+    let (input, refusal) = match answer {
+        Ok(yes) => {
+            return MatchResult {
+                number: 0,
+                value: usize::from(yes),
+                input: 0,
+            };
+        }
+        Err(MatchError::First(refusal)) => (1, refusal),
+        Err(MatchError::Second(refusal)) => (2, refusal),
+        Err(MatchError::Pairs(refusal)) => (3, refusal),
+    };
+    MatchResult {
+        number: refusal.fault.number(),
+        value: refusal.place,
+        input,
     }
 }
 
@@ -184,7 +159,7 @@ pub fn jarveun_match(
     value: &mut usize,
     input: &mut usize,
 ) -> u8
-    ensures { (answer : Matched) × MatchedAs (matching_of first.now second.now pairs.now) answer
+    ensures { (answer : MatchAnswer) × MatchedAs (matching_of first.now second.now pairs.now) answer
         × (result ≡ (matched_result answer).number) × (value.new ≡ (matched_result answer).value)
         × (input.new ≡ (matched_result answer).input) }
 {
@@ -195,12 +170,12 @@ pub fn jarveun_match(
 }
 
 // The number of a refusal of a run, or 0.
-fn number_of(checked: Checked) -> u8
-    ensures { result ≡ checked_number checked }
+fn number_of(checked: Result<(), Refusal>) -> u8
+    ensures { result ≡ checked_number (as_outcome checked) }
 {
     match checked {
-        Checked::Fit => 0,
-        Checked::Refused(number, _) => number,
+        Ok(()) => 0,
+        Err(refusal) => refusal.fault.number(),
     }
 }
 
@@ -229,10 +204,8 @@ pub fn jarveun_run(
         equation: *equation,
     };
     let ran = running::run(table, count, state, scans, output, verdicts);
-    let checked = ran.checked;
-    let end = ran.state;
-    *equation = end.equation;
+    *equation = ran.state.equation;
     *kept = ran.kept;
     *dropped = ran.dropped;
-    number_of(checked)
+    number_of(ran.checked)
 }

@@ -3,15 +3,16 @@
 #![tactic(auto)]
 
 ghost use Rattle.std.specs.Prelude.{◌≡◌, length};
+ghost use Rattle.reading.specs.File.{Outcome};
 ghost use Rattle.synthesis.specs.Monitor.{mark, most};
 ghost use Rattle.synthesis.specs.Building.{synthesis_of, filling_of, preview_of, preview_filling_of, short_of, short_filling_of, counted_of, table_after};
 ghost use Rattle.synthesis.specs.Reason.{explanation_of, reason_of};
 ghost use Rattle.running.specs.Running.{run_of, output_after, verdicts_after};
 ghost use Rattle.models.specs.Judging.{judging_of, JudgedAs, table_judged};
-ghost use Rattle.models.specs.Pairs.{matching_of, MatchedAs};
+ghost use Rattle.models.specs.declared.Judgment.{Judgment};
+ghost use Rattle.models.specs.Pairs.{matching_of, MatchAnswer, MatchedAs};
 ghost use Rattle.boundary.specs.Results.{counted_result, reason_result, judged_result, matched_result, state_of, IsRun};
 
-use models::{Judged, Matched};
 
 // Counts the equations of a rule.
 #[unsafe(no_mangle)]
@@ -89,7 +90,7 @@ pub extern "C" fn jarveun_judge(
     table: &mut [u16],
     value: &mut usize,
 ) -> u8
-    ensures judged_as { (answer : Judged) × JudgedAs (judging_of most rule.now (length table.old) model.now) answer
+    ensures judged_as { (answer : Outcome Judgment) × JudgedAs (judging_of most rule.now (length table.old) model.now) answer
         × (result ≡ (judged_result answer).number) × (value.new ≡ (judged_result answer).value) }
     ensures table_after { table.new
         ≡ table_judged (judging_of most rule.now (length table.old) model.now)
@@ -109,7 +110,7 @@ pub extern "C" fn jarveun_match(
     value: &mut usize,
     input: &mut usize,
 ) -> u8
-    ensures { (answer : Matched) × MatchedAs (matching_of first.now second.now pairs.now) answer
+    ensures { (answer : MatchAnswer) × MatchedAs (matching_of first.now second.now pairs.now) answer
         × (result ≡ (matched_result answer).number) × (value.new ≡ (matched_result answer).value)
         × (input.new ≡ (matched_result answer).input) }
 {

@@ -12,7 +12,6 @@ use crate::{FILE, LIMIT, SiftResult, TABLE};
 use running::State;
 use std::io::{Read, Write};
 use std::rt::Files;
-use synthesis::Counted;
 
 // The most scans that are read at once.
 const BLOCK: usize = 65_536;
@@ -89,17 +88,14 @@ fn sift_under<R: Read, W: Write, E: Write>(
     ensures sifts { Sifts file.now table.old result }
 {
     let answer = synthesis::fill_within(file, LIMIT, table);
-    match answer {
-        Counted::Equations(count) => {
-            let state = sift_all(table, count, stdin, terminal);
-            SiftResult { answer, state }
+    let state = match answer {
+        Ok(count) => sift_all(table, count, stdin, terminal),
+        Err(refusal) => {
+            terminal.print(listing::refusal_line(refusal.fault.number(), refusal.place));
+            running::start()
         }
-        Counted::Refused(number, place) => {
-            terminal.print(listing::refusal_line(number, place));
-            let state = running::start();
-            SiftResult { answer, state }
-        }
-    }
+    };
+    SiftResult { answer, state }
 }
 
 // Reads a rule from the file rule.bin, and writes the scans of standard input that it keeps, or else why it is refused.
