@@ -10,7 +10,11 @@ use Rattle.reading.specs.declared.NumberedRule.{NumberedRule}
 use Rattle.listing.specs.Positions.{text_of, listing_line_at, lines_from}
 use Rattle.listing.specs.declared.ListingLine.{ListingLine}
 use Rattle.listing.proofs.LaterLines.{listing_line_later}
+use Rattle.std.proofs.Common.{Some}
+use Rattle.listing.specs.declared.Line.{Line}
 use Rattle.commands.specs.Printing.{LeadTo, first, next}
+use Rattle.commands.specs.LineByLine.{GivesLine}
+use Rattle.commands.specs.declared.lines.Lines.{Lines}
 
 -- ---- lines that lead to a position
 
@@ -84,3 +88,10 @@ module _ (rule : NumberedRule) (table : List ℕ) (count : ℕ) where
   pub lines_end : {lines at : ℕ} → LeadTo rule table count lines at → (listing_line_at rule table count at).line.len ≡ 0 → (more : ℕ)
       → lines_at lines 0 ≡ lines_at (lines + more) 0
   lines_end {lines} {at} lead e more = sym (lines_add lead more ∙ rw (lines_none more at e) (append-nil (lines_at lines 0)))
+
+-- ---- the lines as an iterator
+
+-- a line that `next` gives leads on
+module _ {s t : Lines} {l : Line} (g : GivesLine s (Some l) t) where
+  pub leads_given : {lines : ℕ} → Leads s.rule s.table.now s.count lines s.at → Leads t.rule t.table.now t.count (lines + 1) t.at
+  leads_given w = rw (g.rule, g.table, g.count, g.at) (leads_next w refl g.line.0).leads

@@ -2,3 +2,4 @@
 pub mod Printing
 pub mod Sifting
 pub mod Promises
+pub mod LineByLine

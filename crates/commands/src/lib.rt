@@ -3,6 +3,7 @@
 
 mod files;
 mod judging;
+mod lines;
 mod sifting;
 
 ghost use Rattle.std.specs.Prelude.{◌≡◌, List, ℕ, ◌*◌, length};
@@ -13,6 +14,7 @@ ghost use Rattle.commands.specs.Printing.{program_limit, ListingStops, Stops, Sh
 
 use files::{Terminal, read_whole};
 pub use judging::{meets, meets_of};
+use lines::Lines;
 use reading::NumberedRule;
 use running::State;
 pub use sifting::{sift, sift_of};
@@ -60,24 +62,25 @@ fn print_listing<W: Write, E: Write>(
 ) -> Printed
     ensures { ListingStops rule table.now count result.lines result.written }
 {
-    let mut at = 0;
+    let listing = Lines {
+        rule,
+        table,
+        count,
+        at: 0,
+    };
     let mut lines = 0;
-    loop {
-        let this = listing::listing_line(rule, table, count, at);
-        if this.line.len == 0 {
-            return Printed {
-                lines,
-                written: true,
-            };
-        }
-        if !terminal.print(this.line) {
+    for line in listing {
+        if !terminal.print(line) {
             return Printed {
                 lines,
                 written: false,
             };
         }
-        at = this.next;
         lines += 1;
+    }
+    Printed {
+        lines,
+        written: true,
     }
 }
 

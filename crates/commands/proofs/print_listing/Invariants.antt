@@ -1,10 +1,11 @@
--- `print_listing` goes from line to line. The measure is how far the last position is.
-use Rattle.std.proofs.Common.{◌+◌, ◌*◌, ◌-◌}
+-- The lines so far lead to the position of the next one.
+use Rattle.std.proofs.Common.{◌≡◌}
 use Rattle.commands.proofs.Leading.{Leads}
 use Rattle.commands.proofs.print_listing.Given as goal
 
-abbrev pub invariant-loop-rule : goal.invariant-loop-rule
-invariant-loop-rule g l = Leads l.rule l.table l.count l.lines l.at
-
-abbrev pub decreases-loop-rule : goal.decreases-loop-rule
-decreases-loop-rule g l = 34 + 256 * l.count - l.at
+abbrev pub invariant-loop-line : goal.invariant-loop-line
+invariant-loop-line g l =
+    let next = l.line-iterator in
+    (goal.iterator-loop-line g).can_next next × (goal.iterator-loop-line g).is_finite next
+    × (next.rule ≡ l.fn.rule) × (next.table.now ≡ l.table) × (next.count ≡ l.count)
+    × Leads next.rule next.table.now next.count l.lines next.at
