@@ -5,7 +5,7 @@ ghost use Rattle.testing.specs.Preparing.{prepared};
 use crate::digits::Digit;
 
 // Sets every byte of a buffer or every entry of a table: number i is first + step × i, modulo top + 1.
-#[tactic(auto, unfolding(crate::specs::Preparing::prepared))]
+#[tactic(auto, using(crate::proofs::PreparingLaws::prepared_more, crate::proofs::PreparingLaws::next_more), unfolding(crate::specs::Preparing::prepared))]
 pub fn prepare<D: Digit>(digits: &mut [D], first: u64, step: D, top: D)
     ensures { map D.value_of digits.new ≡ prepared (D.value_of top + 1) first (D.value_of step) (length digits.old) }
 {
