@@ -47,7 +47,8 @@ fn make_scans(scans: &mut [u8]) {
 
 // Fills a table for each of n rules, and lets the rule come on with it. A rule whose filling is refused doesn't come on.
 fn come_all(rule: &[u8], n: u8, tables: &mut [u16]) -> Came
-    requires { (n ≤ 4) × (length tables.old ≡ 131072) }
+    requires rules { n ≤ 4 }
+    requires room { length tables.old ≡ 131072 }
 {
     let mut answer = Counted::Equations(0);
     let mut duty = running::nobody();
@@ -60,6 +61,7 @@ fn come_all(rule: &[u8], n: u8, tables: &mut [u16]) -> Came
 }
 
 // Runs so many laps. Each begins with the rules as the last one left them.
+#[tactic(auto, using(crate::proofs::LapCounts::lap_counts))]
 fn run_laps(
     tables: &[u16],
     mut duty: Duty,
@@ -68,7 +70,8 @@ fn run_laps(
     output: &mut [u8],
     verdicts: &mut [u8],
 ) -> Sums
-    requires { (laps < 16777216) × (length scans.now ≡ 65536) }
+    requires laps { laps < 16777216 }
+    requires lap { length scans.now ≡ 65536 }
 {
     let mut kept: u64 = 0;
     let mut dropped: u64 = 0;
@@ -91,7 +94,8 @@ fn answer_laps(
     output: &mut [u8],
     verdicts: &mut [u8],
 ) -> io::Result<()>
-    requires { (laps < 16777216) × (length scans.now ≡ 65536) }
+    requires laps { laps < 16777216 }
+    requires lap { length scans.now ≡ 65536 }
 {
     let Counted::Equations(_) = came.answer else {
         return print_filled(rt, came.answer);
@@ -102,7 +106,8 @@ fn answer_laps(
 
 // Answers for so many rules and laps.
 fn answer_rule(rt: &HostRuntime, rule: &[u8], n: u8, laps: usize) -> io::Result<()>
-    requires { (n ≤ 4) × (laps < 16777216) }
+    requires rules { n ≤ 4 }
+    requires laps { laps < 16777216 }
 {
     let mut tables = [0u16; TABLES];
     let mut scans = [0u8; SCANS];

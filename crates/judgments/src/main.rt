@@ -8,7 +8,7 @@ use models::{ModelReading, PhoneModel, Step};
 use reading::FileRead;
 use std::io;
 use testing::{
-    digest, each_case, prepare, print_judged, print_refusal, read_long, read_size, read_whole,
+    digest, each_case, print_judged, print_refusal, read_long, read_size, read_whole, refresh,
 };
 
 // The digest that the digits of `high` and then a step make, as four bytes: from, two bytes of label, to.
@@ -38,11 +38,6 @@ fn print_reading(rt: &HostRuntime, reading: &ModelReading) -> io::Result<()> {
         model.nsteps,
         steps_digest(model)
     )
-}
-
-// Sets the table that is lent to a judgment: entry i is case + 263 × i, modulo 65,521.
-fn refresh(table: &mut [u16], case: u64) {
-    prepare(table, case, 263, 65520);
 }
 
 fn answer(

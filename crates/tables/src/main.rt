@@ -11,7 +11,7 @@ use reading::NumberedRule;
 use std::io;
 use synthesis::Counted;
 use testing::{
-    digest, each_case, filled_count, prepare, print_refusal, read_bounded, read_long, read_size,
+    digest, each_case, filled_count, print_refusal, read_bounded, read_long, read_size, refresh,
 };
 
 // A listing has no more lines: two, one for each pattern, and one for each entry at most.
@@ -30,6 +30,7 @@ struct Summary {
 }
 
 // The first n rows, as they are handed back.
+#[tactic(auto, using(synthesis::proofs::Tables::Rows::row_inside))]
 fn rows_summary(table: &[u16], n: usize) -> Summary {
     let mut len = 0;
     let mut sum = 0;
@@ -178,11 +179,6 @@ fn answer_within(rt: &HostRuntime, rule: &[u8], limit: usize, table: &mut [u16])
     let filled = synthesis::fill_within(rule, limit, table);
     print_filled(rt, counted, filled, table)?;
     println!(rt)
-}
-
-// Sets the table that is lent to a filling: entry i is case + 263 × i, modulo 65,521.
-fn refresh(table: &mut [u16], case: u64) {
-    prepare(table, case, 263, 65520);
 }
 
 // Answers the next case.

@@ -9,11 +9,11 @@ use Rattle.testing.specs.Preparing.{prepared}
 
 module _ (size first step : ℕ) where
   -- the digit that comes next is set where the prepared ones end
-  pub prepared_more : {T : Type 0} (number_of : T → ℕ) (digits : List T) (i : ℕ) (digit : T) {next : ℕ} → i < length digits
-      → map number_of (take i digits) ≡ prepared size first step i → number_of digit ≡ next → next ≡ (first + step * i) % size
-      → map number_of (take (i + 1) (set digits i digit)) ≡ prepared size first step (i + 1)
+  pub prepared_more : {T : Type 0} (value_of : T → ℕ) (digits : List T) (i : ℕ) (digit : T) {next : ℕ} → i < length digits
+      → map value_of (take i digits) ≡ prepared size first step i → value_of digit ≡ next → next ≡ (first + step * i) % size
+      → map value_of (take (i + 1) (set digits i digit)) ≡ prepared size first step (i + 1)
   unfolding prepared
-  prepared_more number_of digits i digit more front this next =
+  prepared_more value_of digits i digit more front this next =
       rw (take_more_set digits i digit more, map-append, front, this, next, add-one) refl
 
   -- and the one after it: a remainder that is taken before adding changes nothing

@@ -8,15 +8,15 @@ pub trait Digit: Copy {
 
     const BASE: u64;
 
-    ghost number_of: { Self → ℕ };
+    ghost value_of: { Self → ℕ };
 
     fn wide(self) -> u64
-        ensures value { result ≡ number_of self }
+        ensures value { result ≡ value_of self }
         ensures upper_bound { result < BASE };
 
     fn narrow(number: u64) -> Self
         requires { number < BASE }
-        ensures { number_of result ≡ number };
+        ensures { value_of result ≡ number };
 
     ghost small: { BASE ≤ 65536 };
 }
@@ -26,7 +26,7 @@ impl Digit for u8 {
 
     const BASE: u64 = 256;
 
-    ghost number_of = { λ x. x };
+    ghost value_of = { λ x. x };
 
     ghost small = { lit≤ tt };
 
@@ -44,7 +44,7 @@ impl Digit for u16 {
 
     const BASE: u64 = 65536;
 
-    ghost number_of = { λ x. x };
+    ghost value_of = { λ x. x };
 
     ghost small = { lit≤ tt };
 

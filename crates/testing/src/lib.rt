@@ -15,7 +15,7 @@ pub use cases::each_case;
 pub use digests::digest;
 pub use digits::Digit;
 pub use numbers::{read_byte, read_long, read_size};
-pub use preparing::prepare;
+pub use preparing::{prepare, refresh};
 pub use printing::{
     filled_count, print_checked, print_counted, print_digests, print_filled, print_judged,
     print_refusal,

@@ -24,16 +24,19 @@ pub fn read_long(rt: &HostRuntime) -> io::Result<usize> {
     Ok(u64::from_be_bytes(bytes) as usize)
 }
 
+// So many bytes. Those that the input has no more are 0.
+fn read_padded<const N: usize>(rt: &HostRuntime) -> [u8; N] {
+    let mut bytes = [0u8; N];
+    let _ = rt.stdin().read_exact(&mut bytes);
+    bytes
+}
+
 // An entry, two bytes, 0 at the end of the input.
 pub fn read_entry(rt: &HostRuntime) -> u16 {
-    let mut bytes = [0u8; 2];
-    let _ = rt.stdin().read_exact(&mut bytes);
-    u16::from_be_bytes(bytes)
+    u16::from_be_bytes(read_padded(rt))
 }
 
 // One byte, 0 at the end of the input.
 pub fn read_byte(rt: &HostRuntime) -> u8 {
-    let mut bytes = [0u8; 1];
-    let _ = rt.stdin().read_exact(&mut bytes);
-    bytes[0]
+    u8::from_be_bytes(read_padded(rt))
 }
