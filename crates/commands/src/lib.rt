@@ -6,20 +6,17 @@ mod judging;
 mod lines;
 mod sifting;
 
-ghost use Rattle.std.specs.Prelude.{◌≡◌, List, ℕ, ◌*◌, length};
+ghost use Rattle.std.specs.Prelude.{◌≡◌, cond, List, ℕ, ◌*◌, length};
 ghost use Rattle.reading.specs.Rule.{Bytes};
-ghost use Rattle.reading.specs.File.{rule_of};
-ghost use Rattle.reading.specs.Numbered.{reading_of};
-ghost use Rattle.commands.specs.Printing.{program_limit, ListingStops, Stops, Shows};
+ghost use Rattle.commands.specs.Printing.{program_limit, ListingStops, Shows};
 
 use files::{Terminal, read_whole};
 pub use judging::{meets, meets_of};
 use lines::Lines;
-use reading::NumberedRule;
+use reading::{NumberedRule, Refusal};
 use running::State;
 pub use sifting::{sift, sift_of};
 use std::io::{Read, Write};
-use synthesis::Counted;
 
 // The most equations that a rule may have here. The library takes more.
 const LIMIT: usize = 128;
@@ -34,7 +31,7 @@ const FILE: usize = 4096;
 // written.
 #[derive(Clone, Copy)]
 pub struct EquationsResult {
-    pub answer: Counted,
+    pub answer: Result<usize, Refusal>,
     pub lines: usize,
     pub written: bool,
 }
@@ -42,7 +39,7 @@ pub struct EquationsResult {
 // What `sift` hands back: what counting answers to the rule file, and the state in which the scans leave the run.
 #[derive(Clone, Copy)]
 pub struct SiftResult {
-    pub answer: Counted,
+    pub answer: Result<usize, Refusal>,
     pub state: State,
 }
 
@@ -84,27 +81,20 @@ fn print_listing<W: Write, E: Write>(
     }
 }
 
-// Prints the listing of a rule file from its table, or the line of a refusal.
-fn print_answer<W: Write, E: Write>(
-    answer: Counted,
-    file: &[u8],
-    table: &[u16],
+// Prints the line of a refusal.
+fn print_refusal<W: Write, E: Write>(
+    refusal: Refusal,
     terminal: &mut Terminal<W, E>,
 ) -> Printed
-    ensures { Stops answer (reading_of (rule_of file.now)).rule table.now result.lines result.written }
+    ensures { result.lines ≡ cond result.written 1 0 }
 {
-    match answer {
-        Counted::Equations(count) => {
-            let reading = reading::read_rule(file);
-            print_listing(reading.rule, table, count, terminal)
-        }
-        Counted::Refused(number, place) => {
-            let written = terminal.print(listing::refusal_line(number, place));
-            Printed {
-                lines: written as usize,
-                written,
-            }
-        }
+    let written = terminal.print(listing::refusal_line(
+        refusal.fault.number(),
+        refusal.place,
+    ));
+    Printed {
+        lines: usize::from(written),
+        written,
     }
 }
 
@@ -119,7 +109,10 @@ fn print_equations<W: Write, E: Write>(
     ensures shows { Shows file.now table.old result }
 {
     let answer = synthesis::fill_within(file, LIMIT, table);
-    let printed = print_answer(answer, file, table, terminal);
+    let printed = match (answer, reading::read_rule(file)) {
+        (Ok(count), Ok(rule)) => print_listing(rule, table, count, terminal),
+        (Err(refusal), _) | (_, Err(refusal)) => print_refusal(refusal, terminal),
+    };
     EquationsResult {
         answer,
         lines: printed.lines,

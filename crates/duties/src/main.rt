@@ -19,10 +19,10 @@
 // record.
 #![tactic(auto)]
 
+use reading::Refusal;
 use running::{Changed, Duty, OnDuty};
 use std::io;
 use std::io::{Error, ErrorKind};
-use synthesis::Counted;
 use testing::{
     Buffers, each_case, print_checked, read_byte, read_long, read_part, read_prepared, read_size,
 };
@@ -40,7 +40,7 @@ fn print_duty(rt: &HostRuntime, duty: &Duty) -> io::Result<()> {
 }
 
 // Fills a part of the tables.
-fn take_rule<F: FnOnce(&[u8], &mut [u16]) -> Counted>(
+fn take_rule<F: FnOnce(&[u8], &mut [u16]) -> Result<usize, Refusal>>(
     rt: &HostRuntime,
     buffers: &mut Buffers,
     fill: F,
@@ -119,9 +119,9 @@ fn take_call(
         print!(rt; " ")?;
         let ran = running::run_on_duty(tables, before, scans, output, verdicts);
         print_checked(rt, ran.checked)?;
-        print_duty(rt, &ran.duty)?;
+        print_duty(rt, &ran.state)?;
         print!(rt; " {} {}", ran.kept, ran.dropped)?;
-        Ok(ran.duty)
+        Ok(ran.state)
     })?;
     Ok(())
 }

@@ -5,9 +5,9 @@
 
 ghost use Rattle.std.specs.Prelude.{◌≤◌, ◌<◌, ◌≡◌, length};
 
+use reading::Refusal;
 use running::Duty;
 use std::io;
-use synthesis::Counted;
 use testing::{digest, filled_count, print_filled, read_bounded, read_byte, read_size};
 
 // A rule has at most so many equations.
@@ -25,7 +25,7 @@ const SCANS: usize = 65536;
 // What filling answers, and the rules that came on.
 #[derive(Drop)]
 struct Came {
-    answer: Counted,
+    answer: Result<usize, Refusal>,
     duty: Duty,
 }
 
@@ -50,7 +50,7 @@ fn come_all(rule: &[u8], n: u8, tables: &mut [u16]) -> Came
     requires rules { n ≤ 4 }
     requires room { length tables.old ≡ 131072 }
 {
-    let mut answer = Counted::Equations(0);
+    let mut answer = Ok(0);
     let mut duty = running::nobody();
     for number in 0..n {
         let base = TABLE * usize::from(number);
@@ -79,7 +79,7 @@ fn run_laps(
         let ran = running::run_on_duty(tables, duty, scans, output, verdicts);
         kept += ran.kept as u64;
         dropped += ran.dropped as u64;
-        duty = ran.duty;
+        duty = ran.state;
     }
     Sums { kept, dropped }
 }
@@ -97,9 +97,9 @@ fn answer_laps(
     requires laps { laps < 16777216 }
     requires lap { length scans.now ≡ 65536 }
 {
-    let Counted::Equations(_) = came.answer else {
+    if came.answer.is_err() {
         return print_filled(rt, came.answer);
-    };
+    }
     let sums = run_laps(tables, came.duty, laps, scans, output, verdicts);
     println!(rt; "{} {} {}", sums.kept, sums.dropped, digest(0, verdicts))
 }

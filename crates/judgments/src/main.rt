@@ -4,11 +4,11 @@
 // file and the model file. The input ends after the last.
 #![tactic(auto)]
 
-use models::{ModelReading, PhoneModel, Step};
-use reading::FileRead;
+use models::{PhoneModel, Step};
+use reading::Refusal;
 use std::io;
 use testing::{
-    digest, each_case, print_judged, print_refusal, read_long, read_size, read_whole, refresh,
+    digest, each_case, print_judged, read_long, read_size, read_whole, refresh,
 };
 
 // The digest that the digits of `high` and then a step make, as four bytes: from, two bytes of label, to.
@@ -22,22 +22,17 @@ fn steps_digest(model: &PhoneModel) -> u64 {
     model.steps.iter().fold(0, step_digest)
 }
 
-fn print_answer(rt: &HostRuntime, answer: FileRead) -> io::Result<()> {
-    match answer {
-        FileRead::Accepted => print!(rt; "accepted"),
-        FileRead::Refused(number, place) => print_refusal(rt, number, place),
+// A refused file has no model: it has no states and no steps.
+fn print_reading(rt: &HostRuntime, reading: &Result<PhoneModel, Refusal>) -> io::Result<()> {
+    match reading {
+        Ok(model) => print!(rt;
+            "accepted {} {} {}",
+            model.states,
+            model.nsteps,
+            steps_digest(model)
+        ),
+        Err(refusal) => print!(rt; "{refusal} 0 0 0"),
     }
-}
-
-fn print_reading(rt: &HostRuntime, reading: &ModelReading) -> io::Result<()> {
-    let model = &reading.model;
-    print_answer(rt, reading.answer)?;
-    print!(rt;
-        " {} {} {}",
-        model.states,
-        model.nsteps,
-        steps_digest(model)
-    )
 }
 
 fn answer(

@@ -4,29 +4,20 @@
 // length and its file. All numbers have three bytes, highest first. The input ends after the last case.
 #![tactic(auto)]
 
-use models::Matched;
+use models::MatchError;
 use std::io;
-use testing::{each_case, print_judged, print_refusal, read_bounded, read_size, read_whole};
+use testing::{each_case, print_judged, read_bounded, read_size, read_whole};
 
 // A case has no more rules.
 const RULES: usize = 255;
 
-fn print_matched(rt: &HostRuntime, matched: Matched) -> io::Result<()> {
+fn print_matched(rt: &HostRuntime, matched: Result<bool, MatchError>) -> io::Result<()> {
     match matched {
-        Matched::Yes => print!(rt; "yes"),
-        Matched::No => print!(rt; "no"),
-        Matched::RefusedFirst(number, place) => {
-            print!(rt; "first ")?;
-            print_refusal(rt, number, place)
-        }
-        Matched::RefusedSecond(number, place) => {
-            print!(rt; "second ")?;
-            print_refusal(rt, number, place)
-        }
-        Matched::RefusedPairs(number, place) => {
-            print!(rt; "pairs ")?;
-            print_refusal(rt, number, place)
-        }
+        Ok(true) => print!(rt; "yes"),
+        Ok(false) => print!(rt; "no"),
+        Err(MatchError::First(refusal)) => print!(rt; "first {refusal}"),
+        Err(MatchError::Second(refusal)) => print!(rt; "second {refusal}"),
+        Err(MatchError::Pairs(refusal)) => print!(rt; "pairs {refusal}"),
     }
 }
 

@@ -3,21 +3,18 @@
 // scan. The input ends after the last.
 #![tactic(auto)]
 
+use reading::Refusal;
 use std::io;
-use synthesis::Reason;
-use testing::{each_case, print_refusal, read_byte, read_size, read_whole};
+use testing::{each_case, read_byte, read_size, read_whole};
 
 // A case has no longer rule, and no more kept scans.
 const MOST: usize = 1024;
 
-fn print_reason(rt: &HostRuntime, reason: Reason) -> io::Result<()> {
+fn print_reason(rt: &HostRuntime, reason: Result<Option<u8>, Refusal>) -> io::Result<()> {
     match reason {
-        Reason::Kept => println!(rt; "kept"),
-        Reason::Node(number) => println!(rt; "node {number}"),
-        Reason::Refused(number, place) => {
-            print_refusal(rt, number, place)?;
-            println!(rt)
-        }
+        Ok(None) => println!(rt; "kept"),
+        Ok(Some(node)) => println!(rt; "node {node}"),
+        Err(refusal) => println!(rt; "{refusal}"),
     }
 }
 

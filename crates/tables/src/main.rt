@@ -7,11 +7,10 @@
 ghost use Rattle.listing.specs.Positions.{Within};
 
 use listing::Line;
-use reading::NumberedRule;
+use reading::{NumberedRule, Refusal};
 use std::io;
-use synthesis::Counted;
 use testing::{
-    digest, each_case, filled_count, print_refusal, read_bounded, read_long, read_size, refresh,
+    digest, each_case, filled_count, read_bounded, read_long, read_size, refresh,
 };
 
 // A listing has no more lines: two, one for each pattern, and one for each entry at most.
@@ -67,8 +66,8 @@ fn listing_summary(rule: NumberedRule, table: &[u16], count: usize) -> Summary {
 }
 
 // The line of a refusal.
-fn refusal_summary(number: u8, place: usize) -> Summary {
-    let line = listing::refusal_line(number, place);
+fn refusal_summary(refusal: Refusal) -> Summary {
+    let line = listing::refusal_line(refusal.fault.number(), refusal.place);
     Summary {
         len: line.len,
         digest: line_digest(0, line),
@@ -76,10 +75,10 @@ fn refusal_summary(number: u8, place: usize) -> Summary {
 }
 
 // What the program `equations` prints of a file on which filling gives this answer and leaves this table.
-fn text_summary(answer: Counted, file: &[u8], table: &[u16]) -> Summary {
-    match answer {
-        Counted::Equations(count) => listing_summary(reading::read_rule(file).rule, table, count),
-        Counted::Refused(number, place) => refusal_summary(number, place),
+fn text_summary(answer: Result<usize, Refusal>, file: &[u8], table: &[u16]) -> Summary {
+    match (answer, reading::read_rule(file)) {
+        (Ok(count), Ok(rule)) => listing_summary(rule, table, count),
+        (Err(refusal), _) | (_, Err(refusal)) => refusal_summary(refusal),
     }
 }
 
@@ -120,18 +119,18 @@ fn print_rows(rt: &HostRuntime, table: &[u16], n: usize) -> io::Result<()> {
 }
 
 // What counting or filling answers: the number of equations, or a refusal.
-fn print_answer(rt: &HostRuntime, answer: Counted) -> io::Result<()> {
+fn print_answer(rt: &HostRuntime, answer: Result<usize, Refusal>) -> io::Result<()> {
     match answer {
-        Counted::Equations(count) => print!(rt; "{count}"),
-        Counted::Refused(number, place) => print_refusal(rt, number, place),
+        Ok(count) => print!(rt; "{count}"),
+        Err(refusal) => print!(rt; "{refusal}"),
     }
 }
 
 // What counting answers, and what filling answers and leaves in the table.
 fn print_filled(
     rt: &HostRuntime,
-    counted: Counted,
-    filled: Counted,
+    counted: Result<usize, Refusal>,
+    filled: Result<usize, Refusal>,
     table: &[u16],
 ) -> io::Result<()> {
     print_answer(rt, counted)?;
@@ -143,8 +142,8 @@ fn print_filled(
 // The same, and what is listed of it.
 fn print_answers(
     rt: &HostRuntime,
-    counted: Counted,
-    filled: Counted,
+    counted: Result<usize, Refusal>,
+    filled: Result<usize, Refusal>,
     file: &[u8],
     table: &[u16],
 ) -> io::Result<()> {

@@ -5,9 +5,9 @@ use crate::numbers::read_size;
 use crate::preparing::prepare;
 use crate::printing::{print_digests, print_filled};
 use crate::records::{read_bounded, read_whole};
+use reading::Refusal;
 use std::io;
 use std::io::{Error, ErrorKind};
-use synthesis::Counted;
 
 // A table, scans, and two buffers for what a run writes.
 #[derive(Drop)]
@@ -29,12 +29,12 @@ impl Buffers {
     }
 
     // Reads a rule file, fills the table by it from a place on, and prints and hands back what the filling answers.
-    pub fn read_rule<F: FnOnce(&[u8], &mut [u16]) -> Counted>(
+    pub fn read_rule<F: FnOnce(&[u8], &mut [u16]) -> Result<usize, Refusal>>(
         &mut self,
         rt: &HostRuntime,
         place: usize,
         fill: F,
-    ) -> io::Result<Counted>
+    ) -> io::Result<Result<usize, Refusal>>
         requires { F.IsAlwaysCallable fill }
     {
         let Buffers { table, scans, .. } = self;
@@ -62,13 +62,13 @@ impl Buffers {
 }
 
 // A function of slices, since a part of a field behind a reference can't be lent.
-fn fill_from<F: FnOnce(&[u8], &mut [u16]) -> Counted>(
+fn fill_from<F: FnOnce(&[u8], &mut [u16]) -> Result<usize, Refusal>>(
     rt: &HostRuntime,
     scans: &mut [u8],
     table: &mut [u16],
     place: usize,
     fill: F,
-) -> io::Result<Counted>
+) -> io::Result<Result<usize, Refusal>>
     requires place { place ≤ length table.old }
     requires fill { F.IsAlwaysCallable fill }
 {

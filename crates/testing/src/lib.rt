@@ -18,6 +18,5 @@ pub use numbers::{read_byte, read_long, read_size};
 pub use preparing::{prepare, refresh};
 pub use printing::{
     filled_count, print_checked, print_counted, print_digests, print_filled, print_judged,
-    print_refusal,
 };
 pub use records::{read_bounded, read_part, read_prepared, read_whole};

@@ -2,9 +2,9 @@
 // A case is a length of three bytes, highest first, and then that many bytes of a rule file. The input ends after the last.
 #![tactic(auto)]
 
-use reading::{Extent, FileRead, Lowest, NumberedRule, Pattern, Reading};
+use reading::{Listed, NumberedRule, Pattern, Refusal};
 use std::io;
-use testing::{each_case, print_refusal, read_bounded};
+use testing::{each_case, read_bounded};
 
 // The sum of the codes that a pattern covers.
 fn sum_of_codes(pattern: Pattern) -> u64 {
@@ -18,41 +18,42 @@ fn sum_of_codes(pattern: Pattern) -> u64 {
 }
 
 // A space and the lowest code of a pattern, or that there is none.
-fn print_lowest(rt: &HostRuntime, lowest: Lowest) -> io::Result<()> {
+fn print_lowest(rt: &HostRuntime, lowest: Option<u8>) -> io::Result<()> {
     match lowest {
-        Lowest::Code(code) => print!(rt; " {code}"),
-        Lowest::Absent => print!(rt; " none"),
+        Some(code) => print!(rt; " {code}"),
+        None => print!(rt; " none"),
     }
 }
 
-fn print_pattern(rt: &HostRuntime, pattern: Pattern, extent: Extent) -> io::Result<()> {
+fn print_pattern(rt: &HostRuntime, listed: &Listed) -> io::Result<()> {
+    let Listed { pattern, extent } = *listed;
     print!(rt; " p {} {} {}", pattern.mask, pattern.first, pattern.last)?;
     print_lowest(rt, extent.lowest)?;
     print!(rt; " {} {}", extent.count, sum_of_codes(pattern))
 }
 
 fn print_patterns(rt: &HostRuntime, rule: &NumberedRule) -> io::Result<()> {
-    for (pattern, extent) in rule.patterns.iter().zip(&rule.extents).take(rule.npatterns) {
-        print_pattern(rt, *pattern, *extent)?;
+    for listed in rule.patterns.iter().take(rule.npatterns) {
+        print_pattern(rt, listed)?;
     }
     Ok(())
 }
 
 fn print_nodes(rt: &HostRuntime, rule: &NumberedRule) -> io::Result<()> {
-    for (kind, arg) in rule.kinds.iter().zip(&rule.args).take(rule.nnodes) {
-        print!(rt; " n {kind} {arg}")?;
+    for node in rule.nodes.iter().take(rule.nnodes) {
+        print!(rt; " n {} {}", node.kind(), node.argument())?;
     }
     Ok(())
 }
 
-fn print_reading(rt: &HostRuntime, reading: &Reading) -> io::Result<()> {
-    match reading.answer {
-        FileRead::Accepted => {
+fn print_reading(rt: &HostRuntime, reading: &Result<NumberedRule, Refusal>) -> io::Result<()> {
+    match reading {
+        Ok(rule) => {
             print!(rt; "accepted")?;
-            print_patterns(rt, &reading.rule)?;
-            print_nodes(rt, &reading.rule)?;
+            print_patterns(rt, rule)?;
+            print_nodes(rt, rule)?;
         }
-        FileRead::Refused(number, place) => print_refusal(rt, number, place)?,
+        Err(refusal) => print!(rt; "{refusal}")?,
     }
     println!(rt)
 }
