@@ -105,7 +105,7 @@ error_answer (Pairs r) = refused_pairs (number r.fault) r.place
 
 -- what a result says
 abbrev pub match_answer : Result Bool MatchError → MatchAnswer
-match_answer (Ok yes) = said yes
+match_answer (Ok matched) = said matched
 match_answer (Err e) = error_answer e
 
 -- The answer to each: yes where the list matches the models, no where it doesn't, or the refusal.
