@@ -1,5 +1,4 @@
 -- What model files say: their records, bytes, fronts and faults.
-pub mod Cases
 pub mod StepLaws
 pub mod RecordChecks
 pub mod StepBytes

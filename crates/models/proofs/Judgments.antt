@@ -1,9 +1,7 @@
 -- What is said of a rule and a model, and what the table of a rule enforces.
-use Rattle.models.specs.declared.Judgment.{Judgment}
 pub mod TablesEnforce
 pub mod Accepting
 pub mod JudgingOrder
 pub mod JudgingLaws
 pub mod MeetingAlike
-pub mod Refusing
 pub mod Judgment

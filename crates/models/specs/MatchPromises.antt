@@ -1,6 +1,6 @@
 -- What this crate promises of matching, as statements over the definitions; proofs/ has a theorem of each of these types. They speak of every answer that is as
 -- `MatchedAs` says of what `matching_of` makes of three inputs, and so of what `match_models` answers.
-use Rattle.std.specs.Prelude.{ℕ, ◌≤◌, ◌≡◌, ◌↔◌, ◌⊎◌, List, length, take}
+use Rattle.std.specs.Prelude.{ℕ, ◌≤◌, ◌≡◌, ◌↔◌, ◌⊎◌, true, false, List, length, take}
 use Rattle.reading.specs.Rule.{Rule, All, Bytes}
 use Rattle.reading.specs.File.{accepted, refused, and_then, Outcome}
 use Rattle.enforcement.specs.Model.{Satisfies, Bisimulation, Bisimilar}
@@ -8,7 +8,7 @@ use Rattle.models.specs.Phone.{Phone, model_of, phone_of}
 use Rattle.models.specs.Judging.{model_reading_of, judging_of, JudgedAs}
 use Rattle.models.specs.Pairs.{Pair, WellFormedPair, encode_pairs, most_pairs, pairs_of, Listed, matching_of, MatchedAs, paper_answer, MatchAnswer, said, refused_first, refused_second, refused_pairs}
 use Rattle.models.specs.PairFaults.{PairFault}
-use Rattle.models.specs.declared.ModelReading.{ModelReading}
+use Rattle.models.specs.declared.PhoneModel.{PhoneModel}
 use Rattle.models.specs.declared.Judgment.{Judgment}
 use Rattle.models.specs.declared.Judgment.TheVariants.{Meets, Breaks}
 

@@ -1,12 +1,15 @@
 -- Pairs of states of two models: what the bytes of a list of pairs say, when such a list matches the two models, and what `match_models` answers to two
 -- model files and a list. The checks of a pair stand in the request's order, a line each. l is the list's bytes, `at` the place of a pair, n and n' are the
 -- counts of states of the first and of the second model.
-use Rattle.std.specs.Prelude.{ℕ, zero, suc, ◌+◌, ◌<◌, ◌≡◌, ◌⊎◌, Bool, true, false, cond, List, [], ◌∷◌, eqb, ltb, leb, length, get_or, Ok, Err}
+use Rattle.std.specs.Prelude.{ℕ, zero, suc, ◌+◌, ◌<◌, ◌≡◌, ◌⊎◌, Bool, true, false, cond, List, [], ◌∷◌, eqb, ltb, leb, length, get_or, Result, Ok, Err}
 use Rattle.reading.specs.Rule.{encode_each}
 use Rattle.reading.specs.File.{Outcome, accepted, refused, refuse, and_then, by_case}
 use Rattle.synthesis.specs.Joined.{Some}
 use Rattle.enforcement.specs.Model.{Bisimulation}
 use Rattle.models.specs.Phone.{Phone, model_of, phone_of}
+use Rattle.reading.specs.Refusals.{number}
+use Rattle.models.specs.declared.MatchError.{MatchError}
+use Rattle.models.specs.declared.MatchError.TheVariants.{First, Second, Pairs}
 
 -- ---- pairs and their bytes
 
@@ -102,7 +105,7 @@ error_answer (Pairs r) = refused_pairs (number r.fault) r.place
 
 -- what a result says
 abbrev pub match_answer : Result Bool MatchError → MatchAnswer
-match_answer (Ok yes) = said yes
+match_answer (Ok matched) = said matched
 match_answer (Err e) = error_answer e
 
 -- The answer to each: yes where the list matches the models, no where it doesn't, or the refusal.

@@ -14,6 +14,7 @@ use Rattle.enforcement.specs.Promises.{Enforces, WalksBehind}
 use Rattle.models.specs.Phone.{Phone, no_step, model_of, PhoneWithinLimits, encode_phone, phone_of}
 use Rattle.models.specs.Faults.{Fault}
 use Rattle.models.specs.Judging.{stored, model_reading_of, judging_of, JudgedAs, table_judged}
+use Rattle.models.specs.declared.PhoneModel.{PhoneModel}
 use Rattle.models.specs.declared.Judgment.{Judgment}
 use Rattle.models.specs.declared.Judgment.TheVariants.{Meets, Breaks}
 

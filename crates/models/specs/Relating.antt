@@ -1,24 +1,20 @@
 -- What matching goes by: a relation between the states of two models, as sets of states in rows and in columns, and the partners of steps. A set of states is a
 -- number, state s its bit s. No public contract cites these.
-use Rattle.std.specs.Prelude.{ℕ, ◌<◌, ◌≡◌, ◌↔◌, List, length, get_or}
-use Rattle.reading.specs.File.{Outcome, accepted, refused, by_case}
+use Rattle.std.specs.Prelude.{ℕ, ◌<◌, ◌≡◌, ◌↔◌, List, length, get_or, Result, Ok}
+use Rattle.reading.specs.File.{Outcome, accepted, refused, and_then}
+use Rattle.reading.specs.Refusals.{as_outcome}
+use Rattle.reading.specs.declared.refusals.Refusal.{Refusal}
 use Rattle.synthesis.specs.NodeSet.{Has}
 use Rattle.models.specs.Phone.{no_step}
-use Rattle.models.specs.Pairs.{Pair, Listed, MatchAnswer, said, refused_first, refused_second, refused_pairs}
+use Rattle.models.specs.Pairs.{Pair, Listed}
 use Rattle.models.specs.declared.Step.{Step}
-use Rattle.models.specs.declared.pairing.PairRead.{PairRead}
-use Rattle.models.specs.declared.pairing.PairRead as PairRead'
 use Rattle.models.specs.declared.pairing.Relation.{Relation}
 
 -- ---- reading a list
 
--- the case of each outcome; a refusal has the paper's number and place
-abbrev pub pair_read : Outcome Pair → PairRead
-pair_read = by_case (λ p. PairRead'.TheVariants.Read p.first p.second) PairRead'.TheVariants.Refused
-
-abbrev pub pair_answer : PairRead → FILEREAD
-pair_answer (PairRead'.TheVariants.Read x y) = FILE_ACCEPTED
-pair_answer (PairRead'.TheVariants.Refused number place) = refused number place
+-- the states of a pair, two numbers
+abbrev pub pair_read : Outcome Pair → Outcome (ℕ × ℕ)
+pair_read o = and_then o (λ p. accepted (p.first, p.second))
 
 -- Row x has the states that are related to x.
 pub record Rows (R : (x y : ℕ) → Type 0) (rows : List ℕ) : Type 0 where
@@ -30,24 +26,10 @@ pub record Relates (ps : List Pair) (rows columns : List ℕ) : Type 0 where
   pub in_rows : Rows (Listed ps) rows
   pub in_columns : Rows (λ y x. Listed ps x y) columns
 
--- the answer to an outcome, with its relation; of a refusal the answer alone
-abbrev pub RelatedAs : Outcome (List Pair) → Relation → Type 0
-RelatedAs (accepted ps) r = (r.answer ≡ FILE_ACCEPTED) × Relates ps r.rows r.columns
-RelatedAs (refused number place) r = r.answer ≡ refused number place
-
--- ---- refusals passed up
-
-abbrev pub first_refusal : FILEREAD → MatchAnswer
-first_refusal FILE_ACCEPTED = (said false)
-first_refusal (refused number place) = refused_first number place
-
-abbrev pub second_refusal : FILEREAD → MatchAnswer
-second_refusal FILE_ACCEPTED = (said false)
-second_refusal (refused number place) = refused_second number place
-
-abbrev pub pairs_refusal : FILEREAD → MatchAnswer
-pairs_refusal FILE_ACCEPTED = (said false)
-pairs_refusal (refused number place) = refused_pairs number place
+-- the relation of an outcome; of a refusal that alone
+abbrev pub RelatedAs : Outcome (List Pair) → Result Relation Refusal → Type 0
+RelatedAs (accepted ps) result = (r : Relation) × (result ≡ Ok r) × Relates ps r.rows r.columns
+RelatedAs (refused number place) result = as_outcome result ≡ refused number place
 
 -- ---- partners
 

@@ -2,36 +2,26 @@
 ghost use Rattle.models.specs.Phone.{steps_at};
 ghost use Rattle.models.specs.Loading.{StepsBegun, LoadedAs};
 
-use crate::records::StepRead;
 use crate::{Step, records};
-use reading::FileRead;
+use reading::Refusal;
 
-// How many steps stand first in the slice. They count only where the answer accepts.
-#[derive(Drop)]
-pub(crate) struct Loaded {
-    pub(crate) answer: FileRead,
-    pub(crate) nsteps: usize,
-}
-
-// The steps of a file, put into blank records.
-pub(crate) fn read_steps(bytes: &[u8], states: usize, steps: &mut [Step]) -> Loaded
+// The steps of a file, put into blank records; how many there are.
+pub(crate) fn read_steps(
+    bytes: &[u8],
+    states: usize,
+    steps: &mut [Step],
+) -> Result<usize, Refusal>
     requires { StepsBegun bytes.now states steps.old 0 2 }
-    ensures { LoadedAs (steps_at 512 bytes.now states 2) steps.new result.answer result.nsteps }
+    ensures { LoadedAs (steps_at 512 bytes.now states 2) steps.new result }
 {
     let mut n = 0;
     let mut at = 2;
+    // By places, since the length of a record is known when it has been read.
     while at < bytes.len() {
-        let found = records::read_step(bytes, states, at, 512 - n);
-        let StepRead::Read(step) = found else {
-            let answer = records::step_answer(found);
-            return Loaded { answer, nsteps: n };
-        };
+        let step = records::read_step(bytes, states, at, 512 - n)?;
         steps[n] = step;
         n += 1;
         at += records::record_length(step);
     }
-    Loaded {
-        answer: FileRead::Accepted,
-        nsteps: n,
-    }
+    Ok(n)
 }

@@ -11,7 +11,7 @@ use borrow.Author.Tests.{ltb-false, eqb-true, eqb-false, le-ltb, ne_eqb, not-fal
 use Rattle.reading.specs.Rule.{Bytes}
 use Rattle.reading.specs.File.{Outcome, accepted, refused}
 use Rattle.reading.proofs.Basics.EncodeLaws.{encode_each-bytes}
-use Rattle.reading.proofs.Basics.Outcomes.{accepted_is, and_then-accepted, and_then-accepts, refuse_accepted}
+use Rattle.reading.proofs.Basics.Outcomes.{accepted_is, never_accepted, and_then-accepted, and_then-accepts, refuse_accepted}
 use Rattle.reading.proofs.Basics.Places.{from_place}
 use Rattle.reading.proofs.Numbering.NumberedLaws.{padded_at}
 use Rattle.models.specs.Phone.{Phone, WellFormedStep, WellFormedPhone, PhoneWithinLimits, step_bytes, encode_step, encode_steps, encode_phone}
@@ -19,6 +19,7 @@ use Rattle.models.specs.Phone.{no_step, states_kind, states_of, steps_at, phone_
 use Rattle.models.specs.Judging.{stored, model_reading_of}
 use Rattle.models.specs.Promises.{AcceptsPhones, OnePhone, StoresModel, AnswersAccepted}
 use Rattle.models.specs.declared.Step.{Step}
+use Rattle.models.specs.declared.PhoneModel.{PhoneModel}
 use Rattle.models.proofs.Files.StepBytes.{steps_accept, steps_read}
 
 -- ---- the whole file
@@ -101,13 +102,13 @@ encode_bytes y w =
 
 -- ---- what is handed up of it
 
-pub phone_accepted : (o : Outcome Phone) (m : PhoneModel) → model_reading_of o ≡ accepted m → (y : Phone) × (o ≡ accepted y) × (m ≡ stored y)
-phone_accepted (accepted y) m e = (y, refl, cc)
-phone_accepted (refused number place) m e = let z : ◌≡◌ {A = ℕ} 0 1 = cc in absurd (omega arith)
+pub phone_accepted : (o : Outcome Phone) {m : PhoneModel} → model_reading_of o ≡ accepted m → (y : Phone) × (o ≡ accepted y) × (m ≡ stored y)
+phone_accepted (accepted y) e = (y, refl, sym (accepted_is e))
+phone_accepted (refused number place) e = absurd (never_accepted e)
 
 pub answers_accepted : AnswersAccepted
 answers_accepted f bytes m = (
-  λ told. let (y, read, model) = phone_accepted (phone_of f) m told in let (w, is) = (accepts_phones f bytes y).0 read in (y, w, is, model),
+  λ told. let (y, read, model) = phone_accepted (phone_of f) told in let (w, is) = (accepts_phones f bytes y).0 read in (y, w, is, model),
   λ (y, w, is, model). ap model_reading_of ((accepts_phones f bytes y).1 (w, is)) ∙ ap accepted (sym model),
 )
 

@@ -19,14 +19,12 @@ use Rattle.models.specs.Faults.{ModelBefore, BeginsModel, IsCount, IsStep, after
 use Rattle.models.specs.Faults.{Fault, empty_file, count_cut, step_cut, not_count, bad_count, not_step, bad_step, step_513}
 use Rattle.models.specs.Promises.{RefusesAtTheFault, HasOneFault}
 use Rattle.models.specs.declared.Step.{Step}
-use Rattle.reading.proofs.Basics.Outcomes.{by_case-refused}
-use Rattle.reading.proofs.Basics.Cases.{acceptance_of, acceptance_refused}
+use Rattle.reading.proofs.Basics.Outcomes.{never_refused, refused_same}
 use Rattle.reading.proofs.RecordLists.RecordWays.{record_accepted, records_refused}
 use Rattle.reading.proofs.Refusing.OneFault.{one_fault}
 use Rattle.models.proofs.Files.StepLaws.{tested_step, tested_no_step, step_tested}
 use Rattle.models.proofs.Files.RecordChecks as Checks
 use Rattle.models.proofs.Files.StepBytes.{StepDue, step_due}
-use Rattle.models.proofs.Files.Cases.{states_cases, step_cases}
 use Rattle.models.proofs.Files.Encoding.{states_stand}
 use Rattle.models.proofs.Files.ModelFronts.{refused_after_model, model_with_step, model_begins, begins_among}
 
@@ -172,33 +170,26 @@ module _ (f : List ℕ) (bytes : Bytes f) where
         none (rw ends at (model_begins longer)))
 
   pub fault_refuses : {number place : ℕ} → Fault f number place → phone_of f ≡ refused number place
-  fault_refuses (empty_file e) = first_refused f (by_case-refused states_cases (λ n. n) (states_of f) _ _ (Checks.file_empty f e))
-  fault_refuses (count_cut (inside, kind) cut) =
-      first_refused f (by_case-refused states_cases (λ n. n) (states_of f) _ _ (Checks.states_cut f (λ z. omega arith) kind (omega arith)))
+  fault_refuses (empty_file e) = first_refused f (Checks.file_empty f e)
+  fault_refuses (count_cut (inside, kind) cut) = first_refused f (Checks.states_cut f (λ z. omega arith) kind (omega arith))
   fault_refuses (step_cut m kind few cut) = cut_refused m few kind cut
-  fault_refuses (not_count (inside, other)) =
-      first_refused f (by_case-refused states_cases (λ n. n) (states_of f) _ _ (Checks.other_kind f (λ z. omega arith) other))
+  fault_refuses (not_count (inside, other)) = first_refused f (Checks.other_kind f (λ z. omega arith) other)
   fault_refuses (bad_count (inside, kind) whole (inl none)) =
-      first_refused f (by_case-refused states_cases (λ n. n) (states_of f) _ _ (Checks.no_states f (λ z. omega arith) kind (λ z. omega arith) none))
+      first_refused f (Checks.no_states f (λ z. omega arith) kind (λ z. omega arith) none)
   fault_refuses (bad_count (inside, kind) whole (inr many)) =
-      first_refused f (by_case-refused states_cases (λ n. n) (states_of f) _ _
-      (Checks.states_over f (λ z. omega arith) kind (λ z. omega arith) (λ z. omega arith) many))
+      first_refused f (Checks.states_over f (λ z. omega arith) kind (λ z. omega arith) (λ z. omega arith) many)
   fault_refuses (not_step {at} {n} m (inside, other)) =
-      next_refused f m inside (by_case-refused step_cases (λ x. x) (record_at (step_format f m.phone.states) (512 - n) at) _ _
-      (Checks.no_step f m.phone.states at (512 - n) (λ e. other (inl e)) (λ e. other (inr e))))
+      next_refused f m inside (Checks.no_step f m.phone.states at (512 - n) (λ e. other (inl e)) (λ e. other (inr e)))
   fault_refuses (bad_step m kind few whole none) = bad_refused m few kind whole none
   fault_refuses (step_513 {at} m (inside, kind)) =
-      next_refused f m inside (by_case-refused step_cases (λ x. x) (record_at (step_format f m.phone.states) 0 at) _ _
-      (Checks.no_step-left f m.phone.states at 0 (step_tested (get_or f at 0) kind) refl))
+      next_refused f m inside (Checks.no_step-left f m.phone.states at 0 (step_tested (get_or f at 0) kind) refl)
 
 -- ---- the promise
 
-answer_is : (o : Outcome Phone) → (model_reading_of o).answer ≡ acceptance_of o
-answer_is (accepted y) = refl
-answer_is (refused number place) = refl
-
-pub model_refused : (o : Outcome Phone) (number place : ℕ) → (o ≡ refused number place) ↔ ((model_reading_of o).answer ≡ refused number place)
-model_refused o number place = rw (answer_is o) (acceptance_refused o number place)
+pub model_refused : (o : Outcome Phone) (number place : ℕ) → (o ≡ refused number place) ↔ (model_reading_of o ≡ refused number place)
+model_refused (accepted y) number place = (λ e. absurd (never_refused e), λ e. absurd (never_refused e))
+model_refused (refused m at) number place =
+    (λ e. let (is, there) = refused_same e in rw (is, there), λ e. let (is, there) = refused_same e in rw (is, there))
 
 pub refuses_at_the_fault : RefusesAtTheFault
 refuses_at_the_fault f bytes number place = (
@@ -207,4 +198,4 @@ refuses_at_the_fault f bytes number place = (
 )
 
 pub has_one_fault : HasOneFault
-has_one_fault f bytes = one_fault (model_reading_of (phone_of f)).answer (refuses_at_the_fault f bytes)
+has_one_fault f bytes = one_fault (model_reading_of (phone_of f)) (refuses_at_the_fault f bytes)

@@ -1,5 +1,5 @@
 -- What the callers of `read_model` know: of an accepted file the model that the struct has, and of a refused one the refusal.
-use mathlib.Core.Path.{◌≡◌, sym, ◌∙◌, ap}
+use mathlib.Core.Path.{◌≡◌, sym}
 use mathlib.Core.List.{List}
 use Prim.Native.Nat.{ℕ}
 use Rattle.reading.specs.Rule.{Bytes}
@@ -9,7 +9,6 @@ use Rattle.models.specs.Judging.{stored, model_reading_of}
 use Rattle.models.specs.Exploring.{HasPhone, StepsWithinLimits}
 use Rattle.models.specs.declared.Step.{Step}
 use Rattle.models.specs.declared.PhoneModel.{PhoneModel}
-use Rattle.models.specs.declared.ModelReading.{ModelReading}
 use Rattle.models.proofs.Files.Encoding.{phone_accepted, phone_within_limits}
 use Rattle.models.proofs.Files.FileFaults.{model_refused}
 use Rattle.models.proofs.Phones.PhoneCodes.{phone_steps}
@@ -19,21 +18,14 @@ pub record ModelRead (f : List ℕ) (model : PhoneModel) : Type 0 where
   pub has : HasPhone model
   pub phone_is : phone_of f ≡ accepted has.phone
 
-module _ (f : List ℕ) {reading : ModelReading} (read : reading ≡ model_reading_of (phone_of f)) where
-  pub model_read : Bytes f → reading.answer ≡ FILE_ACCEPTED → ModelRead f reading.model
-  model_read bytes told =
-      let (y, is, model) = phone_accepted (phone_of f) (sym (ap (λ (x : ModelReading). x.answer) read) ∙ told) in
-      record {
-        has = record {
-          phone = y;
-          within_limits = phone_within_limits f y bytes is;
-          is_stored = ap (λ (x : ModelReading). x.model) read ∙ model;
-        };
-        phone_is = is;
-      }
+module _ (f : List ℕ) where
+  pub model_read : Bytes f → {model : PhoneModel} → accepted model ≡ model_reading_of (phone_of f) → ModelRead f model
+  model_read bytes {model} read =
+      let (y, is, model_is) = phone_accepted (phone_of f) (sym read) in
+      record { has = record { phone = y; within_limits = phone_within_limits f y bytes is; is_stored = model_is }; phone_is = is }
 
-  pub model_unread : {number place : ℕ} → reading.answer ≡ refused number place → phone_of f ≡ refused number place
-  model_unread {number} {place} told = (model_refused (phone_of f) number place).1 (sym (ap (λ (x : ModelReading). x.answer) read) ∙ told)
+  pub model_unread : {number place : ℕ} → refused number place ≡ model_reading_of (phone_of f) → phone_of f ≡ refused number place
+  model_unread {number} {place} read = (model_refused (phone_of f) number place).1 (sym read)
 
 -- the steps that the struct gives are those of the model, within the limits
 pub steps_are : {f : List ℕ} {model : PhoneModel} (m : ModelRead f model) {steps : List Step} → ((y : Phone) → model ≡ stored y → steps ≡ y.steps)

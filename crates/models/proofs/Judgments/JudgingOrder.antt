@@ -51,7 +51,7 @@ judges_in_order limit s capacity f answer judged = record {
   model = λ n e room number place told.
       let (y, fills, n-is) = filled n e room in
       refuses number place (judging_model_refused limit s capacity fills f ((model_refused (phone_of f) number place).1 told));
-  judged = λ n e room told.
+  judged = λ n e room m told.
       let (y, fills, n-is) = filled n e room in
       let (p, read, stored) = phone_accepted (phone_of f) told in
       meets_or_breaks (record { rule = y.rule; phone = p }) answer (rw (judging_accepts limit s capacity fills f read) at judged);

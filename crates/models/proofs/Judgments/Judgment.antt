@@ -13,16 +13,15 @@ use Rattle.synthesis.specs.Monitor.{mark, most, lookup}
 use Rattle.synthesis.specs.Table.{WellFormedTable}
 use Rattle.synthesis.specs.Building.{Synthesis, filling_of, counted_of, table_after, table_left, Fills}
 use Rattle.synthesis.proofs.Tables.WellFormedTables.{well_formed_weaken}
-use Rattle.synthesis.proofs.Tables.SynthesisOutcomes.{counted_refuses}
+use Rattle.synthesis.proofs.Tables.SynthesisOutcomes.{counted_accepts, counted_refuses}
 use Rattle.synthesis.proofs.Tables.Built.{fills_accepted, table_monitors, built_well_formed}
 use Rattle.enforcement.specs.Model.{SatisfiesDecided}
 use Rattle.models.specs.Phone.{Phone, model_of, phone_of}
 use Rattle.models.specs.Judging.{stored, model_reading_of, judging_of, JudgedAs, table_judged}
-use Rattle.models.specs.Readings.{rule_refusal, refusal_before}
 use Rattle.models.specs.Exploring.{NeverDrops, HasPhone, StepsWithinLimits, model_with}
 use Rattle.models.specs.declared.Step.{Step}
 use Rattle.models.specs.declared.PhoneModel.{PhoneModel}
-use Rattle.models.specs.declared.ModelReading.{ModelReading}
+use Rattle.models.specs.declared.Judgment.{Judgment}
 use Rattle.enforcement.proofs.SatisfactionLaws.{satisfies_safe}
 use Rattle.models.proofs.Pairs.NeverDropping.{never_drops_safe}
 use Rattle.models.proofs.Files.ReadModels.{ModelRead, model_read, model_unread, steps_are, read_steps}
@@ -44,26 +43,27 @@ module _ (limit : ℕ) (small : limit ≤ most) (s table f : List ℕ) where
   -- ---- the answer where the rule or the model is refused
 
   refused_judges : {number place : ℕ} → judging_of limit s (length table) f ≡ refused number place
-      → Judges (refused number place) table
-  refused_judges e = rw e (refl, refl)
+      → {answer : Outcome Judgment} → answer ≡ refused number place → Judges answer table
+  refused_judges e is = rw e (is, refl)
 
-  pub judges_model_refused : {reading : ModelReading} {number place : ℕ} {r : Outcome Judgment} → reading ≡ model_reading_of (phone_of f)
-      → reading.answer ≡ refused number place
-      → r ≡ refusal_before (counted_of (filling_of limit s (length table))) reading.answer → Judges r table
-  judges_model_refused {reading} {number} {place} {r} read told e = on (filling_of limit s (length table)) refl (rw told at e)
-    where
-      on : (o : Outcome Synthesis) → filling_of limit s (length table) ≡ o
-          → r ≡ refusal_before (counted_of o) (refused number place) → Judges r table
-      on (accepted y) filling e =
-          rw e (refused_judges (judging_model_refused limit s (length table) filling f (model_unread f read told)))
-      on (refused number' place') filling e = rw e (refused_judges (judging_refused limit s (length table) filling f))
+  module _ {number place : ℕ} (filling : refused number place ≡ counted_of (filling_of limit s (length table))) where
+    filling_refused : filling_of limit s (length table) ≡ refused number place
+    filling_refused = counted_refuses (filling_of limit s (length table)) number place (sym filling)
 
-  pub judges_rule_refused : {filled : Outcome ℕ} {number place : ℕ} {r : Outcome Judgment} {after : List ℕ}
-      → filled ≡ counted_of (filling_of limit s (length table)) → after ≡ table_left limit mark s table
-      → filled ≡ refused number place → r ≡ rule_refusal filled → Judges r after
-  judges_rule_refused {number = number} {place} is left told e =
-      let filling = counted_refuses (filling_of limit s (length table)) number place (sym is ∙ told) in
-      rw (e, told, left ∙ ap (λ (o : Outcome Synthesis). table_after mark o table) filling) (refused_judges (judging_refused limit s (length table) filling f))
+    pub judges_rule_refused : {answer : Outcome Judgment} → answer ≡ refused number place → Judges answer table
+    judges_rule_refused is = refused_judges (judging_refused limit s (length table) filling_refused f) is
+
+    -- and what filling leaves then
+    pub rule_leaves : {answer : Outcome Judgment} {after : List ℕ} → answer ≡ refused number place → after ≡ table_left limit mark s table → Judges answer after
+    rule_leaves is left =
+        rw (left ∙ ap (λ (o : Outcome Synthesis). table_after mark o table) filling_refused) (judges_rule_refused is)
+
+  pub judges_model_refused : {n : ℕ} → accepted n ≡ counted_of (filling_of limit s (length table))
+      → {number place : ℕ} → refused number place ≡ model_reading_of (phone_of f)
+      → {answer : Outcome Judgment} → answer ≡ refused number place → Judges answer table
+  judges_model_refused {n} filling read is =
+      let (y, fills, _) = counted_accepts (filling_of limit s (length table)) n (sym filling) in
+      refused_judges (judging_model_refused limit s (length table) fills f (model_unread f read)) is
 
   -- ---- a rule and a model that were accepted, and what the calls ask for
 
@@ -74,17 +74,16 @@ module _ (limit : ℕ) (small : limit ≤ most) (s table f : List ℕ) where
     pub fills : Fills limit mark s table rule count after
     pub read : ModelRead f model
 
-  pub both_accepted : {reading : ModelReading} {filled : Outcome ℕ} {after : List ℕ} (n : ℕ) → Bytes s → Bytes f
-      → reading ≡ model_reading_of (phone_of f) → reading.answer ≡ FILE_ACCEPTED
-      → filled ≡ counted_of (filling_of limit s (length table)) → after ≡ table_left limit mark s table
-      → filled ≡ accepted n → Accepts after reading.model
-  both_accepted n rule_bytes bytes read told is left counted =
-      let (rule, fills) = fills_accepted limit mark s table n (omega arith) rule_bytes (sym is ∙ counted) in
+  pub both_accepted : {n : ℕ} {after : List ℕ} {model : PhoneModel} → Bytes s → Bytes f
+      → accepted model ≡ model_reading_of (phone_of f) → accepted n ≡ counted_of (filling_of limit s (length table)) → after ≡ table_left limit mark s table
+      → Accepts after model
+  both_accepted {n} rule_bytes bytes read counted left =
+      let (rule, fills) = fills_accepted limit mark s table n (omega arith) rule_bytes (sym counted) in
       record {
         rule = rule;
         count = n;
         fills = subst (Fills limit mark s table rule n) (sym left) fills;
-        read = model_read f read bytes told;
+        read = model_read f bytes read;
       }
 
   module _ {after : List ℕ} {model : PhoneModel} (a : Accepts after model) where

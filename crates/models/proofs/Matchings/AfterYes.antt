@@ -2,6 +2,7 @@
 -- whether a model satisfies the rule of a file, and what it refuses before it reads the model doesn't hang on the model.
 use mathlib.Core.Path.{◌≡◌, refl, sym, ◌∙◌, ap}
 use mathlib.Core.Logic.{inl, inr}
+use mathlib.Core.Bool.{true}
 use mathlib.Core.List.{List}
 use Prim.Native.Nat.{ℕ}
 use native.Mathlib.Omega.{arith}
@@ -26,7 +27,7 @@ use Rattle.models.specs.declared.Judgment.{Judgment}
 
 pub matched_alike : MatchedAlike
 matched_alike f g l told =
-    let (first, second, (ps, encoded)) = (refuses_pairs f g l (said true) told).none.0 (inl refl) in
+    let (m, m', first, second, (ps, encoded)) = (refuses_pairs f g l (said true) told).none.0 (inl refl) in
     let (a, one, stored) = phone_accepted (phone_of f) first in
     let (b, other, stored') = phone_accepted (phone_of g) second in
     let read : pairs_of l a.states b.states ≡ accepted ps =

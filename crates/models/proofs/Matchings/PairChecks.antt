@@ -1,40 +1,34 @@
--- The rows of the refusal table of a list of pairs: where the checks before it pass and its own doesn't, its refusal is the pair's case. And what a pair is
+-- The rows of the refusal table of a list of pairs: where the checks before it pass and its own doesn't, its refusal is what the pair says. And what a pair is
 -- where every check passes.
-use mathlib.Core.Path.{◌≡◌}
+use mathlib.Core.Path.{◌≡◌, sym, ap}
 use mathlib.Core.List.{List}
 use Prim.Native.Nat.{ℕ, ◌+◌, ◌≤◌, ◌<◌}
 use native.Mathlib.Omega.{arith}
 use lib.Dec.{eqb, leb}
 use lib.ListN.{length, get_or}
 use borrow.Author.Tests.{le-leb, lt-leb, ne_eqb, leb-false, eqb-false}
-use Rattle.reading.specs.File.{accepted}
-use Rattle.reading.proofs.Basics.Outcomes.{Distinct, accepted_is, refuse_accepted}
+use Rattle.reading.specs.File.{Outcome, accepted, refused}
+use Rattle.reading.proofs.Basics.Outcomes.{accepted_is, never_accepted, never_refused, refuse_accepted, and_then-refused}
 use Rattle.models.specs.Pairs.{Pair, pair_at}
 use Rattle.models.specs.Relating.{pair_read}
-use Rattle.models.specs.declared.pairing.PairRead.{PairRead}
-use Rattle.models.specs.declared.pairing.PairRead.TheVariants as PairRead'
 
 module _ (l : List ℕ) (n n' at left : ℕ) where
-  -- what `read_pair` answers
-  abbrev found : PairRead
-  found = pair_read (pair_at l n n' at left)
-
-  pub pair_cut : length l ≤ at + 1 → PairRead'.Refused 22 (length l) ≡ found
+  pub pair_cut : length l ≤ at + 1 → pair_at l n n' at left ≡ refused 22 (length l)
   pair_cut h = simp (le-leb _ _ h)
 
   module _ (whole : at + 1 < length l) where
-    pub no_first_state : n ≤ get_or l at 0 → PairRead'.Refused 23 at ≡ found
+    pub no_first_state : n ≤ get_or l at 0 → pair_at l n n' at left ≡ refused 23 at
     no_first_state h = simp (lt-leb _ _ whole, le-leb _ _ h)
 
     module _ (first : get_or l at 0 < n) where
-      pub no_second_state : n' ≤ get_or l (at + 1) 0 → PairRead'.Refused 23 at ≡ found
+      pub no_second_state : n' ≤ get_or l (at + 1) 0 → pair_at l n n' at left ≡ refused 23 at
       no_second_state h = simp (lt-leb _ _ whole, lt-leb _ _ first, le-leb _ _ h)
 
       module _ (second : get_or l (at + 1) 0 < n') where
-        pub no_pair_left : left ≡ 0 → PairRead'.Refused 24 at ≡ found
+        pub no_pair_left : left ≡ 0 → pair_at l n n' at left ≡ refused 24 at
         no_pair_left h = simp (lt-leb _ _ whole, lt-leb _ _ first, lt-leb _ _ second, h)
 
-        pub pair_whole : (left ≡ 0 → ⊥) → PairRead'.Read (get_or l at 0) (get_or l (at + 1) 0) ≡ found
+        pub pair_whole : (left ≡ 0 → ⊥) → pair_at l n n' at left ≡ accepted (record { first = get_or l at 0; second = get_or l (at + 1) 0 })
         pair_whole h = simp (lt-leb _ _ whole, lt-leb _ _ first, lt-leb _ _ second, ne_eqb _ _ h)
 
   -- What an accepted pair is.
@@ -71,10 +65,10 @@ pair_same p q first second =
     let same : ◌≡◌ {A = Pair} (record { first = p.first; second = p.second }) (record { first = q.first; second = q.second }) = cc in
     same
 
--- the cases are distinct
-pub pair_cases : Distinct {B = Pair} (λ p. PairRead'.Read p.first p.second) PairRead'.Refused
-pair_cases = record {
-  value_same = λ p q e. pair_same p q (cc) (cc);
-  refusal_same = λ number place number' place' e. (cc, cc);
-  disjoint = λ p number place e. let z : ◌≡◌ {A = ℕ} 0 1 = cc in omega arith;
-}
+-- its two states tell it
+pub states_tell : (o : Outcome Pair) {x y : ℕ} → accepted (x, y) ≡ pair_read o → o ≡ accepted (record { first = x; second = y })
+states_tell (accepted p) e = let same = accepted_is e in ap accepted (pair_same p _ (ap (λ (q : ℕ × ℕ). q.0) (sym same)) (ap (λ (q : ℕ × ℕ). q.1) (sym same)))
+states_tell (refused number place) e = absurd (never_accepted (sym e))
+
+pub pair_refused : (o : Outcome Pair) {number place : ℕ} → refused number place ≡ pair_read o → o ≡ refused number place
+pair_refused o e = and_then-refused o _ (sym e) (λ r. r) (λ p is r. absurd (never_refused r))

@@ -5,17 +5,18 @@ use Prim.Native.Nat.{ℕ, zero, suc, ◌*◌, ◌%◌, ◌^◌, ◌+◌, ◌-◌
 use native.Mathlib.Omega.{arith}
 use lib.ListN.{length, get_or, set, replicate}
 use borrow.Author.Tests.{lt-ltb, le-ltb}
+use Rattle.std.specs.Prelude.{Result, Ok}
 use Rattle.std.proofs.Common.{min, take, drop, length-drop}
 use Rattle.std.proofs.lemmas.List.{take_min, drop-drop}
 use Rattle.std.proofs.Math.Seq.{take-append_seam, drop-append_seam}
 use Rattle.reading.specs.File.{Outcome, accepted, refused, and_then}
-use Rattle.reading.proofs.Basics.Outcomes.{by_case-refused}
+use Rattle.reading.specs.Refusals.{as_outcome}
+use Rattle.reading.specs.declared.refusals.Refusal.{Refusal}
 use Rattle.synthesis.specs.NodeSet.{union}
 use Rattle.models.specs.Pairs.{Pair, most_pairs, pair_at, pairs_at, pairs_of}
-use Rattle.models.specs.Relating.{pair_read, pair_answer, Relates, RelatedAs}
-use Rattle.models.specs.declared.pairing.PairRead.{PairRead}
-use Rattle.models.specs.declared.pairing.PairRead.TheVariants as PairRead'
-use Rattle.models.proofs.Matchings.PairChecks.{pair_stands, pair_cases}
+use Rattle.models.specs.Relating.{pair_read, Relates, RelatedAs}
+use Rattle.models.specs.declared.pairing.Relation.{Relation}
+use Rattle.models.proofs.Matchings.PairChecks.{pair_stands, pair_refused}
 use Rattle.models.proofs.Matchings.PartnerLaws.{shifted}
 use Rattle.models.proofs.Matchings.RelationLaws.{relates_none, relates_one_more}
 
@@ -103,15 +104,14 @@ module _ {l : List ℕ} {n n' : ℕ} {rows columns : List ℕ} {left at : ℕ} (
 
   -- ---- the ways out of the loop
 
-  pub all_related : length l ≤ at → RelatedAs (pairs_of l n n') (record { answer = FILE_ACCEPTED; rows = rows; columns = columns })
+  pub all_related : length l ≤ at → RelatedAs (pairs_of l n n') (Ok (record { rows = rows; columns = columns }))
   all_related over =
       let all : pairs_of l n n' ≡ accepted b.done = b.rest ∙ rw (pairs_end l n n' at left over, append-nil b.done) in
-      rw all (refl, b.relates)
+      rw all (_, refl, b.relates)
 
-  pub refused_related : at < length l → {found : PairRead} → found ≡ pair_read (pair_at l n n' at left)
-      → {number place : ℕ} → found ≡ PairRead'.Refused number place → (answer : FILEREAD) → answer ≡ pair_answer found
-      → RelatedAs (pairs_of l n n') (record { answer = answer; rows = rows; columns = columns })
-  refused_related inside is {number} {place} e answer is-answer =
-      let refusal : pair_at l n n' at left ≡ refused number place = by_case-refused pair_cases (λ p. p) _ _ _ (sym e ∙ is) in
+  pub refused_related : at < length l → {number place : ℕ} → refused number place ≡ pair_read (pair_at l n n' at left)
+      → (result : Result Relation Refusal) → as_outcome result ≡ refused number place → RelatedAs (pairs_of l n n') result
+  refused_related inside {number} {place} e result is =
+      let refusal = pair_refused (pair_at l n n' at left) e in
       let all : pairs_of l n n' ≡ refused number place = b.rest ∙ rw (pairs_refused l n n' at left inside refusal) in
-      rw all (is-answer ∙ rw e)
+      rw all is

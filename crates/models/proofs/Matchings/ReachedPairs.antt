@@ -9,11 +9,8 @@ use native.Mathlib.Decide.{dec_le, dec_lt}
 use native.Mathlib.Omega.{arith}
 use lib.ListN.{length, get_or}
 use Rattle.reading.specs.File.{accepted, refused}
-use Rattle.reading.proofs.Basics.Outcomes.{by_case-value, by_case-refused}
 use Rattle.models.specs.Pairs.{Pair, most_pairs, pair_at, pairs_at, pairs_of}
 use Rattle.models.specs.PairFaults.{NamesStates, FinePairs, PairFault, pair_cut, no_such_state, one_too_many}
-use Rattle.models.specs.Relating.{pair_read}
-use Rattle.models.specs.declared.pairing.PairRead.TheVariants as PairRead'
 use Rattle.models.proofs.Matchings.PairChecks as Checks
 use Rattle.models.proofs.Matchings.PairsRead.{after, after_none, after_one, pairs_end, pairs_next, pairs_refused}
 
@@ -47,8 +44,7 @@ module _ (l : List ℕ) (n n' : ℕ) where
   reached (suc k) left fine all =
       let names = fine.name_states k (omega arith) in
       let whole : 2 * k + 1 < length l = omega (arith, fine.whole) in
-      let one : pair_at l n n' (2 * k) (suc left) ≡ accepted (pair_of l k) =
-      by_case-value Checks.pair_cases _ (pair_of l k) (Checks.pair_whole l n n' (2 * k) (suc left) whole names.0 names.1 (λ z. omega arith)) in
+      let one = Checks.pair_whole l n n' (2 * k) (suc left) whole names.0 names.1 (λ z. omega arith) in
       let next : 2 * k + 2 ≡ 2 * suc k = omega arith in
       let same : suc left - 1 ≡ left = omega arith in
       reached k (suc left) (fine_less fine) (omega arith)
@@ -69,24 +65,23 @@ module _ (l : List ℕ) (n n' : ℕ) where
 
   pub fault_refused : {number place : ℕ} → PairFault l n n' number place → pairs_of l n n' ≡ refused number place
   fault_refused (pair_cut {k} fine few ends) =
-      refused_there fine few (omega arith) (by_case-refused Checks.pair_cases (λ p. p) _ _ _
-      (Checks.pair_cut l n n' (2 * k) (most_pairs - k) (omega arith)))
+      refused_there fine few (omega arith) (Checks.pair_cut l n n' (2 * k) (most_pairs - k) (omega arith))
   fault_refused (no_such_state {k} fine few whole none) =
-      refused_there fine few (omega arith) (by_case-refused Checks.pair_cases (λ p. p) _ _ _ (on (dec_le n (get_or l (2 * k) 0))))
+      refused_there fine few (omega arith) (on (dec_le n (get_or l (2 * k) 0)))
     where
       outside : {x y : ℕ} → Dec (x ≤ y) → (y < x → ⊥) → x ≤ y
       outside (yes h) not-less = h
       outside (no h) not-less = absurd (not-less (lt_of_not-le h))
 
-      on : Dec (n ≤ get_or l (2 * k) 0) → PairRead'.Refused 23 (2 * k) ≡ pair_read (pair_at l n n' (2 * k) (most_pairs - k))
+      on : Dec (n ≤ get_or l (2 * k) 0) → pair_at l n n' (2 * k) (most_pairs - k) ≡ refused 23 (2 * k)
       on (yes outside) = Checks.no_first_state l n n' (2 * k) (most_pairs - k) (omega arith) outside
       on (no inside) =
           let first = lt_of_not-le inside in
           Checks.no_second_state l n n' (2 * k) (most_pairs - k) (omega arith) first (outside (dec_le n' (get_or l (2 * k + 1) 0)) (λ second. none (first, second)))
   fault_refused (one_too_many fine) =
       let names = fine.name_states most_pairs (omega arith) in
-      refused_there (fine_less fine) (omega arith) (omega (arith, fine.whole)) (by_case-refused Checks.pair_cases (λ p. p) _ _ _
-      (Checks.no_pair_left l n n' (2 * most_pairs) 0 (omega (arith, fine.whole)) names.0 names.1 refl))
+      refused_there (fine_less fine) (omega arith) (omega (arith, fine.whole)) 
+      (Checks.no_pair_left l n n' (2 * most_pairs) 0 (omega (arith, fine.whole)) names.0 names.1 refl)
 
   -- ---- there is no other way
 

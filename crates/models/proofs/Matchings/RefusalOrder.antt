@@ -1,13 +1,14 @@
 -- The order of refusals in matching: the first model, the second, and then the list. The answer goes by the three outcomes, case by case, and so tells them.
 use mathlib.Core.Path.{◌≡◌, refl, sym, ◌∙◌}
 use mathlib.Core.Logic.{◌↔◌, ◌⊎◌, inl, inr}
+use mathlib.Core.Bool.{true, false}
 use mathlib.Core.List.{List}
 use Prim.Native.Nat.{ℕ}
 use native.Mathlib.Omega.{arith}
 use Rattle.reading.specs.File.{Outcome, accepted, refused, and_then, by_case}
-use Rattle.reading.proofs.Basics.Outcomes.{never_accepted, never_refused}
+use Rattle.reading.proofs.Basics.Outcomes.{accepted_is, never_accepted, never_refused}
 use Rattle.models.specs.Phone.{Phone, phone_of}
-use Rattle.models.specs.Judging.{model_reading_of}
+use Rattle.models.specs.Judging.{stored, model_reading_of}
 use Rattle.models.specs.Pairs.{Pair, pairs_of, Matching, matching, first_refused, second_refused, pairs_refused, matching_of, MatchedAs, paper_answer}
 use Rattle.models.specs.MatchPromises.{RefusedInOrder, RefusesPairs, RefusesByNumber}
 use Rattle.models.proofs.Matchings.PairLists.{accepts_pairs, refuses_at_the_pair}
@@ -34,27 +35,30 @@ module _ (a b : Phone) (l : List ℕ) (answer : MatchAnswer) where
   pairs_in_order (accepted ps) read matched =
       let is = judged a b ps answer matched in
       record {
-        first = λ number place. (λ e. not_judged answer _ (λ q. cc) (λ q. cc) e is, λ e. apart (cc));
-        second = λ number place. (λ e. not_judged answer _ (λ q. cc) (λ q. cc) e is, λ (one, other). apart (cc));
+        first = λ number place. (λ e. not_judged answer _ (λ q. cc) (λ q. cc) e is, λ e. absurd (never_refused e));
+        second = λ number place. (λ e. not_judged answer _ (λ q. cc) (λ q. cc) e is, λ (m, one, other). absurd (never_refused other));
         pairs = λ number place. (
           λ e. not_judged answer _ (λ q. cc) (λ q. cc) e is,
-          λ (one, other, fault). absurd (never_accepted (sym ((refuses_at_the_pair l _ _ number place).1 fault) ∙ read)),
+          λ (m, m', one, other, fault).
+              absurd (never_accepted (sym ((refuses_at_the_pair l _ _ number place).1 (rw (← accepted_is one, ← accepted_is other) at fault)) ∙ read)),
         );
-        none = (λ e. (refl, refl, (ps, (accepts_pairs l _ _ ps).0 read)), λ e. is);
+        none = (λ e. (stored a, stored b, refl, refl, (ps, (accepts_pairs l _ _ ps).0 read)), λ e. is);
       }
   pairs_in_order (refused number place) read is = record {
-    first = λ number' place'. (λ e. apart (cc), λ e. apart (cc));
-    second = λ number' place'. (λ e. apart (cc), λ (one, other). apart (cc));
+    first = λ number' place'. (λ e. apart (cc), λ e. absurd (never_refused e));
+    second = λ number' place'. (λ e. apart (cc), λ (m, one, other). absurd (never_refused other));
     pairs = λ number' place'. (
       λ e.
           let same : number ≡ number' = cc in
           let same' : place ≡ place' = cc in
-          (refl, refl, (refuses_at_the_pair l _ _ number' place').0 (read ∙ rw (same, same'))),
-      λ (one, other, fault). let told = sym ((refuses_at_the_pair l _ _ number' place').1 fault) ∙ read in is ∙ cc,
+          (stored a, stored b, refl, refl, (refuses_at_the_pair l _ _ number' place').0 (read ∙ rw (same, same'))),
+      λ (m, m', one, other, fault).
+          let told = sym ((refuses_at_the_pair l _ _ number' place').1 (rw (← accepted_is one, ← accepted_is other) at fault)) ∙ read in is ∙ cc,
     );
     none = (
       not_judged answer _ (λ q. cc) (λ q. cc) is,
-      λ (one, other, (ps, encoded)). absurd (never_accepted (sym read ∙ (accepts_pairs l _ _ ps).1 encoded)),
+      λ (m, m', one, other, (ps, encoded)).
+          absurd (never_accepted (sym read ∙ (accepts_pairs l _ _ ps).1 (rw (← accepted_is one, ← accepted_is other) at encoded))),
     );
   }
 
@@ -68,15 +72,15 @@ module _ (l : List ℕ) (answer : MatchAnswer) where
   in_order : (one other : Outcome Phone) → MatchedAs (matched_by one other) answer → RefusedInOrder (model_reading_of one) (model_reading_of other) l answer
   in_order (refused number place) other is = record {
     first = λ number' place'. (λ e. cc, λ e. is ∙ cc);
-    second = λ number' place'. (λ e. apart (cc), λ (one, other). apart (cc));
-    pairs = λ number' place'. (λ e. apart (cc), λ (one, other, fault). apart (cc));
-    none = (not_judged answer _ (λ q. cc) (λ q. cc) is, λ (one, other, ps). apart (cc));
+    second = λ number' place'. (λ e. apart (cc), λ (m, one, other). absurd (never_accepted one));
+    pairs = λ number' place'. (λ e. apart (cc), λ (m, m', one, other, rest). absurd (never_accepted one));
+    none = (not_judged answer _ (λ q. cc) (λ q. cc) is, λ (m, m', one, other, rest). absurd (never_accepted one));
   }
   in_order (accepted a) (refused number place) is = record {
-    first = λ number' place'. (λ e. apart (cc), λ e. apart (cc));
-    second = λ number' place'. (λ e. (refl, cc), λ (one, other). is ∙ cc);
-    pairs = λ number' place'. (λ e. apart (cc), λ (one, other, fault). apart (cc));
-    none = (not_judged answer _ (λ q. cc) (λ q. cc) is, λ (one, other, ps). apart (cc));
+    first = λ number' place'. (λ e. apart (cc), λ e. absurd (never_refused e));
+    second = λ number' place'. (λ e. (stored a, refl, cc), λ (m, one, other). is ∙ cc);
+    pairs = λ number' place'. (λ e. apart (cc), λ (m, m', one, other, rest). absurd (never_accepted other));
+    none = (not_judged answer _ (λ q. cc) (λ q. cc) is, λ (m, m', one, other, rest). absurd (never_accepted other));
   }
   in_order (accepted a) (accepted b) matched = pairs_in_order a b l answer (pairs_of l a.states b.states) refl matched
 
