@@ -1,4 +1,5 @@
 -- What the proofs of the functions use.
+pub mod Exits
 pub mod FoundLaws
 pub mod FillingRows
 pub mod Gathering
