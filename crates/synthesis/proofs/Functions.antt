@@ -5,8 +5,8 @@ pub mod FillingRows
 pub mod Gathering
 pub mod SetsByTest
 pub mod AddingToCodes
-pub mod NodeArrays
-pub mod OpeningArrays
+pub mod NumberedNodes
+pub mod OpeningNodes
 pub mod Linking
 pub mod EnabledLaws
 pub mod GraphLaws
