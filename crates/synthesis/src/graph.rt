@@ -124,7 +124,7 @@ fn falsities(rule: &NumberedRule) -> u64
 {
     let mut set = 0;
     for (k, node) in rule.nodes[..rule.nnodes].iter().enumerate() {
-        set = with_node(set, k, *node == Node::Falsity);
+        set = with_node(set, k, matches!(node, Node::Falsity));
     }
     set
 }

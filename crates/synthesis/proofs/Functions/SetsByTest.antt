@@ -1,21 +1,28 @@
 -- Sets that are made by a test of one node after the other: with the next node where the test holds of it, the set has what it should have for one
 -- node more.
 use Prim.Native.Nat.{ℕ, ◌+◌, ◌≤◌, ◌<◌}
-use mathlib.Core.Path.{◌≡◌, refl}
+use mathlib.Core.Path.{◌≡◌, refl, sym, ◌∙◌}
 use mathlib.Core.Logic.{◌↔◌, ◌⊎◌, inl, inr, ⊎_elim}
 use mathlib.Core.Bool.{Bool, true, false, false≢true}
+use mathlib.Core.List.{List}
 use native.Mathlib.Omega.{arith}
 use lib.Bits.{bit_or}
+use lib.ListN.{get_or, take}
+use lib.Seq.{get_or-take}
 use borrow.Author.Count.{below_more}
-use Rattle.reading.specs.Rule.{size, Rule}
+use Rattle.reading.specs.Rule.{Formula, size, Rule}
+use Rattle.reading.specs.Nodes.{EnclosingMax, Node, Resolves, is_falsity}
+use Rattle.reading.specs.declared.Node.TheVariants.{Truth, Falsity}
+use Rattle.reading.specs.declared.NumberedRule.{NumberedRule}
+use Rattle.reading.proofs.Numbering.NodeLaws.{node_exists}
 use Rattle.synthesis.specs.NodeSet.{Has, empty_set, singleton}
 use Rattle.synthesis.specs.Opening.{IsFalsity}
 use Rattle.synthesis.specs.Answering.{falsities}
-use Rattle.synthesis.specs.Arrays.{with_node}
+use Rattle.synthesis.specs.Arrays.{IsNumbered, with_node}
 use Rattle.synthesis.proofs.Unfolding.NodeSetLaws.{has_none, shifted_one, shl_one, same_members_same_set}
 use Rattle.synthesis.proofs.Unfolding.MemberLaws.{has_singleton_iff, union_iff}
 use Rattle.synthesis.proofs.Unfolding.NodeWise.{falsities_has}
-use Rattle.synthesis.proofs.Functions.NumberedNodes.{node_below}
+use Rattle.synthesis.proofs.Functions.NumberedNodes.{node_below, nnodes_is, node_is, node_resolves}
 
 -- where the test holds, the code puts in a shifted one
 pub with_node-is : (e k : ℕ) (b : Bool) → k < 64 → b ≡ true → bit_or e (shifted_one k) ≡ with_node e k b
@@ -52,9 +59,23 @@ pub record FalsitiesBelow (r : Rule) (k e : ℕ) : Type 0 where
 pub falsities_none : (r : Rule) → FalsitiesBelow r 0 empty_set
 falsities_none r = record { is = empty_below_zero (IsFalsity r.formula) }
 
-pub falsities_next : {r : Rule} {k e e' : ℕ} (b : Bool) → e' ≡ with_node e k b → ((b ≡ true) ↔ IsFalsity r.formula k) → FalsitiesBelow r k e
-    → FalsitiesBelow r (k + 1) e'
-falsities_next {r} {k} {e} b q test h = record { is = rw q (with_node-next (IsFalsity r.formula) e k b test h.is) }
+-- the next node is ff where what stands at its number is
+pub falsities_next : {r : Rule} {n : NumberedRule} {k e e' : ℕ} (num : IsNumbered r n) (b : Bool) → k < n.nnodes → e' ≡ with_node e k b
+    → ((b ≡ true) ↔ (get_or (take n.nnodes n.nodes) k Truth ≡ Falsity)) → FalsitiesBelow r k e → FalsitiesBelow r (k + 1) e'
+falsities_next {r} {n} {k} {e} num b h q test below = record {
+  is = rw q (with_node-next (IsFalsity r.formula) e k b (λ t. falsity_there (test.0 t), λ x. test.1 (there ∙ node_is num x.1)) below.is);
+}
+  where
+    there : get_or (take n.nnodes n.nodes) k Truth ≡ get_or n.nodes k Truth
+    there = get_or-take n.nnodes n.nodes k Truth h
+
+    falsity_there : get_or (take n.nnodes n.nodes) k Truth ≡ Falsity → IsFalsity r.formula k
+    falsity_there is =
+        let node = node_exists r.formula k (omega (arith, h, nnodes_is num)) in
+        on node.2 (node_resolves num node.2 (sym there ∙ is))
+      where
+        on : {ms : List EnclosingMax} {f : Formula} → Node r.formula k ms f → Resolves r.formula k ms Falsity f → IsFalsity r.formula k
+        on {ms} node is_falsity = (ms, node)
 
 pub falsities_all : {r : Rule} {k e : ℕ} → size r.formula ≤ k → FalsitiesBelow r k e → e ≡ falsities 0 r.formula
 falsities_all {r} {k} {e} few h = same_members_same_set e (falsities 0 r.formula) (λ j. (
