@@ -23,6 +23,7 @@ pub record PlanFor (y : Synthesis) (p : Plan) : Type 0 where
   pub graph_is : IsGraph y.rule p.graph
   pub answer_is : y.answer ≡ answer_of y.rule
   pub found_is : p.found.equations ≡ y.equations
+  pub count_is : p.count ≡ length y.equations
   pub few : length y.equations ≤ most
 
 -- the plan of an outcome that is accepted

@@ -32,11 +32,12 @@ const PREVIEW_LIMIT: usize = 32;
 // The entries of the rows of a rule with the most equations.
 const LONGEST: usize = 256 * MOST;
 
-// What the table of a rule is filled from: its graph and its equations.
+// What the table of a rule is filled from: its graph, its equations, and how many these are.
 #[derive(Drop)]
 struct Plan {
     graph: Graph,
     found: Equations,
+    count: usize,
 }
 
 // Reads a rule file and finds the equations of its rule.
@@ -50,7 +51,12 @@ fn plan_of(rule: &[u8], limit: usize) -> Result<Plan, Refusal>
         return Err(Fault::Unsatisfiable.at(0));
     }
     let found = search::search(&graph, limit)?;
-    Ok(Plan { graph, found })
+    let count = found.len();
+    Ok(Plan {
+        graph,
+        found,
+        count,
+    })
 }
 
 // Answers how many equations the rule of a file has, or a refusal of 1 to 9; 9 where they are over the limit. A limit over the most counts as the most.
@@ -58,7 +64,7 @@ pub fn count_within(rule: &[u8], limit: usize) -> Result<usize, Refusal>
     ensures { as_outcome result ≡ counted_of (synthesis_of (min limit most) rule.now) }
 {
     let plan = plan_of(rule, limit.min(MOST))?;
-    Ok(plan.found.len())
+    Ok(plan.count)
 }
 
 // Fills a table with a row for each of these equations, and answers how many there are. It is refused as counting is, and then with 10 where the rows
@@ -69,12 +75,11 @@ pub fn fill_within(rule: &[u8], limit: usize, table: &mut [u16]) -> Result<usize
         ≡ table_after mark (filling_of (min limit most) rule.now (length table.old)) table.old }
 {
     let mut plan = plan_of(rule, limit.min(MOST))?;
-    let count = plan.found.len();
-    if table.len() < 256 * count {
+    if table.len() < 256 * plan.count {
         return Err(Fault::TableTooShort.at(0));
     }
     filling::fill_table(&plan.graph, &mut plan.found, table);
-    Ok(count)
+    Ok(plan.count)
 }
 
 // The same under the most equations that a rule may have.

@@ -16,5 +16,5 @@ pub(crate) fn short_plan_of(rule: &[u8], long: &mut [u16]) -> Result<Numbering, 
 {
     let mut plan = plan_of(rule, MOST)?;
     fill_table(&plan.graph, &mut plan.found, long);
-    Ok(Numbering::of_table(long, plan.found.len()))
+    Ok(Numbering::of_table(long, plan.count))
 }
