@@ -1,5 +1,0 @@
-use Rattle.synthesis.proofs.Functions.PageWays.{preview_counted}
-use Rattle.synthesis.proofs.count_preview.Goals as goal
-
-pub returns : goal.returns
-returns c = preview_counted _ c.count_within.ensures c.on_page.ensures
