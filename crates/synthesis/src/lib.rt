@@ -141,12 +141,11 @@ pub fn fill_short(rule: &[u8], table: &mut [u16]) -> Result<usize, Refusal>
 {
     let mut long = [0u16; LONGEST];
     let numbering = shortening::short_plan_of(rule, &mut long)?;
-    let count = numbering.count;
-    if table.len() < 256 * count {
+    if table.len() < 256 * numbering.count {
         return Err(Fault::TableTooShort.at(0));
     }
     numbering.fill(&long, table);
-    Ok(count)
+    Ok(numbering.count)
 }
 
 // The row of equation k, a part of the table; empty where it isn't wholly inside.

@@ -34,7 +34,7 @@ paged (accepted y) (Ok n) after e by = rw by e
 paged (accepted y) (Err r) after e by = absurd (never_accepted e)
 paged (refused m at) (Ok n) after e by = absurd (never_refused e)
 paged (refused m at) (Err r) after e by =
-    let (r', is, numbered, same) = err_from_is_err_and after by in
+    let (r', is, (numbered, same)) = err_from_is_err_and after by in
     let fault : number r.fault ≡ m = cc in
     let place : r.place ≡ at = cc in
     rw is (ap₂ refused (numbered ∙ ap page_number fault) (same ∙ place))
