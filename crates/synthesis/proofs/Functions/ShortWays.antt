@@ -6,7 +6,7 @@ use mathlib.Core.List.{List}
 use native.Mathlib.Omega.{arith}
 use lib.ListN.{length, take, replicate}
 use Rattle.std.proofs.lemmas.List.{length-replicate, take-replicate}
-use Rattle.reading.specs.File.{accepted}
+use Rattle.reading.specs.File.{Outcome, accepted}
 use Rattle.synthesis.specs.Monitor.{mark, most, Answer, lookup}
 use Rattle.synthesis.specs.Table.{WellFormedTable, filled}
 use Rattle.synthesis.specs.Merging.{up_to, merged, rounds, firsts}
@@ -93,10 +93,10 @@ numbered_count : (y : Synthesis) (n : Numbering) → n.equations ≡ length y.eq
 unfolding shortened
 numbered_count y n n-is numbered = numbered.count_is ∙ ap (λ (k : ℕ). length (firsts (classes_of y) k)) n-is
 
-module _ {s : List ℕ} {y : Synthesis} (is : synthesis_of most s ≡ accepted y) where
+module _ {o : Outcome Synthesis} {y : Synthesis} (is : o ≡ accepted y) where
   pub short_planned : {n : Numbering} {long : List ℕ} → n.equations ≡ length y.equations → WellFormedTable most mark n.equations long
       → ((k c : ℕ) → k < length y.equations → c < 256 → lookup 256 mark long k c ≡ numbered_answer y k c)
-      → IsNumberingOf (rounds 256 (lookup 256 mark long) n.equations n.equations) n → ShortPlanned (synthesis_of most s) long n
+      → IsNumberingOf (rounds 256 (lookup 256 mark long) n.equations n.equations) n → ShortPlanned o long n
   short_planned {n} {long} all wf agree numbered =
       let agree' : (k c : ℕ) → k < n.equations → c < 256 → lookup 256 mark long k c ≡ numbered_answer y k c = λ k c h b. agree k c (omega arith) b in
       record {
@@ -107,7 +107,7 @@ module _ {s : List ℕ} {y : Synthesis} (is : synthesis_of most s ≡ accepted y
 
 -- ---- what filling from it gives
 
-module _ {s : List ℕ} {n : Numbering} {long : List ℕ} (d : ShortPlanned (synthesis_of most s) long n) where
+module _ (s : List ℕ) {n : Numbering} {long : List ℕ} (d : ShortPlanned (synthesis_of most s) long n) where
   pub short_is : short_of most s ≡ accepted (shortened d.synthesis)
   short_is = short_accepts most s d.is
 

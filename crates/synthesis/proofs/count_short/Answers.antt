@@ -8,4 +8,4 @@ pub returns-in_err-classes : goal.returns-in_err-classes
 returns-in_err-classes c = counted_refused _ _ c.from_residual.ensures.1 ((short_refused most _ _ _).1 c.in_err-classes.ensures)
 
 pub returns : goal.returns
-returns c = short_counted c.in_ok-classes.ensures
+returns c = short_counted _ c.in_ok-classes.ensures

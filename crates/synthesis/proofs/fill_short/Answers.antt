@@ -14,7 +14,7 @@ returns-in_err-numbering c =
 pub returns-then-table-numbering : goal.returns-then-table-numbering
 returns-then-table-numbering c =
     let plan = c.in_ok-numbering.ensures in
-    let left = too_short_leaves c.args.table.now (short_filling-by_count most _ _) (short_is plan) (short_count plan) c.if-table-numbering.true in
+    let left = too_short_leaves c.args.table.now (short_filling-by_count most _ _) (short_is _ plan) (short_count _ plan) c.if-table-numbering.true in
     record { value = rw c.at.ensures left.value; table_after = left.table_after }
 
 pub fill-requires : goal.fill-requires
@@ -24,6 +24,6 @@ pub returns : goal.returns
 returns c =
     let plan = c.in_ok-numbering.ensures in
     let left =
-    filled_leaves c.args.table.now (short_filling-by_count most _ _) (short_is plan) (short_count plan) c.if-table-numbering.false _
-    (short_filled plan _ _ c.fill.ensures) in
+    filled_leaves c.args.table.now (short_filling-by_count most _ _) (short_is _ plan) (short_count _ plan) c.if-table-numbering.false _
+    (short_filled _ plan _ _ c.fill.ensures) in
     record { value = left.value; table_after = left.table_after }
