@@ -1,11 +1,12 @@
 -- What the proofs of the functions use.
+pub mod Exits
 pub mod FoundLaws
 pub mod FillingRows
 pub mod Gathering
 pub mod SetsByTest
 pub mod AddingToCodes
-pub mod NodeArrays
-pub mod OpeningArrays
+pub mod NumberedNodes
+pub mod OpeningNodes
 pub mod Linking
 pub mod EnabledLaws
 pub mod GraphLaws

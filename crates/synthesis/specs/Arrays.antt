@@ -6,6 +6,8 @@ use Rattle.reading.specs.Numbered.{numbered}
 use Rattle.reading.specs.Pattern.{covers}
 use Rattle.reading.specs.declared.Pattern.{Pattern}
 use Rattle.reading.specs.declared.NumberedRule.{NumberedRule}
+use Rattle.reading.specs.declared.refusals.Fault.TheVariants.{TooManyEquations}
+use Rattle.reading.specs.declared.refusals.Refusal.{Refusal}
 use Rattle.synthesis.specs.Violation.{covered_by}
 use Rattle.synthesis.specs.Monitor.{mark, most, Answer}
 use Rattle.synthesis.specs.Table.{WellFormedTable}
@@ -17,16 +19,15 @@ use Rattle.synthesis.specs.declared.graph.Graph.{Graph}
 
 -- ---- the nodes of a rule
 
--- The kinds and the arguments are those of the nodes of a well-formed rule.
-pub record RuleArrays (r : Rule) (kinds args : List ℕ) : Type 0 where
+-- A rule by number is that of a well-formed rule within the limits.
+pub record IsNumbered (r : Rule) (n : NumberedRule) : Type 0 where
   pub within_limits : RuleWithinLimits r
-  pub kinds_are : kinds ≡ (numbered r).kinds
-  pub args_are : args ≡ (numbered r).args
+  pub is : n ≡ numbered r
 
--- node k is one of some such rule
-pub record SomeNode (kinds args : List ℕ) (k : ℕ) : Type 0 where
+-- it is that of some rule with a node k
+pub record SomeNumbered (n : NumberedRule) (k : ℕ) : Type 0 where
   pub rule : Rule
-  pub is_rule : RuleArrays rule kinds args
+  pub is_numbered : IsNumbered rule n
   pub below : k < size rule.formula
 
 -- what opening each of some nested maxes gives, as an array has it
@@ -38,8 +39,8 @@ abbrev pub ZeroFrom : ℕ → List ℕ → Type 0
 ZeroFrom k xs = (j : ℕ) → k ≤ j → get_or xs j 0 ≡ 0
 
 -- `e` is what opening node k gives, where the array has what opening the maxes before it gives.
-pub record IsOpening (kinds args opened : List ℕ) (k e : ℕ) : Type 0 where
-  pub is : (r : Rule) → RuleArrays r kinds args → ZeroFrom k opened → (ms : List EnclosingMax) (f : Formula) → Node r.formula k ms f
+pub record IsOpening (n : NumberedRule) (opened : List ℕ) (k e : ℕ) : Type 0 where
+  pub is : (r : Rule) → IsNumbered r n → ZeroFrom k opened → (ms : List EnclosingMax) (f : Formula) → Node r.formula k ms f
       → e ≡ opening k (listed_around opened ms) f
 
 -- Two arrays have, for each node below k, what opening it gives where it is a max, and what opening the formula after it gives where it
@@ -63,27 +64,11 @@ abbrev pub with_node : (set k : ℕ) → Bool → ℕ
 with_node e k true = union e (singleton k)
 with_node e k false = e
 
--- The set has those of the first n nodes that are of a kind.
-pub record HasKind (kind : ℕ) (kinds : List ℕ) (n e : ℕ) : Type 0 where
-  pub is : (j : ℕ) → Has e j ↔ ((j < n) × (get_or kinds j 0 ≡ kind))
-
 -- ---- the answers of equations
 
 -- Node k was put into the set of each code that the pattern covers.
 pub record AddedToCodes (p : Pattern) (k : ℕ) (before after : List ℕ) : Type 0 where
   pub is : (c : ℕ) → c < 256 → get_or after c 0 ≡ with_node (get_or before c 0) k (covers p c)
-
--- a numbered rule is that of r
-pub record IsNumbered (r : Rule) (n : NumberedRule) : Type 0 where
-  pub is_rule : RuleArrays r n.kinds n.args
-  pub patterns_are : n.patterns ≡ (numbered r).patterns
-  pub nnodes_is : n.nnodes ≡ size r.formula
-
--- it is that of some rule with a node k
-pub record SomeNumbered (n : NumberedRule) (k : ℕ) : Type 0 where
-  pub rule : Rule
-  pub is_numbered : IsNumbered rule n
-  pub below : k < size rule.formula
 
 -- Node n is enabled by the code c: it is a necessity whose pattern covers c.
 abbrev pub IsEnabled : Rule → (c n : ℕ) → Type 0
@@ -135,9 +120,14 @@ pub record FoundWithin (limit count : ℕ) (array : List ℕ) : Type 0 where
   pub small : limit ≤ most
   pub distinct : Distinct (take count array)
 
+-- the refusal of more equations than the limit
+abbrev pub too_many : Refusal
+too_many = record { fault = TooManyEquations; place = 0 }
+
 -- The search has come to a list of equations; or that is over the limit.
-abbrev pub FoundFrom : {E : Type 0} → Found → Result ⊤ E → Found → (equations : List ℕ) → Type 0
-FoundFrom before result after l = MatchResult result (λ _. after ≡ record { limit = before.limit; equations = l }) (λ _. before.limit < length l)
+abbrev pub FoundFrom : Found → Result ⊤ Refusal → Found → (equations : List ℕ) → Type 0
+FoundFrom before result after l =
+    MatchResult result (λ _. after ≡ record { limit = before.limit; equations = l }) (λ r. (r ≡ too_many) × (before.limit < length l))
 
 -- ---- merging
 

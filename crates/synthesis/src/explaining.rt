@@ -1,50 +1,32 @@
 // Why a scan is dropped.
 ghost use Rattle.std.specs.Prelude.{◌≡◌};
+ghost use Rattle.reading.specs.Refusals.{as_outcome};
 ghost use Rattle.synthesis.specs.Reason.{lowest_reason, followed};
 ghost use Rattle.synthesis.specs.Arrays.{answer_by};
-ghost use Rattle.synthesis.specs.Plans.{followed_of, unexplained_of};
 
 use crate::graph::Graph;
-use crate::{Counted, Reason};
+use reading::{Fault, Refusal};
 
-// Where scans lead: to an equation, or to the refusal of the first that is dropped.
-#[derive(Clone, Copy)]
-pub(crate) enum Followed {
-    Equation(u64),
-    Refused(u8, usize),
-}
-
-// Follows scans from the first equation.
-pub(crate) fn follow(graph: &Graph, scans: &[u8]) -> Followed
-    ensures { result ≡ followed_of (followed (answer_by graph.now) graph.now.first 0 scans.now) }
+// The equation to which scans lead from the first one, or the refusal of the first scan that is dropped.
+pub(crate) fn follow(graph: &Graph, scans: &[u8]) -> Result<u64, Refusal>
+    ensures { as_outcome result ≡ followed (answer_by graph.now) graph.now.first 0 scans.now }
 {
     let mut e = graph.first;
     for (i, scan) in scans.iter().enumerate() {
-        let Some(next) = graph.answer(e, *scan as usize) else {
-            return Followed::Refused(17, i);
-        };
-        e = next;
+        e = graph
+            .answer(e, *scan as usize)
+            .ok_or(Fault::AlreadyViolated.at(i))?;
     }
-    Followed::Equation(e)
+    Ok(e)
 }
 
-// What is said of a scan that opens these ff nodes: the lowest of them, or that it is kept where there is none.
-pub(crate) fn lowest(set: u64) -> Reason
+// What is said of a scan that opens these ff nodes: the lowest of them, or none where the scan is kept.
+pub(crate) fn lowest(set: u64) -> Option<u8>
     ensures { result ≡ lowest_reason set }
 {
     if set == 0 {
-        Reason::Kept
+        None
     } else {
-        Reason::Node(set.trailing_zeros() as u8)
-    }
-}
-
-// The refusal of a rule file that has no count.
-pub(crate) fn unexplained(answer: Counted) -> Reason
-    ensures { result ≡ unexplained_of answer }
-{
-    match answer {
-        Counted::Equations(_) => Reason::Refused(0, 0),
-        Counted::Refused(number, place) => Reason::Refused(number, place),
+        Some(set.trailing_zeros() as u8)
     }
 }

@@ -1,12 +1,12 @@
 // What the answers of a rule's equations are worked out from: sets of its nodes, node n as bit n.
-ghost use Rattle.std.specs.Prelude.{◌≡◌, ℕ, ◌+◌, ◌≤◌, ◌<◌, length, Some, None};
-ghost use Rattle.reading.specs.Rule.{size, Rule, falsity_kind};
+ghost use Rattle.std.specs.Prelude.{◌≡◌, ◌+◌, ◌<◌, Some, None};
+ghost use Rattle.reading.specs.Rule.{Rule};
 ghost use Rattle.synthesis.specs.Monitor.{cases};
-ghost use Rattle.synthesis.specs.Arrays.{RuleArrays, SomeNode, IsOpening, Linked, AfterAll, with_node, HasKind, AddedToCodes};
-ghost use Rattle.synthesis.specs.Arrays.{IsNumbered, SomeNumbered, EnabledBelow, Enabled, IsGraph, gathered, reached_by, answer_by};
+ghost use Rattle.synthesis.specs.Answering.{falsities};
+ghost use Rattle.synthesis.specs.Arrays.{IsNumbered, SomeNumbered, IsOpening, Linked, AfterAll, with_node, AddedToCodes};
+ghost use Rattle.synthesis.specs.Arrays.{EnabledBelow, Enabled, IsGraph, gathered, reached_by, answer_by};
 
-use reading::kinds::{BOTH, FALSITY, MAX, NECESSITY, VARIABLE};
-use reading::{NumberedRule, Pattern};
+use reading::{Node, NumberedRule, Pattern};
 
 // The first equation and the ff nodes of a rule; for each node that is a necessity, what opening the formula after it gives; for each
 // code, the necessities whose patterns cover it.
@@ -19,25 +19,15 @@ pub(crate) struct Graph {
 }
 
 impl Graph {
-    // The graph of no rule.
-    pub(crate) fn empty() -> Graph {
-        Graph {
-            first: 0,
-            falsities: 0,
-            after: [0; 64],
-            enabled: [0; 256],
-        }
-    }
-
     // The graph of a rule.
     pub(crate) fn of_rule(rule: &NumberedRule) -> Graph
         requires { SomeNumbered rule.now 0 }
         ensures { (r : Rule) → IsNumbered r rule.now → IsGraph r result }
     {
         Graph {
-            first: opening(&rule.kinds, &rule.args, &[0; 64], 0),
-            falsities: falsities(&rule.kinds, rule.nnodes),
-            after: link_all(&rule.kinds, &rule.args, rule.nnodes),
+            first: opening(rule, &[0; 64], 0),
+            falsities: falsities(rule),
+            after: link_all(rule),
             enabled: enable_all(rule),
         }
     }
@@ -79,57 +69,42 @@ fn gather(sets: &[u64; 64], live: u64) -> u64
 }
 
 // What opening node k gives, where `opened` has what opening each max before it gives.
-fn opening(kinds: &[u8], args: &[u8], opened: &[u64], k: usize) -> u64
-    requires { SomeNode kinds.now args.now k × (length opened.now ≡ 64) }
-    ensures { IsOpening kinds.now args.now opened.now k result }
+fn opening(rule: &NumberedRule, opened: &[u64; 64], k: usize) -> u64
+    requires { SomeNumbered rule.now k }
+    ensures { IsOpening rule.now opened.now k result }
 {
-    let kind = kinds[k];
-    let arg = args[k] as usize;
-    if kind == BOTH {
-        let first = opening(kinds, args, opened, k + 1);
-        let second = opening(kinds, args, opened, arg);
-        return first | second;
+    match rule.nodes[k] {
+        Node::Truth => 0,
+        Node::Falsity | Node::Necessity(_) => 1 << k,
+        Node::Both(second) => {
+            opening(rule, opened, k + 1) | opening(rule, opened, second as usize)
+        }
+        Node::Max => opening(rule, opened, k + 1),
+        Node::Variable(max) => opened[max as usize],
     }
-    if kind == MAX {
-        return opening(kinds, args, opened, k + 1);
-    }
-    if kind == VARIABLE {
-        return opened[arg];
-    }
-    if kind == FALSITY {
-        return 1 << k;
-    }
-    if kind == NECESSITY {
-        return 1 << k;
-    }
-    0
 }
 
 // Puts what opening node k gives, where it is a max, and what opening the formula after it gives, where it is a necessity.
-fn link(kinds: &[u8], args: &[u8], k: usize, opened: &mut [u64], after: &mut [u64])
-    requires { SomeNode kinds.now args.now k × (length opened.old ≡ 64) × (length after.old ≡ 64) }
-    ensures { (r : Rule) → RuleArrays r kinds.now args.now → Linked r k opened.old after.old
-        → Linked r (k + 1) opened.new after.new }
+fn link(rule: &NumberedRule, k: usize, opened: &mut [u64; 64], after: &mut [u64; 64])
+    requires { SomeNumbered rule.now k }
+    ensures { (r : Rule) → IsNumbered r rule.now → Linked r k opened.old after.old → Linked r (k + 1) opened.new after.new }
 {
-    let kind = kinds[k];
-    if kind == MAX {
-        opened[k] = opening(kinds, args, opened, k + 1);
-        return;
-    }
-    if kind == NECESSITY {
-        after[k] = opening(kinds, args, opened, k + 1);
+    match rule.nodes[k] {
+        Node::Max => opened[k] = opening(rule, opened, k + 1),
+        Node::Necessity(_) => after[k] = opening(rule, opened, k + 1),
+        _ => {}
     }
 }
 
-// For each necessity among n nodes, what opening the formula after it gives.
-fn link_all(kinds: &[u8], args: &[u8], n: usize) -> [u64; 64]
-    requires { (k : ℕ) → k < n → SomeNode kinds.now args.now k }
-    ensures { (r : Rule) → RuleArrays r kinds.now args.now → size r.formula ≤ n → AfterAll r result }
+// For each necessity, what opening the formula after it gives.
+fn link_all(rule: &NumberedRule) -> [u64; 64]
+    requires { SomeNumbered rule.now 0 }
+    ensures { (r : Rule) → IsNumbered r rule.now → AfterAll r result }
 {
     let mut opened = [0; 64];
     let mut after = [0; 64];
-    for k in 0..n {
-        link(kinds, args, k, &mut opened, &mut after);
+    for k in 0..rule.nnodes {
+        link(rule, k, &mut opened, &mut after);
     }
     after
 }
@@ -142,14 +117,14 @@ fn with_node(set: u64, k: usize, holds: bool) -> u64
     if holds { set | (1 << k) } else { set }
 }
 
-// The ff nodes among the first n.
-fn falsities(kinds: &[u8], n: usize) -> u64
-    requires { (n ≤ 64) × (length kinds.now ≡ 64) }
-    ensures { HasKind falsity_kind kinds.now n result }
+// The ff nodes.
+fn falsities(rule: &NumberedRule) -> u64
+    requires { SomeNumbered rule.now 0 }
+    ensures { (r : Rule) → IsNumbered r rule.now → result ≡ falsities 0 r.formula }
 {
     let mut set = 0;
-    for (k, kind) in kinds[..n].iter().enumerate() {
-        set = with_node(set, k, *kind == FALSITY);
+    for (k, node) in rule.nodes[..rule.nnodes].iter().enumerate() {
+        set = with_node(set, k, matches!(node, Node::Falsity));
     }
     set
 }
@@ -169,9 +144,8 @@ fn enable(rule: &NumberedRule, k: usize, enabled: &mut [u64; 256])
     requires { SomeNumbered rule.now k }
     ensures { (r : Rule) → IsNumbered r rule.now → EnabledBelow r k enabled.old → EnabledBelow r (k + 1) enabled.new }
 {
-    if rule.kinds[k] == NECESSITY {
-        let i = rule.args[k] as usize;
-        add_to_codes(rule.patterns[i], k, enabled);
+    if let Node::Necessity(pattern) = rule.nodes[k] {
+        add_to_codes(rule.patterns[pattern as usize].pattern, k, enabled);
     }
 }
 

@@ -27,7 +27,7 @@ impl Numbering {
 
     // Of no equations.
     #[tactic(auto, unfolding(crate::specs::Merging::firsts))]
-    pub(crate) fn empty() -> Self
+    fn empty() -> Self
         ensures none { result.equations ≡ 0 }
         ensures numbered { (classes : List ℕ) → IsNumberingOf classes result }
     {

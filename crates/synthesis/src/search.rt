@@ -3,10 +3,11 @@ ghost use Rattle.std.specs.Prelude.{◌≡◌, ◌≤◌, ◌<◌, ◌==◌, ◌
 ghost use Rattle.std.specs.List.{position};
 ghost use Rattle.synthesis.specs.Monitor.{most};
 ghost use Rattle.synthesis.specs.Search.{insert, explored, expanded, found};
-ghost use Rattle.synthesis.specs.Arrays.{answer_by, Found, FoundFrom};
+ghost use Rattle.synthesis.specs.Arrays.{answer_by, Found, too_many, FoundFrom};
 
 use crate::MOST;
 use crate::graph::Graph;
+use reading::{Fault, Refusal};
 use std::marker::Model;
 
 // How many hints there are.
@@ -16,10 +17,6 @@ const HINTS: usize = 4096;
 const HINT_MODULUS: u64 = 4093;
 
 const SECOND_MODULUS: u64 = 4091;
-
-// There are more equations than the limit.
-#[derive(Clone, Copy)]
-pub(crate) struct OverLimit;
 
 // The equations found so far, numbered by their indices in an array of node sets, and the most that there may be. Hints say where a set may stand.
 #[derive(Drop)]
@@ -103,14 +100,14 @@ impl Equations {
     }
 
     // Puts a set last if it is new.
-    fn insert(&mut self, e: u64) -> Result<(), OverLimit>
+    fn insert(&mut self, e: u64) -> Result<(), Refusal>
         ensures { FoundFrom self.old result self.new (insert self.old.equations e) }
     {
         if self.find(e).is_some() {
             return Ok(());
         }
         if self.count == self.limit {
-            return Err(OverLimit);
+            return Err(Fault::TooManyEquations.at(0));
         }
         self.found[self.count] = e;
         self.count += 1;
@@ -118,7 +115,7 @@ impl Equations {
     }
 
     // Inserts what an equation answers to each code.
-    fn explore(&mut self, graph: &Graph, e: u64) -> Result<(), OverLimit>
+    fn explore(&mut self, graph: &Graph, e: u64) -> Result<(), Refusal>
         ensures { FoundFrom self.old result self.new
             (explored 256 (answer_by graph.now) e 256 self.old.equations) }
     {
@@ -131,7 +128,7 @@ impl Equations {
     }
 
     // Explores equation k, if there is one.
-    fn expand(&mut self, graph: &Graph, k: usize) -> Result<(), OverLimit>
+    fn expand(&mut self, graph: &Graph, k: usize) -> Result<(), Refusal>
         ensures { FoundFrom self.old result self.new (expanded 256 (answer_by graph.now) k self.old.equations) }
     {
         if k < self.count {
@@ -150,11 +147,11 @@ fn position(list: &[u64], e: u64) -> Option<usize>
 }
 
 // Finds the equations from the first on.
-pub(crate) fn search(graph: &Graph, limit: usize) -> Result<Equations, OverLimit>
+pub(crate) fn search(graph: &Graph, limit: usize) -> Result<Equations, Refusal>
     requires { limit ≤ most }
     ensures { MatchResult result
         (λ s. s ≡ record { limit = limit; equations = found 256 (answer_by graph.now) limit graph.now.first })
-        (λ _. limit < length (found 256 (answer_by graph.now) limit graph.now.first)) }
+        (λ r. (r ≡ too_many) × (limit < length (found 256 (answer_by graph.now) limit graph.now.first))) }
 {
     let mut equations = Equations::new(limit);
     equations.insert(graph.first)?;

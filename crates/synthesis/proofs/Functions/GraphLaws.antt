@@ -6,50 +6,23 @@ use mathlib.Core.Logic.{◌↔◌}
 use mathlib.Core.List.{List, []}
 use native.Mathlib.Omega.{arith}
 use lib.ListN.{get_or, replicate}
-use Rattle.reading.specs.Rule.{Formula, size, Rule, falsity_kind}
-use Rattle.reading.specs.Nodes.{EnclosingMax, Node, whole, Resolves, is_falsity}
+use Rattle.reading.specs.Rule.{Rule}
+use Rattle.reading.specs.Nodes.{whole}
 use Rattle.reading.specs.declared.NumberedRule.{NumberedRule}
-use Rattle.reading.proofs.Numbering.NodeLaws.{node_exists}
 use Rattle.reading.proofs.Numbering.NumberedLaws.{repeated_at}
 use Rattle.synthesis.specs.Violation.{covered_by}
 use Rattle.synthesis.specs.NodeSet.{Has, intersection}
-use Rattle.synthesis.specs.Opening.{IsFalsity}
 use Rattle.synthesis.specs.Answering.{falsities, reached, first_of, answer_from, answer_of}
 use Rattle.synthesis.specs.Reason.{opened_falsities}
-use Rattle.synthesis.specs.Arrays.{RuleArrays, SomeNode, SomeNumbered, IsOpening, HasKind, IsGraph, reached_by, answer_by}
+use Rattle.synthesis.specs.Arrays.{IsNumbered, IsOpening, IsGraph, reached_by, answer_by}
 use Rattle.synthesis.specs.declared.graph.Graph.{Graph}
 use Rattle.synthesis.proofs.Unfolding.NodeSetLaws.{same_members_same_set, has_common}
-use Rattle.synthesis.proofs.Unfolding.NodeWise.{falsities_has, reached_has}
+use Rattle.synthesis.proofs.Unfolding.NodeWise.{reached_has}
 use Rattle.synthesis.proofs.Functions.Gathering.{gathered_has}
-use Rattle.synthesis.proofs.Functions.NodeArrays.{node_below, kind_at, node_resolves}
 
-pub some_node : {n : NumberedRule} {k : ℕ} → SomeNumbered n k → SomeNode n.kinds n.args k
-some_node s = record { rule = s.rule; is_rule = s.is_numbered.is_rule; below = s.below }
-
--- ---- the first equation and the ff nodes
-
-module _ {r : Rule} {kinds args : List ℕ} (ir : RuleArrays r kinds args) where
-  pub first_opened : {e : ℕ} (n : ℕ) → IsOpening kinds args (replicate n 0) 0 e → e ≡ first_of r
-  unfolding first_of
-  first_opened n o = o.is r ir (λ j h. repeated_at 0 n j) [] r.formula whole
-
-  pub falsities_by_kind : {e n : ℕ} → n ≡ size r.formula → HasKind falsity_kind kinds n e → e ≡ falsities 0 r.formula
-  falsities_by_kind {e} {n} q h = same_members_same_set e (falsities 0 r.formula) (λ j. (kind_in_falsities j, falsities_of_kind j))
-    where
-      falsity_kind-is_falsity : {k x : ℕ} {ms : List EnclosingMax} {f : Formula} → Node r.formula k ms f → Resolves r.formula k ms falsity_kind x f
-          → IsFalsity r.formula k
-      falsity_kind-is_falsity {ms = ms} node is_falsity = (ms, node)
-
-      kind_in_falsities : (j : ℕ) → Has e j → Has (falsities 0 r.formula) j
-      kind_in_falsities j x =
-          let y = (h.is j).0 x in
-          let node = node_exists r.formula j (omega (arith, y.0, q)) in
-          (falsities_has r.formula j).1 (falsity_kind-is_falsity node.2 (node_resolves ir node.2 y.1))
-
-      falsities_of_kind : (j : ℕ) → Has (falsities 0 r.formula) j → Has e j
-      falsities_of_kind j x =
-          let y = (falsities_has r.formula j).0 x in
-          (h.is j).1 (omega (arith, node_below y.1, q), kind_at ir y.1)
+pub first_opened : {r : Rule} {n : NumberedRule} {e : ℕ} → IsNumbered r n → (size : ℕ) → IsOpening n (replicate size 0) 0 e → e ≡ first_of r
+unfolding first_of
+first_opened {r} num size o = o.is r num (λ j h. repeated_at 0 size j) [] r.formula whole
 
 -- ---- the answer of the equation e to the code c
 

@@ -8,12 +8,14 @@ use native.Mathlib.Omega.{arith}
 use lib.ListN.{length, get_or, set, replicate}
 use lib.Seq.{get_or-set_same, get_or-set_other}
 use borrow.Author.Count.{below_more}
-use Rattle.reading.specs.Rule.{Formula, necessity, max, size, Rule, necessity_kind, max_kind}
+use Rattle.reading.specs.Rule.{Formula, necessity, max, size, Rule}
 use Rattle.reading.specs.Nodes.{EnclosingMax, Node, whole, first, second, after, body}
+use Rattle.reading.specs.declared.Node.TheVariants.{Truth, Necessity, Max}
+use Rattle.reading.specs.declared.NumberedRule.{NumberedRule}
 use Rattle.reading.proofs.Numbering.NumberedLaws.{repeated_at}
 use Rattle.synthesis.specs.Answering.{opening, opens_around}
-use Rattle.synthesis.specs.Arrays.{RuleArrays, IsOpening, listed_around, Linked, AfterAll}
-use Rattle.synthesis.proofs.Functions.NodeArrays.{kind_at, node_below}
+use Rattle.synthesis.specs.Arrays.{IsNumbered, IsOpening, listed_around, Linked, AfterAll}
+use Rattle.synthesis.proofs.Functions.NumberedNodes.{node_below, node_is}
 
 -- the array has what opening the maxes around a node gives
 listed_around-is : {r : Rule} {k : ℕ} {opened afters : List ℕ} → Linked r k opened afters → {j : ℕ} {ms : List EnclosingMax} {f : Formula}
@@ -48,32 +50,29 @@ linked_next {r} {k} {opened' = opened'} {afters'} l same-opened same_after at-ma
       (λ j h p ms f n. same_after j (λ q. omega (arith, q)) ∙ l.after_is j p ms f h n) at_necessity j h p ms f;
 }
 
-module _ {kinds args opened afters : List ℕ} {k e : ℕ} (r : Rule) (ir : RuleArrays r kinds args) (l : Linked r k opened afters) where
-  pub linked_max : k < length opened → get_or kinds k 0 ≡ max_kind → IsOpening kinds args opened (k + 1) e → Linked r (k + 1) (set opened k e) afters
-  linked_max h q o =
-      linked_next l (λ j d. get_or-set_other opened k j e 0 d) (λ j d. refl) max_opened
-      (λ p ms f n. absurd (let z : ◌≡◌ {A = ℕ} max_kind necessity_kind = sym q ∙ kind_at ir n in omega (arith, z)))
+module _ {r : Rule} {n : NumberedRule} {k : ℕ} {opened afters : List ℕ} (num : IsNumbered r n) (l : Linked r k opened afters) where
+  pub linked_max : {e : ℕ} → k < length opened → get_or n.nodes k Truth ≡ Max → IsOpening n opened (k + 1) e → Linked r (k + 1) (set opened k e) afters
+  linked_max {e} h q o =
+      linked_next l (λ j d. get_or-set_other opened k j e 0 d) (λ j d. refl) max_opened (λ p ms f node. cc (q, node_is num node))
     where
       max_opened : OpenedAt r (set opened k e) k
-      max_opened ms f n =
-          let x = o.is r ir (λ j h. l.unopened j (omega arith)) (record { number = k; body = f } ∷ ms) f (rw (add-one k) (body n)) in
-          get_or-set_same opened k e 0 h ∙ rw (add-one k, l.unopened k (omega arith), listed_around-is l n (omega arith)) at x
+      max_opened ms f node =
+          let x = o.is r num (λ j h. l.unopened j (omega arith)) (record { number = k; body = f } ∷ ms) f (rw (add-one k) (body node)) in
+          get_or-set_same opened k e 0 h ∙ rw (add-one k, l.unopened k (omega arith), listed_around-is l node (omega arith)) at x
 
-  pub linked_necessity : k < length afters → get_or kinds k 0 ≡ necessity_kind → IsOpening kinds args opened (k + 1) e
+  pub linked_necessity : {p e : ℕ} → k < length afters → get_or n.nodes k Truth ≡ Necessity p → IsOpening n opened (k + 1) e
       → Linked r (k + 1) opened (set afters k e)
-  linked_necessity h q o =
-      linked_next l (λ j d. refl) (λ j d. get_or-set_other afters k j e 0 d)
-      (λ ms f n. absurd (let z : ◌≡◌ {A = ℕ} necessity_kind max_kind = sym q ∙ kind_at ir n in omega (arith, z))) necessity_after
+  linked_necessity {e = e} h q o =
+      linked_next l (λ j d. refl) (λ j d. get_or-set_other afters k j e 0 d) (λ ms f node. cc (q, node_is num node)) necessity_after
     where
       necessity_after : AfterAt r (set afters k e) k
-      necessity_after p ms f n =
-          let x = o.is r ir (λ j h. l.unopened j (omega arith)) ms f (rw (add-one k) (after n)) in
-          get_or-set_same afters k e 0 h ∙ rw (add-one k, listed_around-is l n (omega arith)) at x
+      necessity_after p ms f node =
+          let x = o.is r num (λ j h. l.unopened j (omega arith)) ms f (rw (add-one k) (after node)) in
+          get_or-set_same afters k e 0 h ∙ rw (add-one k, listed_around-is l node (omega arith)) at x
 
-pub linked_other : {kinds args opened afters : List ℕ} {k : ℕ} (r : Rule) → RuleArrays r kinds args → Linked r k opened afters
-    → (get_or kinds k 0 ≡ max_kind → ⊥) → (get_or kinds k 0 ≡ necessity_kind → ⊥) → Linked r (k + 1) opened afters
-linked_other r ir l p q =
-    linked_next l (λ j d. refl) (λ j d. refl) (λ ms f n. absurd (p (kind_at ir n))) (λ i ms f n. absurd (q (kind_at ir n)))
+  pub linked_other : (get_or n.nodes k Truth ≡ Max → ⊥) → ((p : ℕ) → get_or n.nodes k Truth ≡ Necessity p → ⊥) → Linked r (k + 1) opened afters
+  linked_other a b =
+      linked_next l (λ j d. refl) (λ j d. refl) (λ ms f node. absurd (a (node_is num node))) (λ p ms f node. absurd (b p (node_is num node)))
 
 -- ---- from the first node to the last
 

@@ -6,19 +6,18 @@ use mathlib.Core.List.{List}
 use native.Mathlib.Omega.{arith}
 use lib.ListN.{length, take, replicate}
 use Rattle.std.proofs.lemmas.List.{length-replicate, take-replicate}
-use Rattle.reading.specs.File.{accepted, refused}
+use Rattle.reading.specs.File.{Outcome, accepted}
 use Rattle.synthesis.specs.Monitor.{mark, most, Answer, lookup}
 use Rattle.synthesis.specs.Table.{WellFormedTable, filled}
 use Rattle.synthesis.specs.Merging.{up_to, merged, rounds, firsts}
 use Rattle.synthesis.specs.Building.{Synthesis, synthesis_of, filling_of, counted_of, table_left, numbered_answer, classes_of, shortened, short_of}
 use Rattle.synthesis.specs.Arrays.{AreClasses}
 use Rattle.synthesis.specs.Numbering.{listed, AreNumbered, IsNumberingOf}
-use Rattle.synthesis.specs.Plans.{ShortPlanFor, IsShortPlan}
+use Rattle.synthesis.specs.Plans.{ShortPlanned}
 use Rattle.synthesis.specs.declared.renumbering.Numbering.{Numbering}
-use Rattle.synthesis.specs.declared.shortening.ShortPlan.{ShortPlan}
 use Rattle.synthesis.proofs.Tables.FilledTables.{filled_cong}
 use Rattle.synthesis.proofs.Tables.WellFormedTables.{lookup_inside}
-use Rattle.synthesis.proofs.Tables.SynthesisOutcomes.{counted_accepts, counted_refuses, short_accepts, short_accepted, short_refused}
+use Rattle.synthesis.proofs.Tables.SynthesisOutcomes.{short_accepts}
 use Rattle.synthesis.proofs.Tables.SynthesisOutcomes.{filling_by_count, filling_accepts}
 use Rattle.synthesis.proofs.Tables.Built.{accepted_well_formed, built_numbers}
 use Rattle.synthesis.proofs.Quotients.Together.{rounds_length}
@@ -63,14 +62,6 @@ module _ {n : ℕ} {long : List ℕ} (wf : WellFormedTable most mark n long) whe
     pub merged_classes : AreClasses n after
     merged_classes = rw long_merged long_classes
 
--- ---- a refusal
-
-pub refused_short_plan : (s long : List ℕ) (p : ShortPlan) → p.answer ≡ counted_of (synthesis_of most s) → (number place : ℕ)
-    → p.answer ≡ refused number place → IsShortPlan s p long
-refused_short_plan s long p counts number place e =
-    let refuses = counted_refuses (synthesis_of most s) number place (sym counts ∙ e) in
-    record { answer_is = e ∙ sym (ap counted_of ((short_refused most s number place).1 refuses)); fills = rw refuses tt }
-
 -- ---- a long table of the rule
 
 module _ (s : List ℕ) (y : Synthesis) (is : synthesis_of most s ≡ accepted y) (scratch long : List ℕ)
@@ -102,55 +93,39 @@ numbered_count : (y : Synthesis) (n : Numbering) → n.equations ≡ length y.eq
 unfolding shortened
 numbered_count y n n-is numbered = numbered.count_is ∙ ap (λ (k : ℕ). length (firsts (classes_of y) k)) n-is
 
-pub counted_short_plan : (s : List ℕ) (y : Synthesis) → synthesis_of most s ≡ accepted y → (p : ShortPlan) (long : List ℕ) (n : ℕ)
-    → n ≡ length y.equations → WellFormedTable most mark n long
-    → ((k c : ℕ) → k < n → c < 256 → lookup 256 mark long k c ≡ numbered_answer y k c)
-    → p.answer ≡ accepted p.numbering.count → p.numbering.equations ≡ n
-    → IsNumberingOf (rounds 256 (lookup 256 mark long) n n) p.numbering → IsShortPlan s p long
-counted_short_plan s y is p long n n-is wf agree e all numbered =
-    let numbered' : IsNumberingOf (classes_of y) p.numbering = rw (numbered_classes y n n-is (lookup 256 mark long) agree) at numbered in
-    record {
-      answer_is = e ∙ ap accepted (numbered_count y p.numbering (all ∙ n-is) numbered') ∙ sym (ap counted_of (short_accepts most s is));
-      fills = rw is (record {
-        all = all ∙ n-is;
-        well_formed = rw all wf;
-        answers = λ k c h b. agree k c (omega (arith, h, all)) b;
-        numbered = numbered';
-      });
-    }
+module _ {o : Outcome Synthesis} {y : Synthesis} (is : o ≡ accepted y) where
+  pub short_planned : {n : Numbering} {long : List ℕ} → n.equations ≡ length y.equations → WellFormedTable most mark n.equations long
+      → ((k c : ℕ) → k < length y.equations → c < 256 → lookup 256 mark long k c ≡ numbered_answer y k c)
+      → IsNumberingOf (rounds 256 (lookup 256 mark long) n.equations n.equations) n → ShortPlanned o long n
+  short_planned {n} {long} all wf agree numbered =
+      let agree' : (k c : ℕ) → k < n.equations → c < 256 → lookup 256 mark long k c ≡ numbered_answer y k c = λ k c h b. agree k c (omega arith) b in
+      record {
+        synthesis = y;
+        is = is;
+        fills = record { all = all; well_formed = wf; answers = agree'; numbered = rw (numbered_classes y n.equations all (lookup 256 mark long) agree') at numbered };
+      }
 
--- ---- a plan with a count
+-- ---- what filling from it gives
 
-pub record CountedShortPlan (s : List ℕ) (n : Numbering) (long : List ℕ) (m : ℕ) : Type 0 where
-  pub synthesis : Synthesis
-  pub is : short_of most s ≡ accepted (shortened synthesis)
-  pub fills : ShortPlanFor synthesis n long
-  pub count_is : m ≡ n.count
+module _ (s : List ℕ) {n : Numbering} {long : List ℕ} (d : ShortPlanned (synthesis_of most s) long n) where
+  pub short_is : short_of most s ≡ accepted (shortened d.synthesis)
+  short_is = short_accepts most s d.is
 
-pub short_plan_counted : (s : List ℕ) (p : ShortPlan) (long : List ℕ) (m : ℕ) → IsShortPlan s p long → p.answer ≡ accepted m
-    → CountedShortPlan s p.numbering long m
-short_plan_counted s p long m plan e =
-    let (z, is, m-is) = counted_accepts (short_of most s) m (sym plan.answer_is ∙ e) in
-    let (y, synthesis, made) = short_accepted most s z is in
-    let fills : ShortPlanFor y p.numbering long = rw synthesis at plan.fills in
-    record {
-      synthesis = y;
-      is = is ∙ ap accepted (sym made);
-      fills = fills;
-      count_is = m-is ∙ ap (λ (y : Synthesis). length y.equations) (sym made) ∙ sym (numbered_count y p.numbering fills.all fills.numbered);
-    }
+  pub short_count : n.count ≡ length (shortened d.synthesis).equations
+  short_count = numbered_count d.synthesis n d.fills.all d.fills.numbered
 
--- what filling from it gives
-module _ {s : List ℕ} {n : Numbering} {long : List ℕ} {m : ℕ} (c : CountedShortPlan s n long m) where
-  pub short_plan_filled : (table after : List ℕ)
+  pub short_counted : accepted n.count ≡ counted_of (short_of most s)
+  short_counted = rw (short_is, short_count)
+
+  pub short_filled : (table after : List ℕ)
       → ((classes : List ℕ) → AreNumbered classes n → after ≡ filled mark (merged classes (lookup 256 mark long)) (listed n) 256 table)
-      → after ≡ filled mark (shortened c.synthesis).answer (shortened c.synthesis).equations 256 table
+      → after ≡ filled mark (shortened d.synthesis).answer (shortened d.synthesis).equations 256 table
   unfolding shortened
-  short_plan_filled table after left =
-      let y = c.synthesis in
+  short_filled table after left =
+      let y = d.synthesis in
       let classes = classes_of y in
-      let fs : listed n ≡ firsts classes n.equations = c.fills.numbered.firsts_are in
-      rw fs at (left classes (numbered_front _ _ _ _ _ c.fills.numbered))
+      let fs : listed n ≡ firsts classes n.equations = d.fills.numbered.firsts_are in
+      rw fs at (left classes (numbered_front _ _ _ _ _ d.fills.numbered))
       ∙ filled_cong mark 256 (merged classes (lookup 256 mark long)) (merged classes (numbered_answer y)) (firsts classes n.equations)
-      (λ i code h b. ap (up_to classes) (c.fills.answers _ code (first_at classes n.equations i h).below b)) table
-      ∙ rw c.fills.all
+      (λ i code h b. ap (up_to classes) (d.fills.answers _ code (first_at classes n.equations i h).below b)) table
+      ∙ rw d.fills.all

@@ -1,31 +1,29 @@
 use Rattle.synthesis.specs.Monitor.{most}
-use Rattle.synthesis.specs.Building.{short_of}
-use Rattle.synthesis.proofs.Tables.SynthesisOutcomes.{short_filling-by_count}
+use Rattle.synthesis.proofs.Tables.SynthesisOutcomes.{short_refused, short_filling-by_count}
 use Rattle.synthesis.proofs.Functions.FillingWays.{refused_leaves, too_short_leaves, filled_leaves}
-use Rattle.synthesis.proofs.Functions.ShortWays.{short_plan_counted, short_plan_filled}
+use Rattle.synthesis.proofs.Functions.ShortWays.{short_is, short_count, short_filled}
 use Rattle.synthesis.proofs.fill_short.Goals as goal
 
-pub returns-in_default : goal.returns-in_default
-returns-in_default c =
-    let left = refused_leaves (short_of most _) c.args.table.now (short_filling-by_count most _ _) _ c.short_plan_of-plan.ensures.answer_is _ _ c.in_default.is in
-    record { value = left.0; table_after = left.1 }
+pub returns-in_err-numbering : goal.returns-in_err-numbering
+returns-in_err-numbering c =
+    let left =
+    refused_leaves c.args.table.now (short_filling-by_count most _ _) _ _ c.from_residual.ensures.1
+    ((short_refused most _ _ _).1 c.in_err-numbering.ensures) in
+    record { value = left.value; table_after = left.table_after }
 
 pub returns-then-table-numbering : goal.returns-then-table-numbering
 returns-then-table-numbering c =
-    let counted = short_plan_counted _ _ _ _ c.short_plan_of-plan.ensures c.in-Equations.is in
-    let left =
-    too_short_leaves (short_of most _) c.args.table.now (short_filling-by_count most _ _) _ c.short_plan_of-plan.ensures.answer_is _
-    c.in-Equations.is (rw counted.count_is c.if-table-numbering.true) in
-    record { value = left.0; table_after = left.1 }
+    let plan = c.in_ok-numbering.ensures in
+    let left = too_short_leaves c.args.table.now (short_filling-by_count most _ _) (short_is _ plan) (short_count _ plan) c.if-table-numbering.true in
+    record { value = rw c.at.ensures left.value; table_after = left.table_after }
 
 pub fill-requires : goal.fill-requires
-fill-requires c = ((short_plan_counted _ _ _ _ c.short_plan_of-plan.ensures c.in-Equations.is).fills.well_formed, c.if-table-numbering.false)
+fill-requires c = (c.in_ok-numbering.ensures.fills.well_formed, c.if-table-numbering.false)
 
 pub returns : goal.returns
 returns c =
-    let counted = short_plan_counted _ _ _ _ c.short_plan_of-plan.ensures c.in-Equations.is in
+    let plan = c.in_ok-numbering.ensures in
     let left =
-    filled_leaves (short_of most _) c.args.table.now (short_filling-by_count most _ _) _
-    c.short_plan_of-plan.ensures.answer_is _ c.in-Equations.is (rw counted.count_is c.if-table-numbering.false) _ counted.is _
-    (short_plan_filled counted _ _ c.fill.ensures) in
-    record { value = left.0; table_after = left.1 }
+    filled_leaves c.args.table.now (short_filling-by_count most _ _) (short_is _ plan) (short_count _ plan) c.if-table-numbering.false _
+    (short_filled _ plan _ _ c.fill.ensures) in
+    record { value = left.value; table_after = left.table_after }

@@ -1,45 +1,35 @@
-use Rattle.std.proofs.Common.{refl, arith}
-use Rattle.synthesis.proofs.Functions.OpeningArrays.{some_below_64, some_next, some_second, some_variable}
-use Rattle.synthesis.proofs.Functions.OpeningArrays.{opening_both, opening_max, opening_variable, opening_falsity, opening_necessity, opening_truth}
+use Rattle.std.proofs.Common.{refl, arith, ⊎_elim}
+use Rattle.synthesis.proofs.Functions.NumberedNodes.{some_below_64, some_next, some_second, some_variable}
+use Rattle.synthesis.proofs.Functions.OpeningNodes.{opening_truth, opening_falsity, opening_necessity, opening_both, opening_max, opening_variable}
 use Rattle.synthesis.proofs.graph.+opening.Goals as goal
 
-pub opening-first-requires : goal.opening-first-requires
-opening-first-requires t c =
-    let s = c.requires.0 in
-    (omega (arith, some_below_64 s, c.decreases), (some_next s c.if-kind-eq-BOTH.true refl, c.requires.1))
-
-pub opening-second-requires : goal.opening-second-requires
-opening-second-requires t c =
-    let s = c.requires.0 in
-    let p = some_second s c.if-kind-eq-BOTH.true in
-    (omega (arith, some_below_64 s, p.1, c.decreases), (p.0, c.requires.1))
-
-pub returns-then-kind-eq-BOTH : goal.returns-then-kind-eq-BOTH
-returns-then-kind-eq-BOTH t c =
-    let q = c.if-kind-eq-BOTH.true in
-    opening_both (some_second c.requires.0 q).1 q c.opening-first.ensures c.opening-second.ensures
-
 pub opening-requires : goal.opening-requires
-opening-requires t c =
-    let s = c.requires.0 in
-    (omega (arith, some_below_64 s, c.decreases), (some_next s c.if-kind-eq-MAX.true refl, c.requires.1))
+opening-requires t c = (omega (arith, some_below_64 c.requires, c.decreases), some_next c.requires c.in-Both.is refl)
 
-pub returns-then-kind-eq-MAX : goal.returns-then-kind-eq-MAX
-returns-then-kind-eq-MAX t c = opening_max c.if-kind-eq-MAX.true c.opening.ensures
+pub opening-requires-in-Both : goal.opening-requires-in-Both
+opening-requires-in-Both t c =
+    let (second, later) = some_second c.requires c.in-Both.is in
+    (omega (arith, some_below_64 c.requires, later, c.decreases), second)
 
-pub bounds-opened-arg : goal.bounds-opened-arg
-bounds-opened-arg t c = omega (arith, some_variable c.requires.0 c.if-kind-eq-VARIABLE.true)
+pub opening-requires-in-Max : goal.opening-requires-in-Max
+opening-requires-in-Max t c = (omega (arith, some_below_64 c.requires, c.decreases), some_next c.requires c.in-Max.is refl)
 
-pub returns-then-kind-eq-VARIABLE : goal.returns-then-kind-eq-VARIABLE
-returns-then-kind-eq-VARIABLE t c = opening_variable c.if-kind-eq-VARIABLE.true
+pub bounds-opened-max : goal.bounds-opened-max
+bounds-opened-max t c = some_variable c.requires c.in-Variable.is
 
-pub returns-then-kind-eq-FALSITY : goal.returns-then-kind-eq-FALSITY
-returns-then-kind-eq-FALSITY t c = opening_falsity (some_below_64 c.requires.0) c.if-kind-eq-FALSITY.true
+pub returns-in-Truth : goal.returns-in-Truth
+returns-in-Truth t c = opening_truth c.in-Truth.is
 
-pub returns-then-kind-eq-NECESSITY : goal.returns-then-kind-eq-NECESSITY
-returns-then-kind-eq-NECESSITY t c = opening_necessity (some_below_64 c.requires.0) c.if-kind-eq-NECESSITY.true
+pub returns-in-Falsity : goal.returns-in-Falsity
+returns-in-Falsity t c =
+    let few = some_below_64 c.requires in
+    ⊎_elim (opening_falsity few) (λ is. opening_necessity few is.1) c.in-Falsity.is
 
-pub returns : goal.returns
-returns t c =
-    opening_truth c.if-kind-eq-FALSITY.false c.if-kind-eq-BOTH.false c.if-kind-eq-NECESSITY.false c.if-kind-eq-MAX.false
-    c.if-kind-eq-VARIABLE.false
+pub returns-in-Both : goal.returns-in-Both
+returns-in-Both t c = opening_both c.in-Both.is c.opening.ensures c.opening-in-Both.ensures
+
+pub returns-in-Max : goal.returns-in-Max
+returns-in-Max t c = opening_max c.in-Max.is c.opening-in-Max.ensures
+
+pub returns-in-Variable : goal.returns-in-Variable
+returns-in-Variable t c = opening_variable c.in-Variable.is

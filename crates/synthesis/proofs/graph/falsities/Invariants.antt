@@ -1,7 +1,8 @@
 -- The set has the ff nodes among those passed.
-use Rattle.reading.specs.Rule.{falsity_kind}
-use Rattle.synthesis.specs.Arrays.{HasKind}
+use Rattle.reading.specs.Rule.{Rule}
+use Rattle.synthesis.specs.Arrays.{IsNumbered}
+use Rattle.synthesis.proofs.Functions.SetsByTest.{FalsitiesBelow}
 use Rattle.synthesis.proofs.graph.falsities.Given as goal
 
 abbrev pub invariant-loop-k : goal.invariant-loop-k
-invariant-loop-k l = HasKind falsity_kind l.kinds l.k l.set
+invariant-loop-k l = (r : Rule) → IsNumbered r l.rule → FalsitiesBelow r l.k l.set

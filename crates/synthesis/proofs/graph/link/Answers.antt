@@ -1,22 +1,20 @@
 use Rattle.std.proofs.Common.{refl, arith}
-use Rattle.synthesis.proofs.Functions.OpeningArrays.{some_below_64, some_next}
+use Rattle.synthesis.proofs.Functions.NumberedNodes.{some_below_64, some_next}
 use Rattle.synthesis.proofs.Functions.Linking.{linked_max, linked_necessity, linked_other}
 use Rattle.synthesis.proofs.graph.link.Goals as goal
 
 pub opening-requires : goal.opening-requires
-opening-requires c = (some_next c.requires.0 c.if-kind-eq-MAX.true refl, c.requires.1)
+opening-requires c = some_next c.requires c.in-Max.is refl
 
-pub returns-then-kind-eq-MAX : goal.returns-then-kind-eq-MAX
-returns-then-kind-eq-MAX c r ir l =
-    linked_max r ir l (omega (arith, some_below_64 c.requires.0)) c.if-kind-eq-MAX.true c.opening.ensures
+pub returns-in-Max : goal.returns-in-Max
+returns-in-Max c r num l = linked_max num l (omega (arith, some_below_64 c.requires)) c.in-Max.is c.opening.ensures
 
-pub opening-requires-then-kind-eq-NECESSITY : goal.opening-requires-then-kind-eq-NECESSITY
-opening-requires-then-kind-eq-NECESSITY c = (some_next c.requires.0 c.if-kind-eq-NECESSITY.true refl, c.requires.1)
+pub opening-requires-in-Necessity : goal.opening-requires-in-Necessity
+opening-requires-in-Necessity c = some_next c.requires c.in-Necessity.is refl
 
-pub returns-then-kind-eq-NECESSITY : goal.returns-then-kind-eq-NECESSITY
-returns-then-kind-eq-NECESSITY c r ir l =
-    linked_necessity r ir l (omega (arith, some_below_64 c.requires.0)) c.if-kind-eq-NECESSITY.true
-    c.opening-then-kind-eq-NECESSITY.ensures
+pub returns-in-Necessity : goal.returns-in-Necessity
+returns-in-Necessity c r num l =
+    linked_necessity num l (omega (arith, some_below_64 c.requires)) c.in-Necessity.is c.opening-in-Necessity.ensures
 
-pub returns-else-kind-eq-NECESSITY : goal.returns-else-kind-eq-NECESSITY
-returns-else-kind-eq-NECESSITY c r ir l = linked_other r ir l c.if-kind-eq-MAX.false c.if-kind-eq-NECESSITY.false
+pub returns-in_default : goal.returns-in_default
+returns-in_default c r num l = linked_other num l c.in_default.not-Max c.in_default.not-Necessity

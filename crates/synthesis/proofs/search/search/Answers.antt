@@ -1,7 +1,7 @@
 use Rattle.std.proofs.Common.{◌+◌, ◌<◌, length, refl, ◌∙◌, add-one, arith}
-use Rattle.std.proofs.lemmas.Result.{MatchResult-from_err}
 use Rattle.synthesis.specs.Search.{found}
 use Rattle.synthesis.specs.Arrays.{answer_by}
+use Rattle.synthesis.proofs.Functions.Exits.{passed}
 use Rattle.synthesis.proofs.Functions.FoundLaws.{found_next, found_longer}
 use Rattle.synthesis.proofs.search.search.Goals as goal
 
@@ -10,8 +10,9 @@ unfolding found
 returns-in_err-insert c =
     let x = c.args in
     let answer = answer_by x.graph.now in
-    let over : x.limit < length (found 256 answer 0 x.graph.now.first) = rw c.new-equations.ensures at c.in_err-insert.ensures in
-    MatchResult-from_err _ _ _ c.from_residual.ensures.0 (λ _. omega (arith, over, found_longer 256 answer 0 x.limit x.graph.now.first (omega arith)))
+    let (refused, past) = c.in_err-insert.ensures in
+    let over : x.limit < length (found 256 answer 0 x.graph.now.first) = rw c.new-equations.ensures at past in
+    passed _ _ _ _ c.from_residual.ensures.1 (refused, omega (arith, over, found_longer 256 answer 0 x.limit x.graph.now.first (omega arith)))
 
 pub loop-k-init : goal.loop-k-init
 unfolding found
@@ -22,10 +23,11 @@ returns-in_err-expand c =
     let x = c.args in
     let k = c.loop-k.k in
     let answer = answer_by x.graph.now in
+    let (refused, past) = c.in_err-expand.ensures in
     let over : x.limit < length (found 256 answer (k + 1) x.graph.now.first) =
-    rw (add-one k, found_next 256 answer k x.graph.now.first) (rw c.loop-k.invariant at c.in_err-expand.ensures) in
-    MatchResult-from_err _ _ _ c.from_residual-in_err-expand.ensures.0
-    (λ _. omega (arith, over, found_longer 256 answer (k + 1) x.limit x.graph.now.first (omega arith)))
+    rw (add-one k, found_next 256 answer k x.graph.now.first) (rw c.loop-k.invariant at past) in
+    passed _ _ _ _ c.from_residual-in_err-expand.ensures.1
+    (refused, omega (arith, over, found_longer 256 answer (k + 1) x.limit x.graph.now.first (omega arith)))
 
 pub loop-k-preserved : goal.loop-k-preserved
 loop-k-preserved c =

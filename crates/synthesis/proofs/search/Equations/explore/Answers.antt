@@ -1,7 +1,7 @@
 use Rattle.std.proofs.Common.{◌+◌, ◌<◌, length, refl, sym, ◌∙◌, arith}
-use Rattle.std.proofs.lemmas.Result.{MatchResult-from_err}
 use Rattle.synthesis.specs.Search.{explored}
 use Rattle.synthesis.specs.Arrays.{answer_by}
+use Rattle.synthesis.proofs.Functions.Exits.{passed}
 use Rattle.synthesis.proofs.Functions.FoundLaws.{explored_some, explored_none, explored_longer}
 use Rattle.synthesis.proofs.search.Equations.explore.Goals as goal
 use Rattle.synthesis.proofs.search.Equations.explore.Goals.{in-Some+in_ok-insert, in_default}
@@ -17,8 +17,9 @@ returns-in_err-insert c =
     let l = x.self.now.equations in
     let answer = answer_by x.graph.now in
     let more = explored_some 256 answer x.e k l (sym c.in-Some.is ∙ c.answer.ensures) in
-    let over : x.self.now.limit < length (explored 256 answer x.e (k + 1) l) = rw more (rw c.loop-code.invariant at c.in_err-insert.ensures) in
-    MatchResult-from_err _ _ _ c.from_residual.ensures.0 (λ _. omega (arith, over, explored_longer 256 answer x.e (k + 1) 256 l (omega arith)))
+    let (refused, past) = c.in_err-insert.ensures in
+    let over : x.self.now.limit < length (explored 256 answer x.e (k + 1) l) = rw more (rw c.loop-code.invariant at past) in
+    passed _ _ _ _ c.from_residual.ensures.1 (refused, omega (arith, over, explored_longer 256 answer x.e (k + 1) 256 l (omega arith)))
 
 pub loop-code-preserved : goal.loop-code-preserved
 loop-code-preserved c =

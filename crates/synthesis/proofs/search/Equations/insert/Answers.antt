@@ -14,7 +14,7 @@ pub returns-then-self : goal.returns-then-self
 returns-then-self c =
     let before = c.self.view_is ∙ c.find.ensures.same in
     let absent = not_found c.args.e before c.find.ensures.value (sym c.is_some.ensures ∙ c.if-is_some.false) in
-    rw (← before) (over_limit c.self.invariant c.self.told.0 c.args.e absent c.if-self.true)
+    rw (← before) (c.at.ensures, over_limit c.self.invariant c.self.told.0 c.args.e absent c.if-self.true)
 
 pub invariant_of-self : goal.invariant_of-self
 invariant_of-self c =
