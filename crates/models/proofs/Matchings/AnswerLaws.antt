@@ -5,20 +5,22 @@ use mathlib.Core.Bool.{Bool, true, false, true≢false}
 use mathlib.Core.List.{List}
 use Prim.Native.Nat.{ℕ, ◌≤◌}
 use native.Mathlib.Omega.{arith}
-use Rattle.std.specs.Prelude.{Result, Ok, Err}
+use Rattle.std.specs.Prelude.{Result, Ok, Err, MatchResult}
+use Rattle.reading.specs.Rule.{Bytes}
 use Rattle.reading.specs.File.{Outcome, accepted, refused}
-use Rattle.reading.specs.Refusals.{number}
+use Rattle.reading.specs.Refusals.{number, as_outcome}
 use Rattle.reading.specs.declared.refusals.Refusal.{Refusal}
 use Rattle.reading.proofs.Basics.Outcomes.{never_refused, refused_same}
 use Rattle.models.specs.Phone.{Phone, phone_of}
 use Rattle.models.specs.Judging.{stored, model_reading_of}
 use Rattle.models.specs.Pairs.{Pair, pairs_of, matching, first_refused, second_refused, pairs_refused, matching_of, MatchedAs, Matches}
-use Rattle.models.specs.Pairs.{MatchAnswer, said, refused_first, refused_second, refused_pairs}
+use Rattle.models.specs.Pairs.{said, refused_first, refused_second, refused_pairs}
 use Rattle.models.specs.Relating.{Relates, RelatedAs, MatchedBy}
 use Rattle.models.specs.declared.Step.{Step}
+use Rattle.models.specs.declared.MatchError.{MatchError}
 use Rattle.models.specs.declared.PhoneModel.{PhoneModel}
 use Rattle.models.specs.declared.pairing.Relation.{Relation}
-use Rattle.models.proofs.Files.ReadModels.{ModelRead, model_unread, steps_are}
+use Rattle.models.proofs.Files.ReadModels.{ModelRead, model_read, model_unread, steps_are}
 use Rattle.models.proofs.Matchings.Bisimulations.{matched_matches}
 
 -- ---- what is matched
@@ -42,6 +44,22 @@ module _ (f g l : List ℕ) where
       unfolding matching_of
       matching_accepts e = rw (one, other, e)
 
+-- ---- what a result was before its refusal was mapped
+
+pub mapped_ok : {A : Type 0} (r : Result A Refusal) {x : A} → MatchResult r (λ y. ◌≡◌ {A = Result A MatchError} (Ok x) (Ok y)) (λ e. ⊥) → r ≡ Ok x
+mapped_ok (Ok y) same = cc
+mapped_ok (Err e) never = absurd never
+
+pub mapped_err : {A : Type 0} (r : Result A Refusal) (make : Refusal → MatchError) {d : MatchError}
+    → MatchResult r (λ y. ◌≡◌ {A = Result A MatchError} (Err d) (Ok y)) (λ e. d ≡ make e) → (e : Refusal) × (r ≡ Err e) × (d ≡ make e)
+mapped_err (Ok y) make same = let z : ◌≡◌ {A = ℕ} 0 1 = cc in absurd (omega arith)
+mapped_err (Err e) make is = (e, refl, is)
+
+-- the model of a file that was read
+pub read_mapped : {f : List ℕ} (read : Result PhoneModel Refusal) → as_outcome read ≡ model_reading_of (phone_of f) → Bytes f
+    → {model : PhoneModel} → MatchResult read (λ y. ◌≡◌ {A = Result PhoneModel MatchError} (Ok model) (Ok y)) (λ e. ⊥) → ModelRead f model
+read_mapped {f} read tells bytes {model} cases = model_read f bytes (rw (mapped_ok read cases) at tells)
+
 -- ---- the ways out
 
 -- the states of a model that was read
@@ -50,13 +68,13 @@ states_few m = omega (arith, ap (λ (x : PhoneModel). x.states) m.has.is_stored,
 
 module _ (f g l : List ℕ) where
   pub answers_first : {number place : ℕ} → refused number place ≡ model_reading_of (phone_of f)
-      → {r : MatchAnswer} → r ≡ refused_first number place → MatchedAs (matching_of f g l) r
-  answers_first read is = rw (matching_first f g l (model_unread f read)) is
+      → MatchedAs (matching_of f g l) (refused_first number place)
+  answers_first read = rw (matching_first f g l (model_unread f read)) refl
 
   module _ {one : PhoneModel} (m : ModelRead f one) where
     pub answers_second : {number place : ℕ} → refused number place ≡ model_reading_of (phone_of g)
-        → {r : MatchAnswer} → r ≡ refused_second number place → MatchedAs (matching_of f g l) r
-    answers_second read is = rw (matching_second f g l m.phone_is (model_unread g read)) is
+        → MatchedAs (matching_of f g l) (refused_second number place)
+    answers_second read = rw (matching_second f g l m.phone_is (model_unread g read)) refl
 
     module _ {other : PhoneModel} (n : ModelRead g other) where
       -- in terms of the models' own counts
@@ -66,8 +84,8 @@ module _ (f g l : List ℕ) where
           rw (← ap (λ (x : PhoneModel). x.states) m.has.is_stored, ← ap (λ (x : PhoneModel). x.states) n.has.is_stored) related
 
       pub answers_pairs : (e : Refusal) → RelatedAs (pairs_of l one.states other.states) (Err e)
-          → {r : MatchAnswer} → r ≡ refused_pairs (number e.fault) e.place → MatchedAs (matching_of f g l) r
-      answers_pairs e related is = rw (matching_pairs f g l m.phone_is n.phone_is (on _ refl (related_pairs (Err e) related))) is
+          → MatchedAs (matching_of f g l) (refused_pairs (number e.fault) e.place)
+      answers_pairs e related = rw (matching_pairs f g l m.phone_is n.phone_is (on _ refl (related_pairs (Err e) related))) refl
         where
           on : (o : Outcome (List Pair)) → pairs_of l m.has.phone.states n.has.phone.states ≡ o → RelatedAs o (Err e)
               → pairs_of l m.has.phone.states n.has.phone.states ≡ refused (number e.fault) e.place

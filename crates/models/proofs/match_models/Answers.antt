@@ -1,41 +1,53 @@
-use Rattle.std.proofs.Common.{rules, ◌≡◌, min, length, ℕ, ◌+◌, ◌-◌, ◌*◌, ◌<◌, ◌≤◌, ◌/◌, ◌%◌, Bool, true, false, nat_eq, nat_lt, List, [], ◌∷◌, ◌++◌, slice_index_or, slice_set, bit_and, bit_or, Fits, w8, w32, w64, Bor, MutBor}
-use Rattle.reading.specs.Refusals.{as_outcome}
-use Rattle.synthesis.specs.Monitor.{mark, most}
-use Rattle.synthesis.specs.Building.{filling_of, counted_of, table_after}
-use Rattle.models.specs.Phone.{Phone, phone_of}
-use Rattle.models.specs.Judging.{stored, model_reading_of, judging_of, JudgedAs, table_judged}
-use Rattle.models.specs.Pairs.{matching_of, match_answer, MatchedAs}
-use Rattle.models.specs.Exploring.{HasPhone}
+-- Each return is a row of what matching answers.
+use Rattle.std.proofs.lemmas.Result.{err_from_is_err_and}
+use Rattle.reading.proofs.Basics.ByteLaws.{slice_bytes}
+use Rattle.models.specs.declared.MatchError.TheVariants.{First, Second, Pairs}
+use Rattle.models.proofs.Files.ReadModels.{read_steps}
+use Rattle.models.proofs.Matchings.AnswerLaws.{mapped_ok, mapped_err, read_mapped, states_few}
+use Rattle.models.proofs.Matchings.AnswerLaws.{answers_first, answers_second, answers_pairs, answers_said}
 use Rattle.models.proofs.match_models.Goals as goal
 
--- src/lib.rt:146:17
 pub returns-in_err-drawn : goal.returns-in_err-drawn
-returns-in_err-drawn c = ?
+returns-in_err-drawn c =
+    let p = err_from_is_err_and c.from_residual.result c.from_residual.ensures.1 in
+    let (e, is, made) = mapped_err _ First c.in_err-drawn.ensures.cases in
+    rw (p.1, p.2, made) (answers_first _ _ _ (rw is at c.read_model.ensures))
 
--- src/lib.rt:147:22
 pub returns-in_err-simplified : goal.returns-in_err-simplified
-returns-in_err-simplified c = ?
+returns-in_err-simplified c =
+    let p = err_from_is_err_and c.from_residual-in_err-simplified.result c.from_residual-in_err-simplified.ensures.1 in
+    let (e, is, made) = mapped_err _ Second c.in_err-simplified.ensures.cases in
+    let one = read_mapped _ c.read_model.ensures (slice_bytes _ c.type_inv.first) c.in_ok-drawn.ensures.cases in
+    rw (p.1, p.2, made) (answers_second _ _ _ one (rw is at c.read_model-2.ensures))
 
--- src/lib.rt:148:20
 pub read_pairs-requires : goal.read_pairs-requires
-read_pairs-requires c = ?
+read_pairs-requires c = (
+  states_few (read_mapped _ c.read_model.ensures (slice_bytes _ c.type_inv.first) c.in_ok-drawn.ensures.cases),
+  states_few (read_mapped _ c.read_model-2.ensures (slice_bytes _ c.type_inv.second) c.in_ok-simplified.ensures.cases),
+)
 
--- src/lib.rt:148:20
 pub returns-in_err-relation : goal.returns-in_err-relation
-returns-in_err-relation c = ?
+returns-in_err-relation c =
+    let p = err_from_is_err_and c.from_residual-in_err-relation.result c.from_residual-in_err-relation.ensures.1 in
+    let (e, is, made) = mapped_err _ Pairs c.in_err-relation.ensures.cases in
+    let one = read_mapped _ c.read_model.ensures (slice_bytes _ c.type_inv.first) c.in_ok-drawn.ensures.cases in
+    let other = read_mapped _ c.read_model-2.ensures (slice_bytes _ c.type_inv.second) c.in_ok-simplified.ensures.cases in
+    rw (p.1, p.2, made) (answers_pairs _ _ _ one other e (rw is at c.read_pairs.ensures))
 
--- src/lib.rt:151:9
 pub steps-requires : goal.steps-requires
-steps-requires c = ?
+steps-requires c = (read_mapped _ c.read_model.ensures (slice_bytes _ c.type_inv.first) c.in_ok-drawn.ensures.cases).has
 
--- src/lib.rt:152:9
 pub steps-requires-2 : goal.steps-requires-2
-steps-requires-2 c = ?
+steps-requires-2 c = (read_mapped _ c.read_model-2.ensures (slice_bytes _ c.type_inv.second) c.in_ok-simplified.ensures.cases).has
 
--- src/lib.rt:150:8
 pub are_matched-requires : goal.are_matched-requires
-are_matched-requires c = ?
+are_matched-requires c =
+    let one = read_mapped _ c.read_model.ensures (slice_bytes _ c.type_inv.first) c.in_ok-drawn.ensures.cases in
+    let other = read_mapped _ c.read_model-2.ensures (slice_bytes _ c.type_inv.second) c.in_ok-simplified.ensures.cases in
+    (read_steps one c.steps.ensures, read_steps other c.steps-2.ensures)
 
--- src/lib.rt:143:1
 pub returns : goal.returns
-returns c = ?
+returns c =
+    let one = read_mapped _ c.read_model.ensures (slice_bytes _ c.type_inv.first) c.in_ok-drawn.ensures.cases in
+    let other = read_mapped _ c.read_model-2.ensures (slice_bytes _ c.type_inv.second) c.in_ok-simplified.ensures.cases in
+    answers_said _ _ _ one other (rw (mapped_ok _ c.in_ok-relation.ensures.cases) at c.read_pairs.ensures) c.steps.ensures c.steps-2.ensures _ c.are_matched.ensures
