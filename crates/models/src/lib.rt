@@ -145,8 +145,9 @@ pub fn match_models(first: &[u8], second: &[u8], pairs: &[u8]) -> Result<bool, M
 {
     let drawn = read_model(first).map_err(MatchError::First)?;
     let simplified = read_model(second).map_err(MatchError::Second)?;
-    let relation = pairing::read_pairs(pairs, drawn.states, simplified.states)
-        .map_err(MatchError::Pairs)?;
+    let relation = pairing::read_pairs(pairs, drawn.states, simplified.states).map_err(
+        MatchError::Pairs,
+    )?;
     Ok(matching::are_matched(
         drawn.steps(),
         simplified.steps(),

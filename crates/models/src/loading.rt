@@ -6,11 +6,7 @@ use crate::{Step, records};
 use reading::Refusal;
 
 // The steps of a file, put into blank records; how many there are.
-pub(crate) fn read_steps(
-    bytes: &[u8],
-    states: usize,
-    steps: &mut [Step],
-) -> Result<usize, Refusal>
+pub(crate) fn read_steps(bytes: &[u8], states: usize, steps: &mut [Step]) -> Result<usize, Refusal>
     requires { StepsBegun bytes.now states steps.old 0 2 }
     ensures { LoadedAs (steps_at 512 bytes.now states 2) steps.new result }
 {

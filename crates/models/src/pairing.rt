@@ -18,7 +18,13 @@ pub(crate) struct Relation {
 }
 
 // The pair that these bytes at `at` are, with `left` of the 4,096 pairs left.
-fn read_pair(bytes: &[u8], first: usize, second: usize, at: usize, left: usize) -> Result<(u8, u8), Refusal>
+fn read_pair(
+    bytes: &[u8],
+    first: usize,
+    second: usize,
+    at: usize,
+    left: usize,
+) -> Result<(u8, u8), Refusal>
     requires { (at < 2 ^ 63) × (0 < length bytes.now) × (length bytes.now ≤ 2) }
     ensures { (l : List ℕ) → bytes.now ≡ take 2 (drop at l) → as_outcome result ≡ pair_read (pair_at l first second at left) }
 {

@@ -32,7 +32,12 @@ pub(crate) fn read_states(bytes: &[u8]) -> Result<usize, Refusal>
 }
 
 // The record of a step at `at`, with `left` of the 512 steps left.
-pub(crate) fn read_step(bytes: &[u8], states: usize, at: usize, left: usize) -> Result<Step, Refusal>
+pub(crate) fn read_step(
+    bytes: &[u8],
+    states: usize,
+    at: usize,
+    left: usize,
+) -> Result<Step, Refusal>
     requires { at < length bytes.now }
     ensures { as_outcome result ≡ record_at (step_format bytes.now states) left at }
 {

@@ -80,7 +80,7 @@ module _ (l : List ℕ) (n n' : ℕ) where
           Checks.no_second_state l n n' (2 * k) (most_pairs - k) (omega arith) first (outside (dec_le n' (get_or l (2 * k + 1) 0)) (λ second. none (first, second)))
   fault_refused (one_too_many fine) =
       let names = fine.name_states most_pairs (omega arith) in
-      refused_there (fine_less fine) (omega arith) (omega (arith, fine.whole)) 
+      refused_there (fine_less fine) (omega arith) (omega (arith, fine.whole))
       (Checks.no_pair_left l n n' (2 * most_pairs) 0 (omega (arith, fine.whole)) names.0 names.1 refl)
 
   -- ---- there is no other way

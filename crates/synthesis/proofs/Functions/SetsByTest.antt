@@ -79,6 +79,6 @@ falsities_next {r} {n} {k} {e} num b h q test below = record {
 
 pub falsities_all : {r : Rule} {k e : ℕ} → size r.formula ≤ k → FalsitiesBelow r k e → e ≡ falsities 0 r.formula
 falsities_all {r} {k} {e} few h = same_members_same_set e (falsities 0 r.formula) (λ j. (
-    λ x. (falsities_has r.formula j).1 ((h.is j).0 x).1,
-    λ x. let y = (falsities_has r.formula j).0 x in (h.is j).1 (omega (arith, few, node_below y.1), y),
-  ))
+  λ x. (falsities_has r.formula j).1 ((h.is j).0 x).1,
+  λ x. let y = (falsities_has r.formula j).0 x in (h.is j).1 (omega (arith, few, node_below y.1), y),
+))
