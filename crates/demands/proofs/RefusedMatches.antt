@@ -3,7 +3,7 @@ use Prim.Native.Nat.{ℕ}
 use mathlib.Core.Path.{◌≡◌, ap}
 use mathlib.Core.List.{List}
 use Rattle.reading.specs.Rule.{Bytes}
-use Rattle.reading.specs.File.{accepted, refused}
+use Rattle.reading.specs.File.{accepted}
 use Rattle.models.specs.Phone.{Phone, PhoneWithinLimits, encode_phone, phone_of}
 use Rattle.models.specs.Faults.{Fault as ModelFault}
 use Rattle.models.specs.Judging.{stored, model_reading_of}

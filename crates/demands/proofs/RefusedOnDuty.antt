@@ -9,6 +9,7 @@ use native.Mathlib.Omega.{arith}
 use borrow.Author.Tests.{leb-true, leb-false}
 use lib.ListN.{length, drop}
 use Rattle.reading.specs.File.{Outcome, accepted, refused}
+use Rattle.reading.proofs.Basics.Outcomes.{never_refused, refused_same}
 use Rattle.synthesis.specs.Monitor.{mark, most}
 use Rattle.running.specs.Running.{start, moved, has_room, RunOver, checked_of}
 use Rattle.running.specs.Duty.{vacant, on_duty, fits_at, at_start, changed_of, duty_ran_of}
@@ -27,14 +28,12 @@ use Rattle.demands.specs.Refusals.{Unfit, ComeRefused, GoRefused, DutyRunRefused
 use Rattle.demands.proofs.UnfitTables.{unfit_not_fit, not_fit_unfit}
 
 -- a clause for a number and a place is one for those that are answered
-as_answered : (Clause : ℕ → ℕ → Type 0) {n p : ℕ} → Clause n p → (number place : ℕ) → refused n p ≡ refused number place → Clause number place
-as_answered Clause {n} {p} clause number place e =
-    let same : n ≡ number = cc in
-    let same' : p ≡ place = cc in
-    rw (← same, ← same') clause
+as_answered : (Clause : ℕ → ℕ → Type 0) {n p : ℕ} → Clause n p → (number place : ℕ)
+    → ◌≡◌ {A = Outcome Unit} (refused n p) (refused number place) → Clause number place
+as_answered Clause clause number place e = let (number_is, place_is) = refused_same e in rw (← number_is, ← place_is) clause
 
-fit_refuses : {P : Type 0} (number place : ℕ) → (accepted tt) ≡ refused number place → P
-fit_refuses number place e = let z : ◌≡◌ {A = ℕ} 0 1 = cc in absurd (omega arith)
+fit_refuses : {P : Type 0} (number place : ℕ) → ◌≡◌ {A = Outcome Unit} (accepted tt) (refused number place) → P
+fit_refuses number place e = absurd (never_refused e)
 
 -- a rule that isn't fit has a table, a count or an equation that is unfit
 rule_unfit : (tables : List ℕ) (x : OnDuty) → fits_at most mark tables x ≡ false

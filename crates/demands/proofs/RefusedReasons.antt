@@ -3,11 +3,11 @@ use Prim.Native.Nat.{ℕ}
 use mathlib.Core.Path.{◌≡◌, refl, sym, ◌∙◌, ap}
 use mathlib.Core.Logic.{◌⊎◌, inl, inr}
 use mathlib.Core.List.{List}
-use native.Mathlib.Omega.{arith}
 use lib.ListN.{length}
 use Rattle.reading.specs.Rule.{Bytes}
 use Rattle.reading.specs.File.{Outcome, accepted, refused}
 use Rattle.reading.proofs.Accepting.Accepted.{accepts_encodings}
+use Rattle.reading.proofs.Basics.Outcomes.{never_refused, refused_same}
 use Rattle.synthesis.specs.Monitor.{most}
 use Rattle.synthesis.specs.Building.{Synthesis, counted_of}
 use Rattle.synthesis.specs.Reason.{reason_of}
@@ -19,9 +19,6 @@ use Rattle.demands.specs.Outcomes.{counting, explaining, RefusedIff}
 use Rattle.demands.specs.Refusals.{ExplainRefused, in_counting, violating_scan}
 use Rattle.demands.proofs.Refused.{count_refused}
 use Rattle.std.specs.Prelude.{Option, Some, None}
-
-refusal_same : {number place number' place' : ℕ} → refused number place ≡ refused number' place' → (number ≡ number') × (place ≡ place')
-refusal_same e = (cc, cc)
 
 module _ (s : List ℕ) (bytes : Bytes s) (kept : List ℕ) (scan : ℕ) where
   abbrev reason : Outcome (Option ℕ)
@@ -40,11 +37,10 @@ module _ (s : List ℕ) (bytes : Bytes s) (kept : List ℕ) (scan : ℕ) where
   violating_clause a number place e = on (explained a).only
     where
       on : (reason ≡ accepted None) ⊎ (((m : ℕ) × (reason ≡ accepted (Some m))) ⊎ ((i : ℕ) × (reason ≡ refused 17 i))) → ExplainRefused s kept number place
-      on (inl q) = let z : ◌≡◌ {A = ℕ} 0 1 = cc in absurd (omega arith)
-      on (inr (inl (m, q))) = let z : ◌≡◌ {A = ℕ} 0 1 = cc in absurd (omega arith)
+      on (inl q) = absurd (never_refused (sym q ∙ e))
+      on (inr (inl (m, q))) = absurd (never_refused (sym q ∙ e))
       on (inr (inr (i, q))) =
-          let same : refused 17 i ≡ refused number place = cc in
-          let (number_is, place_is) = refusal_same same in
+          let (number_is, place_is) = refused_same (sym q ∙ e) in
           rw (← number_is, ← place_is) (violating_scan a i (((explained a).unfit i).0 q))
 
   refusal_clause : (number place : ℕ) → reason ≡ refused number place → ExplainRefused s kept number place
@@ -53,7 +49,7 @@ module _ (s : List ℕ) (bytes : Bytes s) (kept : List ℕ) (scan : ℕ) where
       on : (o : Outcome Synthesis) → counting s ≡ o → ExplainRefused s kept number place
       on (accepted y) q = violating_clause (counted_acceptable most s bytes (length y.equations) (ap counted_of q)) number place e
       on (refused number' place') q =
-          let (number_is, place_is) = refusal_same (sym (reasons.refused number' place' (ap counted_of q)) ∙ e) in
+          let (number_is, place_is) = refused_same (sym (reasons.refused number' place' (ap counted_of q)) ∙ e) in
           rw (← number_is, ← place_is) (in_counting ((count_refused s bytes number' place').0 (ap counted_of q)))
 
   clause_refuses : {number place : ℕ} → ExplainRefused s kept number place → reason ≡ refused number place

@@ -6,6 +6,7 @@ use Rattle.reading.specs.Rule.{Rule, RuleWithinLimits, encode, Bytes}
 use Rattle.reading.specs.File.{accepted, rule_of, Outcome, refused}
 use Rattle.reading.specs.Faults.{Fault as RuleFault}
 use Rattle.reading.specs.Numbered.{numbered, reading_of}
+use Rattle.reading.specs.declared.NumberedRule.{NumberedRule}
 use Rattle.synthesis.specs.Monitor.{mark, most, Monitors, lookup}
 use Rattle.synthesis.specs.Table.{WellFormedTable}
 use Rattle.synthesis.specs.Building.{equations_of, counted_of, Fills, FillsShort, preview_limit}
@@ -35,6 +36,7 @@ use Rattle.demands.specs.Outcomes.{short_counting, short_filling, short_table_fi
 use Rattle.demands.specs.Outcomes.{coming_on, going_off, running_on_duty}
 use Rattle.demands.specs.Refusals.{DeskRefused, WithinRefused, PageRefused, ExplainRefused, FillRefused, RunRefused, JudgeRefused}
 use Rattle.demands.specs.Refusals.{ComeRefused, GoRefused, DutyRunRefused, SecondRefused, PairsRefused}
+use Rattle.models.specs.declared.PhoneModel.{PhoneModel}
 use Rattle.models.specs.declared.Judgment.{Judgment}
 use Rattle.models.specs.declared.Judgment.TheVariants.{Meets, Breaks}
 

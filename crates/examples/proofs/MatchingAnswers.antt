@@ -3,13 +3,14 @@
 use Prim.Native.Nat.{ℕ}
 use mathlib.Core.Path.{◌≡◌}
 use mathlib.Core.Logic.{◌↔◌, inl, inr}
+use mathlib.Core.Bool.{true, false}
 use mathlib.Core.List.{List, [], ◌∷◌}
 use Rattle.reading.specs.Rule.{All}
 use Rattle.reading.specs.File.{Outcome, accepted, by_case}
 use Rattle.models.specs.Phone.{Phone, phone_of}
 use Rattle.models.specs.Pairs.{Pair, pairs_of, Listed, Matches, Matching, matching, first_refused, second_refused, pairs_refused, matching_of, MatchedAs}
-use Rattle.examples.specs.MatchingExamples.{Answers}
 use Rattle.models.specs.Pairs.{MatchAnswer, said, refused_first, refused_second, refused_pairs}
+use Rattle.examples.specs.MatchingExamples.{Answers}
 
 -- what holds of every pair of a list
 pub every_pair : (P : ℕ → ℕ → Type 0) (ps : List Pair) → All (λ p. P p.first p.second) ps → {x y : ℕ} → Listed ps x y → P x y

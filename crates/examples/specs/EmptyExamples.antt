@@ -1,11 +1,10 @@
 -- Patterns with nothing in them, by rules that aren't in the paper: what is measured, read and listed of them; that a necessity with one is a node like any
 -- other, also where equations are counted; and what two rules that differ only after one have in common, and what they don't.
-use Rattle.std.specs.Prelude.{ℕ, zero, suc, ◌≤◌, ◌≡◌, List, [], ◌∷◌, ◌++◌, map, length, Some}
+use Rattle.std.specs.Prelude.{ℕ, zero, suc, ◌≤◌, ◌≡◌, List, [], ◌∷◌, ◌++◌, map, length, Some, None}
 use Rattle.reading.specs.Pattern.{extent_of}
 use Rattle.reading.specs.Rule.{Formula, truth, falsity, both, necessity, max, variable, Rule}
 use Rattle.reading.specs.File.{accepted, rule_of, refused}
 use Rattle.reading.specs.declared.Pattern.{Pattern}
-use Rattle.reading.specs.declared.Lowest.TheVariants.{Absent}
 use Rattle.synthesis.specs.Violation.{ViolatesRule}
 use Rattle.synthesis.specs.Alike.{RulesAlike, DifferAfterEmpty, AfterEmpty}
 use Rattle.synthesis.specs.Monitor.{mark, most}
@@ -50,12 +49,12 @@ after_none_listing =
 
 pub record EmptyPatterns : Type 0 where
   -- a mask of 0: the lowest code is absent and the count 0, whatever the slots are
-  pub measured : (first last : ℕ) → extent_of (pattern 0 first last) ≡ record { lowest = Absent; count = 0 }
+  pub measured : (first last : ℕ) → extent_of (pattern 0 first last) ≡ record { lowest = None; count = 0 }
   -- the slots are kept as written, also where first is over last
   pub slots_kept : ReadAs (1 ∷ 0 ∷ 30 ∷ 2 ∷ 2 ∷ []) (rule (pattern 0 30 2 ∷ []) truth) (accepted 1)
   -- 1 0 5 5 2: one equation, the empty set
   pub unused : Numbers unused_file unused_rule (0 ∷ []) unused_listing
-  pub unused_extents : map extent_of unused_rule.patterns ≡ record { lowest = Absent; count = 0 } ∷ []
+  pub unused_extents : map extent_of unused_rule.patterns ≡ record { lowest = None; count = 0 } ∷ []
   -- 1 0 5 5 5 0 3: two, {0} and the empty set, though every scan is kept
   pub after_none : Numbers after_none_file after_none_rule (1 ∷ 0 ∷ []) after_none_listing
   -- its ff stands after an empty pattern

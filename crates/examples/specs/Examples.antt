@@ -1,13 +1,12 @@
 -- The paper's examples as one statement over the definitions of all layers, in the paper's order and words. The stars in the comments are
 -- the paper's; a row without one has none there.
-use Rattle.std.specs.Prelude.{ℕ, ◌*◌, ◌≤◌, ◌<◌, ◌≡◌, ◌⊎◌, true, false, List, [], ◌∷◌, ◌++◌, map, length, drop, replicate}
+use Rattle.std.specs.Prelude.{ℕ, ◌*◌, ◌≤◌, ◌<◌, ◌≡◌, ◌⊎◌, true, false, List, [], ◌∷◌, ◌++◌, map, length, drop, replicate, Some}
 use Rattle.reading.specs.Pattern.{code_of, kind_of, slot_of, issue, cancel, collect, deliver, sync, return, note, handover, extent_of}
 use Rattle.reading.specs.Rule.{Formula, truth, falsity, both, necessity, max, variable, Rule}
 use Rattle.reading.specs.Rule.{pattern_kind, truth_kind, falsity_kind, both_kind, necessity_kind, max_kind, variable_kind}
 use Rattle.models.specs.Phone.{states_kind, code_step_kind, silent_step_kind}
 use Rattle.reading.specs.File.{Outcome, accepted, refused, rule_of}
 use Rattle.reading.specs.declared.Pattern.{Pattern}
-use Rattle.reading.specs.declared.Lowest.TheVariants.{Code}
 use Rattle.reading.specs.declared.Extent.{Extent}
 use Rattle.synthesis.specs.Monitor.{mark, most, row_of}
 use Rattle.synthesis.specs.Building.{synthesis_of, filling_of, counted_of, table_left}
@@ -22,7 +21,7 @@ pattern mask first last = record { mask = mask; first = first; last = last }
 
 -- of a pattern that covers some code
 abbrev pub extent : (low count : ℕ) → Extent
-extent low count = record { lowest = Code low; count = count }
+extent low count = record { lowest = Some low; count = count }
 
 abbrev pub rule : List Pattern → Formula → Rule
 rule patterns formula = record { patterns = patterns; formula = formula }
@@ -160,7 +159,7 @@ pub record SmallFiles : Type 0 where
   pub first_over_last_extent : extent_of (pattern 1 6 5) ≡ extent 0 32
   -- * 1 1 31 31 2: accepted, lowest 31
   pub last_slot : ReadAs (1 ∷ 1 ∷ 31 ∷ 31 ∷ 2 ∷ []) (rule (pattern 1 31 31 ∷ []) truth) (accepted 1)
-  pub last_slot_lowest : (extent_of (pattern 1 31 31)).lowest ≡ Code 31
+  pub last_slot_lowest : (extent_of (pattern 1 31 31)).lowest ≡ Some 31
 
 -- ---- a run
 
@@ -178,7 +177,7 @@ pool_run = record {
 -- The outcome is this run: what it hands back, and what it leaves in an output and in verdicts.
 pub record RunsPool (outcome : Outcome Run) : Type 0 where
   pub accepts : outcome ≡ accepted pool_run
-  pub handed_back_lem : result_of start outcome ≡ record { checked = (accepted tt); state = moved start 1; kept = 5; dropped = 1 }
+  pub handed_back_lem : result_of start outcome ≡ record { checked = accepted tt; state = moved start 1; kept = 5; dropped = 1 }
   pub ends_in : (result_of start outcome).state.equation ≡ 1
   pub output : (bytes : List ℕ) → output_after outcome bytes ≡ 37 ∷ 128 ∷ 5 ∷ 37 ∷ 5 ∷ drop 5 bytes
   pub verdicts : (bytes : List ℕ) → verdicts_after outcome bytes ≡ 0 ∷ 1 ∷ 0 ∷ 0 ∷ 0 ∷ 0 ∷ drop 6 bytes

@@ -1,6 +1,6 @@
 -- Lists of pairs of states for two model files, which the paper doesn't have. A list that matches the models, and lists with a pair less or a pair more that
 -- don't; which steps are partners; and the refusals, in their order.
-use Rattle.std.specs.Prelude.{ℕ, ◌≡◌, ◌↔◌, List, [], ◌∷◌}
+use Rattle.std.specs.Prelude.{ℕ, ◌≡◌, ◌↔◌, true, false, List, [], ◌∷◌}
 use Rattle.reading.specs.File.{accepted}
 use Rattle.enforcement.specs.Model.{Bisimulation, Bisimilar}
 use Rattle.models.specs.Phone.{Phone, model_of, phone_of}
