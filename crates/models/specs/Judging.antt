@@ -1,6 +1,6 @@
 -- What reading a model file hands up, what judging answers, and what it leaves in the table that it is lent. The limit on equations is any;
 -- the paper's is `most`.
-use Rattle.std.specs.Prelude.{ℕ, ◌≡◌, ◌⊎◌, List, [], length}
+use Rattle.std.specs.Prelude.{ℕ, ◌≡◌, ◌⊎◌, List, length}
 use Rattle.reading.specs.Rule.{Rule}
 use Rattle.reading.specs.File.{Outcome, accepted, refused, and_then}
 use Rattle.reading.specs.Numbered.{padded}

@@ -3,7 +3,7 @@
 use Prim.Native.Nat.{ℕ, ◌≤◌}
 use mathlib.Core.Path.{◌≡◌, refl, sym, ◌∙◌, ap, subst}
 use mathlib.Core.Logic.{◌↔◌, inl, inr}
-use mathlib.Core.Bool.{Bool, true, false}
+use mathlib.Core.Bool.{Bool, true, false, true≢false}
 use mathlib.Core.List.{List}
 use native.Mathlib.Omega.{arith}
 use lib.ListN.{length}
@@ -18,7 +18,7 @@ use Rattle.synthesis.proofs.Tables.Built.{fills_accepted, table_monitors, built_
 use Rattle.enforcement.specs.Model.{SatisfiesDecided}
 use Rattle.models.specs.Phone.{Phone, model_of, phone_of}
 use Rattle.models.specs.Judging.{stored, model_reading_of, judging_of, JudgedAs, table_judged}
-use Rattle.models.specs.Exploring.{NeverDrops, HasPhone, StepsWithinLimits, model_with}
+use Rattle.models.specs.Exploring.{NeverDrops, StepsWithinLimits, model_with}
 use Rattle.models.specs.declared.Step.{Step}
 use Rattle.models.specs.declared.PhoneModel.{PhoneModel}
 use Rattle.models.specs.declared.Judgment.{Judgment}
@@ -87,9 +87,6 @@ module _ (limit : ℕ) (small : limit ≤ most) (s table f : List ℕ) where
       }
 
   module _ {after : List ℕ} {model : PhoneModel} (a : Accepts after model) where
-    pub model_has_phone : HasPhone model
-    model_has_phone = a.read.has
-
     pub model_steps : {steps : List Step} → ((y : Phone) → model ≡ stored y → steps ≡ y.steps) → StepsWithinLimits steps
     model_steps are = read_steps a.read are
 
@@ -125,7 +122,4 @@ module _ (limit : ℕ) (small : limit ≤ most) (s table f : List ℕ) where
       judges_meets e = rw judging_is (inl (refl, never_drops_satisfies.0 (search_iff.0 e)), a.fills.left_is)
 
       pub judges_breaks : r ≡ false → Judges (accepted Breaks) after
-      judges_breaks e = rw judging_is (inr (refl, λ sat. never_true (search_iff.1 (never_drops_satisfies.1 sat))), a.fills.left_is)
-        where
-          never_true : r ≡ true → ⊥
-          never_true e' = let z : ◌≡◌ {A = ℕ} 0 1 = cc in omega arith
+      judges_breaks e = rw judging_is (inr (refl, λ sat. true≢false (sym (search_iff.1 (never_drops_satisfies.1 sat)) ∙ e)), a.fills.left_is)
