@@ -33,6 +33,10 @@ RelatedAs (refused number place) result = as_outcome result ≡ refused number p
 
 -- ---- partners
 
+-- the step has the label, and leads to one of the targets
+abbrev pub IsPartner : Step → (label targets : ℕ) → Type 0
+IsPartner step label targets = (step.label ≡ label) × Has targets step.to
+
 -- one of the first n steps goes from s with the label to one of the targets
 pub record PartnerStep (steps : List Step) (n label targets s : ℕ) : Type 0 where
   pub index : ℕ

@@ -1,9 +1,18 @@
 // Whether a relation between the states of two models is a strong bisimulation that relates their starts.
-ghost use Rattle.std.specs.Prelude.{◌≡◌, ◌↔◌, true, length};
+ghost use Rattle.std.specs.Prelude.{◌≡◌, ◌↔◌, ◌<◌, true, length};
 ghost use Rattle.models.specs.Exploring.{StepsWithinLimits};
-ghost use Rattle.models.specs.Relating.{Partners, HavePartners, MatchedBy};
+ghost use Rattle.models.specs.Relating.{IsPartner, Partners, HavePartners, MatchedBy};
 
 use crate::Step;
+
+// Whether a step has this label and leads to one of the targets.
+#[tactic(auto, unfolding(reading::specs::Pattern::bit))]
+fn is_partner(step: &Step, label: u16, targets: u64) -> bool
+    requires { step.now.to < 64 }
+    ensures { (result ≡ true) ↔ IsPartner step.now label targets }
+{
+    step.label == label && (targets >> step.to) % 2 == 1
+}
 
 // The states from which a step with this label leads to one of the targets.
 fn partners(steps: &[Step], label: u16, targets: u64) -> u64
@@ -12,7 +21,7 @@ fn partners(steps: &[Step], label: u16, targets: u64) -> u64
 {
     let mut states = 0u64;
     for step in steps {
-        if step.label == label && (targets >> step.to) % 2 == 1 {
+        if is_partner(step, label, targets) {
             states |= 1 << step.from;
         }
     }

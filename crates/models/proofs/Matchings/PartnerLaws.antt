@@ -13,14 +13,10 @@ use Rattle.synthesis.specs.NodeSet.{Has, empty_set, singleton, union, intersecti
 use Rattle.synthesis.proofs.Unfolding.NodeSetLaws.{has_none, has_common, same_members_same_set}
 use Rattle.synthesis.proofs.Unfolding.MemberLaws.{has_singleton_iff, union_iff}
 use Rattle.models.specs.Phone.{no_step}
-use Rattle.models.specs.Relating.{PartnerStep, Partners, HavePartners}
+use Rattle.models.specs.Relating.{IsPartner, PartnerStep, Partners, HavePartners}
 use Rattle.models.specs.declared.Step.{Step}
 
 -- ---- one step
-
--- the step has the label, and leads to one of the targets
-abbrev pub Leads : Step → (label targets : ℕ) → Type 0
-Leads step label targets = (step.label ≡ label) × Has targets step.to
 
 -- a bit that is shifted to a state of 64
 pub shifted : (s : ℕ) → s < 64 → 1 * 2 ^ s % 2 ^ 64 ≡ singleton s
@@ -50,7 +46,7 @@ module _ (steps : List Step) (n label targets s : ℕ) where
       on (no h) = inl (record { index = p.index; inside = lt_of_not-le h; from_is = p.from_is; label_is = p.label_is; leads = p.leads })
 
 module _ {steps : List Step} {n label targets states : ℕ} (so_far : Partners steps n label targets states) where
-  pub next_partner : Leads (get_or steps n no_step) label targets
+  pub next_partner : IsPartner (get_or steps n no_step) label targets
       → Partners steps (n + 1) label targets (union states (singleton (get_or steps n no_step).from))
   next_partner leads = record {
     is = λ s.
@@ -61,7 +57,7 @@ module _ {steps : List Step} {n label targets states : ℕ} (so_far : Partners s
         );
   }
 
-  pub next_no_partner : (Leads (get_or steps n no_step) label targets → ⊥) → Partners steps (n + 1) label targets states
+  pub next_no_partner : (IsPartner (get_or steps n no_step) label targets → ⊥) → Partners steps (n + 1) label targets states
   next_no_partner none = record {
     is = λ s. (
       λ h. partner_later steps n label targets s ((so_far.is s).0 h),
