@@ -1,5 +1,4 @@
--- The laws that the proofs of the functions for C share; then that no refusal has the number 0, what a kept scan is answered by, and the promises.
-pub mod SameResults
+-- That no refusal has the number 0, what a kept scan is answered by, and the promises.
 pub mod Refusals
 pub mod KeptValue
 pub mod Told

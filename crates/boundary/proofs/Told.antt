@@ -2,15 +2,12 @@
 use Prim.Native.Nat.{ℕ, zero, suc, ◌-◌, ◌≤◌, ◌<◌}
 use mathlib.Core.Path.{◌≡◌, refl, sym, ◌∙◌, ap}
 use mathlib.Core.Logic.{◌↔◌, inl, inr}
-use mathlib.Core.Bool.{Bool, true, false, cond}
+use mathlib.Core.Bool.{true, false}
 use native.Mathlib.Omega.{arith}
-use lib.Dec.{eqb}
-use Rattle.reading.specs.Pattern.{least}
 use Rattle.reading.specs.File.{Outcome, accepted, refused}
 use Rattle.synthesis.specs.Monitor.{mark, most}
-use Rattle.synthesis.specs.NodeSet.{has, empty_set}
 use Rattle.synthesis.specs.Building.{Synthesis, counted_of}
-use Rattle.synthesis.specs.Reason.{explanation_of, reason_of}
+use Rattle.synthesis.specs.Reason.{lowest_reason, explanation_of, reason_of}
 use Rattle.running.specs.Running.{result_of}
 use Rattle.running.proofs.RunCases.{run_cases}
 use Rattle.models.specs.Judging.{RuleAndModel, JudgedAs}
@@ -85,12 +82,12 @@ node_back m inside = from_1 (accepted None) (accepted (Some m)) (kept_value - m)
 
 reason_back_lem : (o : Outcome ℕ) → Numbered o → ((m : ℕ) → reason_of o ≡ accepted (Some m) → m < kept_value)
     → reason_back (reason_result (reason_of o)) ≡ reason_of o
-reason_back_lem (accepted set) numbered inside = on (eqb set empty_set) (least 64 (has set)) inside
+reason_back_lem (accepted set) numbered inside = on (lowest_reason set) inside
   where
-    on : (b : Bool) (k : ℕ) → ((m : ℕ) → cond b (accepted None) (accepted (Some k)) ≡ accepted (Some m) → m < kept_value)
-        → reason_back (reason_result (cond b (accepted None) (accepted (Some k)))) ≡ cond b (accepted None) (accepted (Some k))
-    on true k inside = refl
-    on false k inside = node_back k (inside k refl)
+    on : (node : Option ℕ) → ((m : ℕ) → accepted node ≡ accepted (Some m) → m < kept_value)
+        → reason_back (reason_result (accepted node)) ≡ accepted node
+    on None inside = refl
+    on (Some k) inside = node_back k (inside k refl)
 reason_back_lem (refused number place) numbered inside = refusal_back said_reason refused number place (numbered number place refl)
 
 pub tells_reason : TellsReason

@@ -1,13 +1,13 @@
 -- What this crate promises, as statements over the definitions; proofs/ has a theorem of each of these types. They are about what a C program gets: it
 -- tells the answer of the library, whole.
-use Rattle.std.specs.Prelude.{ℕ, ◌≤◌, ◌<◌, ◌≡◌, ◌↔◌, List, Option, Some, None}
+use Rattle.std.specs.Prelude.{ℕ, ◌≤◌, ◌<◌, ◌≡◌, ◌↔◌, true, false, List, Option, Some, None}
 use Rattle.reading.specs.Rule.{Bytes}
 use Rattle.reading.specs.File.{Outcome, accepted, refused}
 use Rattle.synthesis.specs.Monitor.{mark, most}
 use Rattle.synthesis.specs.Building.{Synthesis, synthesis_of, filling_of, preview_of, preview_filling_of, short_of, short_filling_of, counted_of}
 use Rattle.synthesis.specs.Reason.{explanation_of, reason_of}
-use Rattle.running.specs.Running.{run_of, result_of}
-use Rattle.running.specs.declared.RunResult.{RunResult}
+use Rattle.running.specs.Running.{run_of, result_of, Returned}
+use Rattle.running.specs.declared.State.{State}
 use Rattle.models.specs.Judging.{judging_of, JudgedAs}
 use Rattle.models.specs.Pairs.{matching_of, MatchedAs, MatchAnswer, said, refused_first, refused_second, refused_pairs}
 use Rattle.boundary.specs.Results.{Result, counted_result, reason_result, judged_result, matched_result, state_of, IsRun}
@@ -94,7 +94,7 @@ TellsMatch = (f g l : List ℕ) (answer : MatchAnswer) → Bytes f → Bytes g �
 
 -- 5. What is got of a run is all of its result: the number is 0 exactly where it is fit, and another exactly where it is refused so, at place 0; and a
 -- state is made of nothing but its equation.
-pub record RunTold (ran : RunResult) (number equation kept dropped : ℕ) : Type 0 where
+pub record RunTold (ran : Returned State) (number equation kept dropped : ℕ) : Type 0 where
   pub fit : (number ≡ 0) ↔ (ran.checked ≡ accepted tt)
   pub refused : (k : ℕ) → 1 ≤ k → (number ≡ k) ↔ (ran.checked ≡ refused k 0)
   pub rest : ran ≡ record { checked = ran.checked; state = state_of equation; kept = kept; dropped = dropped }

@@ -1,6 +1,6 @@
 -- The answers of the layers as a C program gets them: 0 or the number of a refusal, and beside it one value: what the answer says, or the
 -- place of the refusal. Matching says besides which of its inputs it refuses.
-use Rattle.std.specs.Prelude.{ℕ, ◌≡◌, Option, Some, None}
+use Rattle.std.specs.Prelude.{ℕ, ◌≡◌, true, false, Option, Some, None}
 use Rattle.reading.specs.File.{Outcome, accepted, refused}
 use Rattle.running.specs.Running.{start, moved, Run, result_of}
 use Rattle.running.specs.declared.State.{State}

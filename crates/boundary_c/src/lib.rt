@@ -13,7 +13,6 @@ ghost use Rattle.models.specs.declared.Judgment.{Judgment};
 ghost use Rattle.models.specs.Pairs.{matching_of, MatchAnswer, MatchedAs};
 ghost use Rattle.boundary.specs.Results.{counted_result, reason_result, judged_result, matched_result, state_of, IsRun};
 
-
 // Counts the equations of a rule.
 #[unsafe(no_mangle)]
 pub extern "C" fn jarveun_count(rule: &[u8], value: &mut usize) -> u8

@@ -1,11 +1,12 @@
 -- The programs' limit: it is under the library's, so the smaller of the two is itself, and the answers under the two limits are known. Under it a listing has
 -- few lines, since each leads to a later position and none is behind the last.
-use Prim.Native.Nat.{◌≤◌}
+use Prim.Native.Nat.{ℕ, ◌≤◌}
 use mathlib.Core.Path.{◌≡◌, refl, sym}
 use mathlib.Core.Bool.{Bool, true, false, cond}
 use native.Mathlib.Omega.{arith}
 use Rattle.reading.specs.File.{rule_of, Outcome, accepted, refused}
 use Rattle.reading.specs.Numbered.{reading_of}
+use Rattle.reading.specs.Refusals.{as_outcome}
 use Rattle.synthesis.specs.Monitor.{mark, most}
 use Rattle.synthesis.specs.Building.{synthesis_of, counted_of, table_after}
 use Rattle.synthesis.proofs.Tables.SynthesisOutcomes.{filling_within_lem}
@@ -33,11 +34,11 @@ one_line true = omega arith
 one_line false = omega arith
 
 pub few_lines : FewLines
-few_lines s table r shows = on r.answer (sym shows.answer) shows.stops
+few_lines s table r shows = on (as_outcome r.answer) (sym shows.answer) shows.stops
   where
     on : (a : Outcome ℕ) → counted_of (synthesis_of program_limit s) ≡ a
-        → Stops a (reading_of (rule_of s)).rule (table_after mark (synthesis_of program_limit s) table) r.lines r.written → r.lines ≤ 32802
+        → Stops a (reading_of (rule_of s)) (table_after mark (synthesis_of program_limit s) table) r.lines r.written → r.lines ≤ 32802
     on (accepted n) e stops =
-        let leads = lead_leads stops.lead in
+        let leads = lead_leads stops.2.lead in
         omega (arith, leads.fewer, leads.inside, (answers_count program_limit s n e).few)
     on (refused number place) e stops = rw stops (one_line r.written)

@@ -8,7 +8,7 @@ use lib.ListN.{length}
 use Rattle.reading.specs.Pattern.{extent_of}
 use Rattle.reading.specs.Rule.{Rule, Bytes}
 use Rattle.reading.specs.File.{Outcome, accepted, rule_of}
-use Rattle.reading.specs.Numbered.{reading_of, numbered}
+use Rattle.reading.specs.Numbered.{numbered}
 use Rattle.reading.proofs.Accepting.Accepted.{accepts_encodings}
 use Rattle.synthesis.specs.Monitor.{mark, most, row_of}
 use Rattle.synthesis.specs.Building.{Synthesis, synthesis_of, filling_of, counted_of, table_after, preview_limit, preview_of, preview_filling_of}
@@ -26,14 +26,14 @@ use Rattle.commands.specs.Promises.{TextOfPage, PreviewText}
 -- the listing of a rule goes by the rows that it lists
 listing_same : (s : List ℕ) (r : Rule) → Bytes s → rule_of s ≡ accepted r → (n : ℕ) (t t' : List ℕ) → ((k : ℕ) → k < n → row_of 256 t k ≡ row_of 256 t' k)
     → (lines : ℕ) → 34 + 256 * n ≤ lines
-    → (lines_from (reading_of (rule_of s)).rule t n lines 0 ≡ listing (map extent_of r.patterns) n t')
+    → (lines_from (numbered r) t n lines 0 ≡ listing (map extent_of r.patterns) n t')
     × (listing (map extent_of r.patterns) n t ≡ listing (map extent_of r.patterns) n t')
 listing_same s r bytes read n t t' same lines enough =
     let within = ((accepts_encodings s bytes r).0 read).0 in
     let here = lists_rule r t n lines within enough in
     let there = lists_rule r t' n lines within enough in
     let alike = lines_same t t' n same (numbered r) lines 0 in
-    (rw read (alike ∙ there), sym here ∙ alike ∙ there)
+    (alike ∙ there, sym here ∙ alike ∙ there)
 
 module _ (s : List ℕ) (n : ℕ) (bytes : Bytes s) (e : counted_of (preview_of s) ≡ accepted n) (table table' : List ℕ) (room : 256 * n ≤ length table)
     (room' : 256 * n ≤ length table') where
@@ -59,7 +59,7 @@ module _ (s : List ℕ) (n : ℕ) (bytes : Bytes s) (e : counted_of (preview_of 
       let page : text_for (preview_filling_of s (length table)) t ≡ text_for (accepted y) t =
       ap (λ (o : Outcome Synthesis). text_for o t) (preview_same s n e (length table) ∙ filled y is n-is (length table) room) in
       let listed : text_for (accepted y) t ≡ listing (map extent_of y.rule.patterns) n t = rw n-is in
-      record { due = page ∙ listed ∙ (alike (34 + 256 * n) (omega arith)).1 ∙ text; line_by_line = λ lines enough. (alike lines enough).0 ∙ text }
+      record { due = page ∙ listed ∙ (alike (34 + 256 * n) (omega arith)).1 ∙ text; line_by_line = (numbered y.rule, rw read, λ lines enough. (alike lines enough).0 ∙ text) }
 
 pub preview_text : PreviewText
 preview_text s n bytes e table table' room room' =

@@ -5,7 +5,6 @@ use Rattle.commands.proofs.SiftingLaws.{sifts_by_rule, no_calls-refused, sift_ha
 use Rattle.commands.proofs.JudgingFiles.{meets_exactly, judged_texts}
 use Rattle.commands.proofs.PageText.{preview_text}
 use Rattle.commands.proofs.KeepingLimit.{programs_keep_128, few_lines, equations_hands_back}
-use Rattle.reading.specs.File.{refused}
 
 pub promises : Promises
 promises = record {

@@ -7,7 +7,7 @@ use mathlib.Core.List.{List}
 use native.Mathlib.Omega.{arith}
 use lib.ListN.{length, replicate, length-replicate}
 use Rattle.reading.specs.Rule.{Bytes}
-use Rattle.reading.specs.File.{Outcome, accepted, refused}
+use Rattle.reading.specs.File.{Outcome, accepted}
 use Rattle.synthesis.specs.Monitor.{mark, most}
 use Rattle.synthesis.specs.Table.{WellFormedTable}
 use Rattle.synthesis.specs.Building.{Synthesis, synthesis_of, counted_of, table_after}

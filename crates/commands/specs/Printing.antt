@@ -1,5 +1,5 @@
 -- The text that is due to an answer, and how far printing it came. That each line that is counted was written, no contract can say.
-use Rattle.std.specs.Prelude.{ℕ, suc, ◌≡◌, Bool, true, false, cond, List, map, length}
+use Rattle.std.specs.Prelude.{ℕ, suc, ◌≡◌, Bool, true, false, cond, List, [], map, length}
 use Rattle.reading.specs.Pattern.{extent_of}
 use Rattle.reading.specs.File.{Outcome, accepted, refused, and_then, rule_of, by_case}
 use Rattle.reading.specs.Numbered.{reading_of}

@@ -3,6 +3,7 @@ use Rattle.std.specs.Prelude.{◌≡◌, true, List, ℕ, min, ◌+◌, ◌*◌,
 use Rattle.reading.specs.Rule.{Rule, Bytes}
 use Rattle.reading.specs.File.{accepted, and_then, rule_of, Outcome, refused}
 use Rattle.reading.specs.Numbered.{reading_of}
+use Rattle.reading.specs.declared.NumberedRule.{NumberedRule}
 use Rattle.synthesis.specs.Monitor.{mark, most}
 use Rattle.synthesis.specs.Building.{synthesis_of, filling_of, counted_of, table_after, preview_of, preview_filling_of}
 use Rattle.synthesis.specs.LimitPromises.{Stays}
@@ -79,7 +80,7 @@ NoCallsRefused =
 
 -- So this is what `sift` hands back: the answer of counting, and under an accepted rule a state in which scans that were sifted by the rule leave the run.
 pub record HandsBack (s : List ℕ) (x : SiftResult) : Type 0 where
-  pub answer : x.answer ≡ counted_of (synthesis_of program_limit s)
+  pub answer : as_outcome x.answer ≡ counted_of (synthesis_of program_limit s)
   pub state : (r : Rule) (n : ℕ) → rule_of s ≡ accepted r → counted_of (synthesis_of program_limit s) ≡ accepted n
       → (h : History) × Sifted r h × (x.state ≡ h.state)
 

@@ -2,6 +2,7 @@
 -- and that the kept ones are written, no contract can say.
 use Rattle.std.specs.Prelude.{ℕ, ◌≡◌, List}
 use Rattle.reading.specs.File.{Outcome, accepted}
+use Rattle.reading.specs.Refusals.{as_outcome}
 use Rattle.synthesis.specs.Monitor.{mark, most}
 use Rattle.synthesis.specs.Building.{Synthesis, synthesis_of, counted_of, table_after}
 use Rattle.running.specs.Running.{checked_of}
@@ -17,7 +18,7 @@ EndsCalls May s = (h : History) × Calls most mark May h × (s ≡ h.state)
 -- calls on one table, with its count of equations, that aren't refused
 pub record FitOn (table : List ℕ) (count : ℕ) (h : History) (c : Call) : Type 0 where
   pub on : OnTable table count c
-  pub fit : checked_of (outcome_of most mark h.state c) ≡ (accepted unit)
+  pub fit : checked_of (outcome_of most mark h.state c) ≡ accepted tt
 
 abbrev pub EndsCallsOn : (table : List ℕ) → (count : ℕ) → State → Type 0
 EndsCallsOn table count = EndsCalls (FitOn table count)
@@ -30,5 +31,5 @@ pub record UnderRule (outcome : Outcome Synthesis) (table : List ℕ) (h : Histo
 
 -- what `sift` hands back for a rule file, with a table for its rows
 pub record Sifts (s table : List ℕ) (r : SiftResult) : Type 0 where
-  pub answer : r.answer ≡ counted_of (synthesis_of program_limit s)
+  pub answer : as_outcome r.answer ≡ counted_of (synthesis_of program_limit s)
   pub state : EndsCalls (UnderRule (synthesis_of program_limit s) table) r.state

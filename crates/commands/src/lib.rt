@@ -82,16 +82,10 @@ fn print_listing<W: Write, E: Write>(
 }
 
 // Prints the line of a refusal.
-fn print_refusal<W: Write, E: Write>(
-    refusal: Refusal,
-    terminal: &mut Terminal<W, E>,
-) -> Printed
+fn print_refusal<W: Write, E: Write>(refusal: Refusal, terminal: &mut Terminal<W, E>) -> Printed
     ensures { result.lines ≡ cond result.written 1 0 }
 {
-    let written = terminal.print(listing::refusal_line(
-        refusal.fault.number(),
-        refusal.place,
-    ));
+    let written = terminal.print(listing::refusal_line(refusal.fault.number(), refusal.place));
     Printed {
         lines: usize::from(written),
         written,
@@ -111,7 +105,8 @@ fn print_equations<W: Write, E: Write>(
     let answer = synthesis::fill_within(file, LIMIT, table);
     let printed = match (answer, reading::read_rule(file)) {
         (Ok(count), Ok(rule)) => print_listing(rule, table, count, terminal),
-        (Err(refusal), _) | (_, Err(refusal)) => print_refusal(refusal, terminal),
+        (Err(refusal), _) => print_refusal(refusal, terminal),
+        (_, Err(refusal)) => print_refusal(refusal, terminal),
     };
     EquationsResult {
         answer,
