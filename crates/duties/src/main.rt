@@ -48,7 +48,7 @@ fn take_rule<F: FnOnce(&[u8], &mut [u16]) -> Result<usize, Refusal>>(
     requires { F.IsAlwaysCallable fill }
 {
     let place = read_size(rt, buffers.table.len())?;
-    buffers.read_rule(rt, place, fill)?;
+    let _ = buffers.read_rule(rt, place, fill)?;
     Ok(())
 }
 

@@ -7,9 +7,7 @@
 use models::{PhoneModel, Step};
 use reading::Refusal;
 use std::io;
-use testing::{
-    digest, each_case, print_judged, read_long, read_size, read_whole, refresh,
-};
+use testing::{digest, each_case, print_judged, read_long, read_size, read_whole, refresh};
 
 // The digest that the digits of `high` and then a step make, as four bytes: from, two bytes of label, to.
 fn step_digest(high: u64, step: &Step) -> u64 {

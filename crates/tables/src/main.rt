@@ -9,9 +9,7 @@ ghost use Rattle.listing.specs.Positions.{Within};
 use listing::Line;
 use reading::{NumberedRule, Refusal};
 use std::io;
-use testing::{
-    digest, each_case, filled_count, read_bounded, read_long, read_size, refresh,
-};
+use testing::{digest, each_case, filled_count, read_bounded, read_long, read_size, refresh};
 
 // A listing has no more lines: two, one for each pattern, and one for each entry at most.
 const LINES: usize = 34 + 256 * synthesis::MOST;
