@@ -2,5 +2,5 @@
 #![tactic(auto)]
 
 fn main(rt: HostRuntime) {
-    commands::meets(&rt);
+    let _ = commands::meets(&rt);
 }
