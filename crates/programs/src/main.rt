@@ -38,7 +38,7 @@ fn unwritten(rt: &HostRuntime) -> io::Result<()> {
     let shown = commands::equations_of(&mut rule, &mut unwritable, &mut said);
     let mut scans = fs::open(rt, "scans.bin")?;
     let sifted = commands::sift_of(rt, &mut scans, &mut unwritable, &mut said);
-    commands::meets_of(rt, &mut unwritable, &mut said);
+    let _ = commands::meets_of(rt, &mut unwritable, &mut said);
     println!(rt; "lines {} equation {}", shown.lines, sifted.state.equation)?;
     print_subjects(rt, said.as_slice())
 }
@@ -50,7 +50,7 @@ fn written(rt: &HostRuntime) -> io::Result<()> {
     let mut stdout = Signalled::new(rt.stdout());
     commands::equations_of(&mut rule, &mut stdout, &mut rt.stderr());
     commands::sift_of(rt, &mut scans, &mut stdout, &mut rt.stderr());
-    commands::meets_of(rt, &mut stdout, &mut rt.stderr());
+    let _ = commands::meets_of(rt, &mut stdout, &mut rt.stderr());
     Ok(())
 }
 
@@ -61,10 +61,10 @@ fn unread(rt: &HostRuntime) -> io::Result<()> {
     commands::equations_of(&mut folder, &mut rt.stdout(), &mut said);
     commands::sift_of(rt, &mut folder, &mut rt.stdout(), &mut said);
     fs::remove_file(rt, "model.bin")?;
-    commands::meets_of(rt, &mut rt.stdout(), &mut said);
+    let _ = commands::meets_of(rt, &mut rt.stdout(), &mut said);
     fs::remove_file(rt, "rule.bin")?;
     commands::sift_of(rt, &mut folder, &mut rt.stdout(), &mut said);
-    commands::meets_of(rt, &mut rt.stdout(), &mut said);
+    let _ = commands::meets_of(rt, &mut rt.stdout(), &mut said);
     rt.write_all(said.as_slice())
 }
 
@@ -75,7 +75,7 @@ fn over(rt: &HostRuntime) -> io::Result<()> {
     commands::equations_of(&mut rule, &mut rt.stdout(), &mut rt.stderr());
     let mut scans = fs::open(rt, "scans.bin")?;
     commands::sift_of(rt, &mut scans, &mut rt.stdout(), &mut rt.stderr());
-    commands::meets(rt);
+    let _ = commands::meets(rt);
     Ok(())
 }
 
