@@ -49,6 +49,16 @@ node_argument (Necessity p) = p
 node_argument Max = 0
 node_argument (Variable m) = m
 
+-- The same number by the formula, of node k inside the max nodes ms, innermost first: the node of the second part of a "both", the pattern of a
+-- necessity, the max node of a variable, and else 0.
+abbrev pub argument : ℕ → List ℕ → Formula → ℕ
+argument k ms truth = 0
+argument k ms falsity = 0
+argument k ms (both f g) = k + suc (size f)
+argument k ms (necessity p f) = p
+argument k ms (max f) = 0
+argument k ms (variable d) = get_or ms d 0
+
 -- ---- patterns
 
 -- a pattern with its extent

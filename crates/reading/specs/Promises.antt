@@ -4,11 +4,11 @@ use Rattle.std.specs.Prelude.{Some, None, Result}
 use Rattle.std.specs.Int.Count.{ones, count_trailing_zeros}
 use Rattle.reading.specs.Pattern.{code_of, kind_of, slot_of, bit, named, IsSlotSet, covers, least, count_below, extent_of}
 use Rattle.reading.specs.Pattern.{lowest_slot, slot_width, WellFormedPattern}
-use Rattle.reading.specs.Rule.{Formula, size, WellFormed, Rule, RuleWithinLimits, encode, Bytes}
+use Rattle.reading.specs.Rule.{Formula, symbol_of, size, WellFormed, Rule, RuleWithinLimits, kind_byte, encode, Bytes}
 use Rattle.reading.specs.File.{Outcome, accepted, refused, rule_of}
 use Rattle.reading.specs.Refusals.{number, as_outcome}
 use Rattle.reading.specs.Faults.{Fault, Unfinished, KindAt, IsPattern}
-use Rattle.reading.specs.Numbered.{node_of, number_of, listed, no_pattern, none_listed, numbered, reading_of}
+use Rattle.reading.specs.Numbered.{node_of, number_of, node_kind, node_argument, argument, listed, no_pattern, none_listed, numbered, reading_of}
 use Rattle.reading.specs.Nodes.{EnclosingMax, Node, guards_at, Resolves}
 use Rattle.reading.specs.declared.Pattern.{Pattern}
 use Rattle.reading.specs.declared.Node.TheVariants.{Truth}
@@ -51,7 +51,8 @@ RefusesPattern =
     → (reading_of (rule_of s) ≡ refused 5 at) ↔ ((31 < get_or s (at + 2) 0) ⊎ (31 < get_or s (at + 3) 0))
 
 -- 2. The numbered nodes are those of the tree: each number below the size names one node, and what stands at that number
--- says its formula, its parts by their numbers, and the max of a variable. Each node is well formed where it stands.
+-- says its formula, its parts by their numbers, and the max of a variable. Its kind is the byte with which the formula's record begins in the file, and its
+-- argument is that of the formula. Each node is well formed where it stands.
 pub record NumbersNodes (r : Rule) : Type 0 where
   pub counted : (numbered r).nnodes ≡ size r.formula
   pub exists : (k : ℕ) → k < size r.formula → (ms : List EnclosingMax) × (f : Formula) × Node r.formula k ms f
@@ -60,6 +61,10 @@ pub record NumbersNodes (r : Rule) : Type 0 where
   pub fits : {k : ℕ} {ms : List EnclosingMax} {f : Formula} → Node r.formula k ms f → k + size f ≤ size r.formula
   pub node_is : {k : ℕ} {ms : List EnclosingMax} {f : Formula} → Node r.formula k ms f
       → get_or (numbered r).nodes k Truth ≡ node_of k (map number_of ms) f
+  pub kind_is : {k : ℕ} {ms : List EnclosingMax} {f : Formula} → Node r.formula k ms f
+      → node_kind (get_or (numbered r).nodes k Truth) ≡ kind_byte (symbol_of f)
+  pub argument_is : {k : ℕ} {ms : List EnclosingMax} {f : Formula} → Node r.formula k ms f
+      → node_argument (get_or (numbered r).nodes k Truth) ≡ argument k (map number_of ms) f
   pub well_formed : {k : ℕ} {ms : List EnclosingMax} {f : Formula} (n : ℕ) → WellFormed n [] r.formula → (node : Node r.formula k ms f)
       → WellFormed n (guards_at node) f × (length (guards_at node) ≡ length ms)
   pub resolves : {k : ℕ} {ms : List EnclosingMax} {f : Formula} (n : ℕ) → WellFormed n [] r.formula → Node r.formula k ms f

@@ -1,10 +1,11 @@
-// The kinds of records, each with the byte that a record of it begins with.
+// The kinds of records.
 ghost use Rattle.reading.specs.Kinds.{Decodes};
 
 use crate::Fault;
 
+/// The kind of a record, as the byte with which the record begins.
 #[derive(Clone, Copy, Debug, PartialEq, Eq)]
-pub(crate) enum Kind {
+pub enum Kind {
     Pattern = 1,
     Truth = 2,
     Falsity = 3,

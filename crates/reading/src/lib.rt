@@ -13,7 +13,7 @@ ghost use Rattle.reading.specs.File.{rule_of};
 ghost use Rattle.reading.specs.Refusals.{as_outcome};
 ghost use Rattle.reading.specs.Numbered.{node_kind, node_argument, reading_of};
 
-use kind::Kind;
+pub use kind::Kind;
 pub use refusals::{Fault, Refusal};
 
 /// A pattern as it is written: a bit for each kind, and the slots from first to last, round past 31 to 0 where first is over last. A mask of 0 has no kind.

@@ -5,8 +5,8 @@ use mathlib.Core.List.{List, [], ◌∷◌, ◌++◌, map}
 use Prim.Native.Nat.{ℕ, zero, suc, ◌-◌, ◌≤◌}
 use native.Mathlib.Omega.{arith}
 use lib.ListN.{length, get_or, replicate, length-append, length-replicate, get_or-map}
-use Rattle.reading.specs.Rule.{Formula, truth, falsity, both, necessity, max, variable, size, WellFormed, Rule}
-use Rattle.reading.specs.Numbered.{node_of, number_of, nodes, padded, listed, no_pattern, none_listed, numbered}
+use Rattle.reading.specs.Rule.{Formula, truth, falsity, both, necessity, max, variable, symbol_of, size, WellFormed, Rule, kind_byte}
+use Rattle.reading.specs.Numbered.{node_of, number_of, nodes, node_kind, node_argument, argument, padded, listed, no_pattern, none_listed, numbered}
 use Rattle.reading.specs.Promises.{NumbersNodes, NumbersPatterns}
 use Rattle.reading.specs.Nodes.{EnclosingMax, no_max, Node, first, second, after, body}
 use Rattle.reading.specs.declared.Node.TheVariants.{Truth}
@@ -39,9 +39,32 @@ module _ {A : Type 0} (x : A) where
 pub nodes_size : (k : ℕ) (ms : List ℕ) (f : Formula) → length (nodes k ms f) ≡ size f
 nodes_size = listed_size number_of node_of
 
+own_kind : (k : ℕ) (ms : List ℕ) (f : Formula) → node_kind (node_of k ms f) ≡ kind_byte (symbol_of f)
+own_kind k ms truth = refl
+own_kind k ms falsity = refl
+own_kind k ms (both f g) = refl
+own_kind k ms (necessity p f) = refl
+own_kind k ms (max f) = refl
+own_kind k ms (variable d) = refl
+
+own_argument : (k : ℕ) (ms : List ℕ) (f : Formula) → node_argument (node_of k ms f) ≡ argument k ms f
+own_argument k ms truth = refl
+own_argument k ms falsity = refl
+own_argument k ms (both f g) = refl
+own_argument k ms (necessity p f) = refl
+own_argument k ms (max f) = refl
+own_argument k ms (variable d) = refl
+
 module _ (r : Rule) {k : ℕ} {ms : List EnclosingMax} where
   pub node_at_lem : {f : Formula} → Node r.formula k ms f → get_or (numbered r).nodes k Truth ≡ node_of k (map number_of ms) f
   node_at_lem n = padded_at Truth 64 (nodes 0 [] r.formula) k ∙ listed_at number_of node_of r.formula Truth n
+
+  pub kind_at : {f : Formula} → Node r.formula k ms f → node_kind (get_or (numbered r).nodes k Truth) ≡ kind_byte (symbol_of f)
+  kind_at {f} n = rw (node_at_lem n) (own_kind k (map number_of ms) f)
+
+  pub argument_at : {f : Formula} → Node r.formula k ms f
+      → node_argument (get_or (numbered r).nodes k Truth) ≡ argument k (map number_of ms) f
+  argument_at {f} n = rw (node_at_lem n) (own_argument k (map number_of ms) f)
 
   own_resolves : (f : Formula) (n : ℕ) → WellFormed n [] r.formula → Node r.formula k ms f
       → Resolves r.formula k ms (node_of k (map number_of ms) f) f
@@ -74,6 +97,8 @@ numbers_nodes r = record {
   unique = node_unique;
   fits = node_fits;
   node_is = node_at_lem r;
+  kind_is = kind_at r;
+  argument_is = argument_at r;
   well_formed = λ n w node. (well_formed_at n w node, guards_around node);
   resolves = node_resolves r;
 }
