@@ -7,7 +7,7 @@ use Rattle.synthesis.specs.Monitor.{mark, most, lookup}
 use Rattle.synthesis.specs.Answering.{answer_of}
 use Rattle.synthesis.specs.Table.{WellFormedTable}
 use Rattle.synthesis.specs.Building.{Synthesis, numbered_answer, classes_of}
-use Rattle.synthesis.specs.Arrays.{IsGraph}
+use Rattle.synthesis.specs.Arrays.{IsGraph, Found}
 use Rattle.synthesis.specs.Numbering.{IsNumberingOf}
 use Rattle.synthesis.specs.declared.Plan.{Plan}
 use Rattle.synthesis.specs.declared.renumbering.Numbering.{Numbering}
@@ -18,23 +18,23 @@ IsRefusal o r = o ≡ refused (number r.fault) r.place
 
 -- ---- the table of a rule's equations
 
--- what a plan has to fill the rows of a synthesis from
-pub record PlanFor (y : Synthesis) (p : Plan) : Type 0 where
+-- what a plan and the equations found have to fill the rows of a synthesis from
+pub record PlanFor (y : Synthesis) (found : Found) (p : Plan) : Type 0 where
   pub graph_is : IsGraph y.rule p.graph
   pub answer_is : y.answer ≡ answer_of y.rule
-  pub found_is : p.found.equations ≡ y.equations
+  pub found_is : found.equations ≡ y.equations
   pub count_is : p.count ≡ length y.equations
   pub few : length y.equations ≤ most
 
 -- the plan of an outcome that is accepted
-pub record Planned (o : Outcome Synthesis) (p : Plan) : Type 0 where
+pub record Planned (o : Outcome Synthesis) (found : Found) (p : Plan) : Type 0 where
   pub synthesis : Synthesis
   pub is : o ≡ accepted synthesis
-  pub fills : PlanFor synthesis p
+  pub fills : PlanFor synthesis found p
 
 -- the plan of each outcome
-abbrev pub IsPlan : Outcome Synthesis → Result Plan Refusal → Type 0
-IsPlan o result = MatchResult result (Planned o) (IsRefusal o)
+abbrev pub IsPlan : Outcome Synthesis → Result Plan Refusal → Found → Type 0
+IsPlan o result found = MatchResult result (Planned o found) (IsRefusal o)
 
 -- ---- the short table
 

@@ -9,7 +9,7 @@ mod renumbering;
 mod search;
 mod shortening;
 
-ghost use Rattle.std.specs.Prelude.{◌≡◌, min, ◌≤◌, length};
+ghost use Rattle.std.specs.Prelude.{◌≡◌, min, [], length};
 ghost use Rattle.reading.specs.Refusals.{number, as_outcome};
 ghost use Rattle.synthesis.specs.Monitor.{mark, most, row_of};
 ghost use Rattle.synthesis.specs.Building.{synthesis_of, filling_of, preview_of, preview_filling_of, short_of, short_filling_of, counted_of, table_after, page_number};
@@ -32,38 +32,34 @@ const PREVIEW_LIMIT: usize = 32;
 // The entries of the rows of a rule with the most equations.
 const LONGEST: usize = 256 * MOST;
 
-// What the table of a rule is filled from: its graph, its equations, and how many these are.
+// What the table of a rule is filled from, besides its equations: its graph, and how many equations there are.
 #[derive(Drop)]
 struct Plan {
     graph: Graph,
-    found: Equations,
     count: usize,
 }
 
-// Reads a rule file and finds the equations of its rule.
-fn plan_of(rule: &[u8], limit: usize) -> Result<Plan, Refusal>
-    requires { limit ≤ most }
-    ensures { IsPlan (synthesis_of limit rule.now) result }
+// Reads a rule file and finds the equations of its rule, where there are none yet. They are lent, since they are too long to be handed back.
+fn plan_of(rule: &[u8], equations: &mut Equations) -> Result<Plan, Refusal>
+    requires { equations.old.equations ≡ [] }
+    ensures { IsPlan (synthesis_of equations.old.limit rule.now) result equations.new }
 {
     let numbered = reading::read_rule(rule)?;
     let graph = Graph::of_rule(&numbered);
     if graph.first & graph.falsities != 0 {
         return Err(Fault::Unsatisfiable.at(0));
     }
-    let found = search::search(&graph, limit)?;
-    let count = found.len();
-    Ok(Plan {
-        graph,
-        found,
-        count,
-    })
+    search::search(&graph, equations)?;
+    let count = equations.len();
+    Ok(Plan { graph, count })
 }
 
 // Answers how many equations the rule of a file has, or a refusal of 1 to 9; 9 where they are over the limit. A limit over the most counts as the most.
 pub fn count_within(rule: &[u8], limit: usize) -> Result<usize, Refusal>
     ensures { as_outcome result ≡ counted_of (synthesis_of (min limit most) rule.now) }
 {
-    let plan = plan_of(rule, limit.min(MOST))?;
+    let mut equations = Equations::new(limit.min(MOST));
+    let plan = plan_of(rule, &mut equations)?;
     Ok(plan.count)
 }
 
@@ -74,11 +70,12 @@ pub fn fill_within(rule: &[u8], limit: usize, table: &mut [u16]) -> Result<usize
     ensures table_after { table.new
         ≡ table_after mark (filling_of (min limit most) rule.now (length table.old)) table.old }
 {
-    let mut plan = plan_of(rule, limit.min(MOST))?;
+    let mut equations = Equations::new(limit.min(MOST));
+    let plan = plan_of(rule, &mut equations)?;
     if table.len() < 256 * plan.count {
         return Err(Fault::TableTooShort.at(0));
     }
-    filling::fill_table(&plan.graph, &mut plan.found, table);
+    filling::fill_table(&plan.graph, &mut equations, table);
     Ok(plan.count)
 }
 
@@ -163,7 +160,8 @@ pub fn row(table: &[u16], k: usize) -> &[u16]
 pub fn explain(rule: &[u8], kept: &[u8], scan: u8) -> Result<Option<u8>, Refusal>
     ensures { as_outcome result ≡ reason_of (explanation_of most rule.now kept.now scan) }
 {
-    let plan = plan_of(rule, MOST)?;
+    let mut equations = Equations::new(MOST);
+    let plan = plan_of(rule, &mut equations)?;
     let e = explaining::follow(&plan.graph, kept)?;
     let reached = plan.graph.reached(e, scan as usize);
     Ok(explaining::lowest(reached & plan.graph.falsities))

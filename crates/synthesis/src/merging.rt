@@ -34,7 +34,7 @@ impl Round<'_> {
             (up_to self.now.classes.now (meaning mark (get_or a.now c mark)))
             (up_to self.now.classes.now (meaning mark (get_or b.now c mark)))) }
     {
-        a.iter().zip(b).all(|(x, y)| self.is_same(*x, *y))
+        a.len() == b.len() && a.iter().zip(b).all(|(x, y)| self.is_same(*x, *y))
     }
 
     // Whether equations k and l stay together.

@@ -1,9 +1,9 @@
 // The search for the equations of a rule.
-ghost use Rattle.std.specs.Prelude.{◌≡◌, ◌≤◌, ◌<◌, ◌==◌, ◌&&◌, [], eqb, ltb, length, slice_index, MatchResult};
+ghost use Rattle.std.specs.Prelude.{◌≡◌, ◌≤◌, ◌<◌, ◌==◌, ◌&&◌, [], eqb, ltb, length, slice_index};
 ghost use Rattle.std.specs.List.{position};
 ghost use Rattle.synthesis.specs.Monitor.{most};
 ghost use Rattle.synthesis.specs.Search.{insert, explored, expanded, found};
-ghost use Rattle.synthesis.specs.Arrays.{answer_by, Found, too_many, FoundFrom};
+ghost use Rattle.synthesis.specs.Arrays.{answer_by, Found, FoundFrom};
 
 use crate::MOST;
 use crate::graph::Graph;
@@ -146,17 +146,15 @@ fn position(list: &[u64], e: u64) -> Option<usize>
     list.iter().position(|x| *x == e)
 }
 
-// Finds the equations from the first on.
-pub(crate) fn search(graph: &Graph, limit: usize) -> Result<Equations, Refusal>
-    requires { limit ≤ most }
-    ensures { MatchResult result
-        (λ s. s ≡ record { limit = limit; equations = found 256 (answer_by graph.now) limit graph.now.first })
-        (λ r. (r ≡ too_many) × (limit < length (found 256 (answer_by graph.now) limit graph.now.first))) }
+// Finds the equations from the first on, where there are none yet.
+pub(crate) fn search(graph: &Graph, equations: &mut Equations) -> Result<(), Refusal>
+    requires { equations.old.equations ≡ [] }
+    ensures { FoundFrom equations.old result equations.new
+        (found 256 (answer_by graph.now) equations.old.limit graph.now.first) }
 {
-    let mut equations = Equations::new(limit);
     equations.insert(graph.first)?;
-    for k in 0..limit {
+    for k in 0..equations.limit {
         equations.expand(graph, k)?;
     }
-    Ok(equations)
+    Ok(())
 }

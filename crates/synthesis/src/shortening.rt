@@ -6,6 +6,7 @@ ghost use Rattle.synthesis.specs.Plans.{IsShortPlan};
 
 use crate::filling::fill_table;
 use crate::renumbering::Numbering;
+use crate::search::Equations;
 use crate::{MOST, plan_of};
 use reading::Refusal;
 
@@ -14,7 +15,8 @@ pub(crate) fn short_plan_of(rule: &[u8], long: &mut [u16]) -> Result<Numbering, 
     requires { length long.old ≡ 256 * most }
     ensures { IsShortPlan (synthesis_of most rule.now) result long.new }
 {
-    let mut plan = plan_of(rule, MOST)?;
-    fill_table(&plan.graph, &mut plan.found, long);
+    let mut equations = Equations::new(MOST);
+    let plan = plan_of(rule, &mut equations)?;
+    fill_table(&plan.graph, &mut equations, long);
     Ok(Numbering::of_table(long, plan.count))
 }

@@ -10,7 +10,7 @@ use Rattle.synthesis.specs.Monitor.{most}
 use Rattle.synthesis.specs.NodeSet.{intersection}
 use Rattle.synthesis.specs.Answering.{first_of, answer_of}
 use Rattle.synthesis.specs.Building.{synthesis_of}
-use Rattle.synthesis.specs.Arrays.{reached_by, answer_by}
+use Rattle.synthesis.specs.Arrays.{reached_by, answer_by, Found}
 use Rattle.synthesis.specs.Reason.{lowest_reason, opened_falsities, followed, explanation_of, reason_of}
 use Rattle.synthesis.specs.Plans.{Planned}
 use Rattle.synthesis.specs.declared.Plan.{Plan}
@@ -23,7 +23,7 @@ module _ (s w : List ℕ) (c : ℕ) where
   unfolding explanation_of
   refused_reason e = rw e
 
-  module _ (bytes : Bytes w) (p : Plan) (d : Planned (synthesis_of most s) p) where
+  module _ (bytes : Bytes w) (p : Plan) {found : Found} (d : Planned (synthesis_of most s) found p) where
     -- where the scans lead
     abbrev leads : Outcome ℕ
     leads = followed (answer_of d.synthesis.rule) (first_of d.synthesis.rule) 0 w

@@ -13,7 +13,7 @@ use Rattle.synthesis.specs.Monitor.{mark, Answer}
 use Rattle.synthesis.specs.Answering.{answer_of}
 use Rattle.synthesis.specs.Table.{filled}
 use Rattle.synthesis.specs.Building.{Synthesis, in_table, counted_of, table_after}
-use Rattle.synthesis.specs.Arrays.{answer_by}
+use Rattle.synthesis.specs.Arrays.{answer_by, Found}
 use Rattle.synthesis.specs.Plans.{IsRefusal, Planned}
 use Rattle.synthesis.specs.declared.Plan.{Plan}
 use Rattle.synthesis.proofs.Tables.FilledTables.{filled_cong}
@@ -54,16 +54,16 @@ module _ {counting filling : Outcome Synthesis} (table : List ℕ) (by_count : f
 
 -- ---- the plan
 
-module _ {o : Outcome Synthesis} {p : Plan} (d : Planned o p) where
+module _ {o : Outcome Synthesis} {found : Found} {p : Plan} (d : Planned o found p) where
   pub counted_plan : accepted p.count ≡ counted_of o
   counted_plan = rw (d.is, d.fills.count_is)
 
   -- what filling from it needs
-  pub plan_fits : (capacity : ℕ) → 256 * p.count ≤ capacity → 256 * length p.found.equations ≤ capacity
+  pub plan_fits : (capacity : ℕ) → 256 * p.count ≤ capacity → 256 * length found.equations ≤ capacity
   plan_fits capacity room = omega (arith, room, d.fills.count_is, ap length d.fills.found_is)
 
   -- and what it gives
-  pub plan_filled : (table after : List ℕ) → after ≡ filled mark (answer_by p.graph) p.found.equations 256 table
+  pub plan_filled : (table after : List ℕ) → after ≡ filled mark (answer_by p.graph) found.equations 256 table
       → after ≡ filled mark d.synthesis.answer d.synthesis.equations 256 table
   plan_filled table after e =
       let agree = graph_answers p.graph d.fills.graph_is in

@@ -93,7 +93,7 @@ module _ {s : List ℕ} {n : NumberedRule} (d : Read s n) where
       -- ---- the plan
 
       pub planned : {f : Found} {count : ℕ} → f ≡ record { limit = limit; equations = found 256 (answer_by g) limit g.first } → count ≡ length f.equations
-          → count ≤ f.limit → f.limit ≤ most → Planned (synthesis_of limit s) (record { graph = g; found = f; count = count })
+          → count ≤ f.limit → f.limit ≤ most → Planned (synthesis_of limit s) f (record { graph = g; count = count })
       planned {f} {count} is counted few small =
           let same = ap (λ (x : Found). x.equations) is ∙ equations_found in
           let long : length f.equations ≡ length (equations_of limit d.rule) = ap length same in

@@ -17,16 +17,16 @@ returns-then-graph-ne0 c =
     let rule = read s (slice_bytes s c.type_inv.rule) _ c.in_ok-numbered.ensures in
     rw c.at.ensures (unsatisfiable_refused rule c.of_rule-graph.ensures _ c.if-graph-ne0.true)
 
-pub returns-in_err-found : goal.returns-in_err-found
-returns-in_err-found c =
+pub returns-in_err-search : goal.returns-in_err-search
+returns-in_err-search c =
     let s = c.args.rule.now in
     let rule = read s (slice_bytes s c.type_inv.rule) _ c.in_ok-numbered.ensures in
-    let (refused, many) = c.in_err-found.ensures in
-    passed _ _ _ _ c.from_residual-in_err-found.ensures.1 (rw refused (many_refused rule c.of_rule-graph.ensures _ c.if-graph-ne0.false many))
+    let (refused, many) = c.in_err-search.ensures in
+    passed _ _ _ _ c.from_residual-in_err-search.ensures.1 (rw refused (many_refused rule c.of_rule-graph.ensures _ c.if-graph-ne0.false many))
 
 pub returns : goal.returns
 returns c =
     let s = c.args.rule.now in
     let rule = read s (slice_bytes s c.type_inv.rule) _ c.in_ok-numbered.ensures in
     let (few, small) = c.len-count.ensures.within in
-    planned rule c.of_rule-graph.ensures _ c.if-graph-ne0.false c.in_ok-found.ensures c.len-count.ensures.value few small
+    planned rule c.of_rule-graph.ensures _ c.if-graph-ne0.false c.in_ok-search.ensures c.len-count.ensures.value few small

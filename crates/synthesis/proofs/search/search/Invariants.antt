@@ -5,4 +5,4 @@ use Rattle.synthesis.specs.Arrays.{answer_by}
 use Rattle.synthesis.proofs.search.search.Given as goal
 
 abbrev pub invariant-loop-k : goal.invariant-loop-k
-invariant-loop-k l = l.equations ≡ record { limit = l.limit; equations = found 256 (answer_by l.graph) l.k l.graph.first }
+invariant-loop-k l = l.equations ≡ record { limit = l.initial.equations.limit; equations = found 256 (answer_by l.graph) l.k l.graph.first }
