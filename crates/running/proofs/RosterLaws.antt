@@ -1,14 +1,15 @@
 -- Who is on duty, rule by rule: what one more rule behind the others adds to the tests and to the places, and a rule whose table begins at any place
 -- of what is lent. Each is a law of lists, by induction or by what is in the library.
-use Prim.Native.Nat.{ℕ, zero, suc, ◌+◌, ◌*◌, ◌≤◌, ◌<◌}
+use Prim.Native.Nat.{ℕ, zero, suc, ◌+◌, ◌-◌, ◌*◌, ◌≤◌, ◌<◌}
 use mathlib.Core.Path.{◌≡◌, refl, sym, ◌∙◌, ap}
 use mathlib.Core.Bool.{Bool, true, false, not, cond, ◌&&◌, ◌||◌, and-false}
 use mathlib.Core.List.{List, [], ◌∷◌, ◌++◌, append-nil}
 use native.Mathlib.Omega.{arith}
 use lib.Dec.{eqb, leb, ltb}
 use borrow.Author.Tests.{eqb-true, eqb-false, eq-eqb, ne_eqb, lt-leb, le-leb}
-use lib.ListN.{length, get_or, set, take, length-append, length-take, drop_of_length-le}
-use Rattle.std.proofs.lemmas.List.{take_more}
+use lib.ListN.{length, get_or, set, take, replicate, length-append, length-take, drop_of_length-le}
+use Rattle.std.proofs.Common.{take_all}
+use Rattle.std.proofs.lemmas.List.{take_more, take_more_set, append_assoc, replicate-append-replicate}
 use Rattle.reading.specs.Numbered.{padded}
 use Rattle.reading.proofs.RecordLists.RecordsRead.{set_padded}
 use Rattle.running.specs.Lists.{any, filter}
@@ -71,6 +72,23 @@ pushed_is d x tidy few =
 
 pub pushed_onto : {d d' : Duty} (ds : List OnDuty) (x : OnDuty) → d ≡ duty_of ds → d' ≡ duty_of (on_duty d ++ (x ∷ [])) → d' ≡ duty_of (ds ++ (x ∷ []))
 pushed_onto ds x is is' = is' ∙ ap (λ (es : List OnDuty). duty_of (es ++ (x ∷ []))) (rules_of ds is)
+
+-- ---- what stands behind the rules
+
+-- a place more behind them is cleared
+pub cleared_next : (ds places : List OnDuty) (n i : ℕ) → n ≤ i → i < length places → take i places ≡ ds ++ replicate (i - n) vacant
+    → take (i + 1) (set places i vacant) ≡ ds ++ replicate (i + 1 - n) vacant
+cleared_next ds places n i from inside is =
+    let one : (i - n) + 1 ≡ i + 1 - n = omega (arith, from) in
+    take_more_set places i vacant inside ∙ ap (λ (es : List OnDuty). es ++ (vacant ∷ [])) is ∙ append_assoc ds (replicate (i - n) vacant) (vacant ∷ [])
+    ∙ ap (λ (es : List OnDuty). ds ++ es) (replicate-append-replicate (i - n) 1 vacant) ∙ ap (λ (k : ℕ). ds ++ replicate k vacant) one
+
+-- all are
+pub cleared_all : (ds places : List OnDuty) (n i : ℕ) → length ds ≡ n → i ≡ 4 → length places ≡ 4 → take i places ≡ ds ++ replicate (i - n) vacant
+    → ◌≡◌ {A = Duty} (record { rules = places; count = n }) (duty_of ds)
+cleared_all ds places n i n-is i-is long is =
+    let rules : places ≡ padded 4 vacant ds = sym (take_all i places (omega (arith, i-is, long))) ∙ is ∙ rw (i-is, n-is) refl in
+    cc
 
 -- ---- those that stay
 

@@ -45,12 +45,12 @@ pub(crate) fn follow(
 {
     let mut from = 256 * state.equation;
     let mut kept = 0;
-    for (i, code) in scans.iter().enumerate() {
-        let entry = entry(table, from / 256, *code);
+    for (i, &code) in scans.iter().enumerate() {
+        let entry = entry(table, from / 256, code);
         let is_dropped = entry == MARK;
         from = select_unpredictable(is_dropped, from, 256 * entry);
         verdicts[i] = u8::from(is_dropped);
-        output[kept] = select_unpredictable(is_dropped, output[kept], *code);
+        output[kept] = select_unpredictable(is_dropped, output[kept], code);
         kept += usize::from(!is_dropped);
     }
     End {

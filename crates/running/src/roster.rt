@@ -4,7 +4,7 @@ ghost use Rattle.reading.specs.declared.refusals.Fault.TheVariants.{Unfit};
 ghost use Rattle.running.specs.declared.OnDuty.{OnDuty};
 ghost use Rattle.running.specs.Duty.{nobody, on_duty, duty_of, is_on, are_distinct, is_sound, without};
 
-use crate::{Duty, OnDuty, nobody};
+use crate::{Duty, OnDuty, VACANT, nobody};
 use reading::{Fault, Refusal};
 
 // Whether one of the rules has this number.
@@ -55,11 +55,17 @@ impl Roster {
         if !are_distinct(rules) {
             return Err(Fault::Unfit.at(0));
         }
-        let mut roster = Roster::new();
-        for rule in rules {
-            roster.push(*rule);
+        let mut places = duty.rules;
+        // By numbers: `fill` of the library promises clones of the value.
+        for i in duty.count..4 {
+            places[i] = VACANT;
         }
-        Ok(roster)
+        Ok(Roster {
+            duty: Duty {
+                rules: places,
+                count: duty.count,
+            },
+        })
     }
 
     // The rules, by arrival.

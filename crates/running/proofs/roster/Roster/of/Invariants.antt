@@ -1,7 +1,7 @@
--- The rules so far are on duty.
-use Rattle.std.proofs.Common.{◌≡◌, take}
-use Rattle.running.specs.Duty.{duty_of}
+-- The rules stand in front, and nothing behind them in the places so far.
+use Rattle.std.proofs.Common.{◌≡◌, ◌-◌, ◌++◌, length, take, replicate}
+use Rattle.running.specs.Duty.{vacant}
 use Rattle.running.proofs.roster.Roster.of.Given as goal
 
-abbrev pub invariant-loop-rule : goal.invariant-loop-rule
-invariant-loop-rule l = l.roster.duty ≡ duty_of (take l.rule-index l.rules)
+abbrev pub invariant-loop-i : goal.invariant-loop-i
+invariant-loop-i l = (take l.i l.places ≡ take l.duty.count l.duty.rules ++ replicate (l.i - l.duty.count) vacant) × (length l.places ≡ 4)
