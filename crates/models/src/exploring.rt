@@ -54,6 +54,7 @@ fn has_dropped(
 }
 
 // Whether no pair that is reached has a step that is dropped. Each pair is expanded once.
+#[inline(never)]
 pub(crate) fn never_drops(steps: &[Step], table: &[u16]) -> bool
     requires { StepsWithinLimits steps.now × ((count : ℕ) × WellFormedTable most mark count table.now) }
     ensures { (result ≡ true) ↔ NeverDrops (lookup 256 mark table.now) 0 (model_with steps.now) }
