@@ -52,10 +52,10 @@ pub(crate) fn read_file<F: Files>(files: &F, name: &str, file: &mut [u8]) -> Res
     read_whole(&mut input, file)
 }
 
-// Standard output and error of a program, and its name.
+// Standard output and error of a program, and the name under which a failed write is said.
 #[derive(Drop)]
 pub(crate) struct Terminal<'a, W, E> {
-    pub(crate) program: &'static str,
+    pub(crate) output: &'static str,
     pub(crate) stdout: &'a mut W,
     pub(crate) stderr: &'a mut E,
 }
@@ -65,8 +65,7 @@ impl<W: Write, E: Write> Terminal<'_, W, E> {
     fn say(&mut self, what: &str, why: Error) {
         let text = InlineText::<128>::of(why);
         let words = words_of(text.as_str());
-        let program = self.program;
-        let _ = writeln!(self.stderr, "{program}: {what}: {words}");
+        let _ = writeln!(self.stderr, "{what}: {words}");
     }
 
     // How many bytes were read: none where reading failed, which is said.
@@ -88,7 +87,7 @@ impl<W: Write, E: Write> Terminal<'_, W, E> {
         match self.stdout.write_all(bytes) {
             Ok(()) => true,
             Err(why) => {
-                self.say("standard output", why);
+                self.say(self.output, why);
                 false
             }
         }

@@ -57,14 +57,17 @@ pub fn meets_of<F: Files, W: Write, E: Write>(
     ensures { (s : List ℕ) × (f : List ℕ) × Bytes s × Bytes f × JudgesFiles s f (as_outcome result) }
 {
     let mut terminal = Terminal {
-        program: "meets",
+        output: "meets: standard output",
         stdout,
         stderr,
     };
     let mut rule = [0u8; FILE];
-    let n = terminal.read("rule.bin", read_file(files, "rule.bin", &mut rule));
+    let n = terminal.read("meets: rule.bin", read_file(files, "rule.bin", &mut rule));
     let mut model = [0u8; FILE];
-    let k = terminal.read("model.bin", read_file(files, "model.bin", &mut model));
+    let k = terminal.read(
+        "meets: model.bin",
+        read_file(files, "model.bin", &mut model),
+    );
     let mut table = [0u16; TABLE];
     print_judged(&rule[..n], &model[..k], &mut table, &mut terminal)
 }

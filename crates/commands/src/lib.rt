@@ -132,12 +132,12 @@ pub fn equations_of<R: Read, W: Write, E: Write>(
     ensures { (s : List ℕ) × (table : List ℕ) × Bytes s × Shows s table result }
 {
     let mut terminal = Terminal {
-        program: "equations",
+        output: "equations: standard output",
         stdout,
         stderr,
     };
     let mut file = [0u8; FILE];
-    let n = terminal.read("standard input", read_whole(stdin, &mut file));
+    let n = terminal.read("equations: standard input", read_whole(stdin, &mut file));
     let mut table = [0u16; TABLE];
     print_equations(&file[..n], &mut table, &mut terminal)
 }

@@ -23,8 +23,8 @@ struct Sifter<'a> {
     table: &'a [u16],
     count: usize,
     state: State,
-    output: [u8; BLOCK],
-    verdicts: [u8; BLOCK],
+    output: &'a mut [u8; BLOCK],
+    verdicts: &'a mut [u8; BLOCK],
 }
 
 impl Sifter<'_> {
@@ -36,14 +36,9 @@ impl Sifter<'_> {
         ensures same_table { self.new.table.now ≡ self.old.table.now }
         ensures same_count { self.new.count ≡ self.old.count }
     {
-        let ran = running::run(
-            self.table,
-            self.count,
-            self.state,
-            scans,
-            &mut self.output,
-            &mut self.verdicts,
-        );
+        let output = &mut *self.output;
+        let verdicts = &mut *self.verdicts;
+        let ran = running::run(self.table, self.count, self.state, scans, output, verdicts);
         self.state = ran.state;
         terminal.write_whole(&self.output[..ran.kept])
     }
@@ -60,15 +55,17 @@ fn sift_all<R: Read, W: Write, E: Write>(
     ensures { EndsCallsOn table.now count result }
 {
     let mut scans = [0u8; BLOCK];
+    let mut output = [0u8; BLOCK];
+    let mut verdicts = [0u8; BLOCK];
     let mut sifter = Sifter {
         table,
         count,
         state: running::start(),
-        output: [0; BLOCK],
-        verdicts: [0; BLOCK],
+        output: &mut output,
+        verdicts: &mut verdicts,
     };
     for _ in 0..u64::MAX {
-        let n = terminal.read("standard input", read_once(stdin, &mut scans));
+        let n = terminal.read("sift: standard input", read_once(stdin, &mut scans));
         if n == 0 || !sifter.sift(&scans[..n], terminal) {
             return sifter.state;
         }
@@ -115,12 +112,12 @@ pub fn sift_of<F: Files, R: Read, W: Write, E: Write>(
     ensures { (s : List ℕ) × (table : List ℕ) × Bytes s × Sifts s table result }
 {
     let mut terminal = Terminal {
-        program: "sift",
+        output: "sift: standard output",
         stdout,
         stderr,
     };
     let mut file = [0u8; FILE];
-    let n = terminal.read("rule.bin", read_file(files, "rule.bin", &mut file));
+    let n = terminal.read("sift: rule.bin", read_file(files, "rule.bin", &mut file));
     let mut table = [0u16; TABLE];
     sift_under(&file[..n], &mut table, stdin, &mut terminal)
 }
