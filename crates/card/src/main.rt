@@ -3,42 +3,39 @@
 #![tactic(auto)]
 
 use reading::slots::{slot_set, slots_under};
-use std::io;
 
-fn print_width(rt: &HostRuntime, width: usize) -> io::Result<()> {
-    println!(rt; "under {width} {}", slots_under(width))
+fn print_width(rt: &HostRuntime, width: usize) {
+    let _ = println!(rt; "under {width} {}", slots_under(width));
 }
 
-fn print_set(rt: &HostRuntime, first: u8, last: u8) -> io::Result<()> {
-    println!(rt; "set {first} {last} {}", slot_set(first, last))
+fn print_set(rt: &HostRuntime, first: u8, last: u8) {
+    let _ = println!(rt; "set {first} {last} {}", slot_set(first, last));
 }
 
 // The widths 0 to 39.
-fn print_widths(rt: &HostRuntime) -> io::Result<()> {
+fn print_widths(rt: &HostRuntime) {
     for width in 0..40 {
-        print_width(rt, width)?;
+        print_width(rt, width);
     }
-    Ok(())
 }
 
 // Every two of the slots 0 to 39.
-fn print_sets(rt: &HostRuntime) -> io::Result<()> {
+fn print_sets(rt: &HostRuntime) {
     for first in 0..40 {
         for last in 0..40 {
-            print_set(rt, first, last)?;
+            print_set(rt, first, last);
         }
     }
-    Ok(())
 }
 
-fn main(rt: HostRuntime) -> io::Result<()> {
-    print_widths(&rt)?;
-    print_width(&rt, 261)?;
-    print_width(&rt, 4294967301)?;
-    print_width(&rt, usize::MAX)?;
-    print_sets(&rt)?;
-    print_set(&rt, 5, 255)?;
-    print_set(&rt, 255, 5)?;
-    print_set(&rt, 255, 254)?;
-    print_set(&rt, 254, 255)
+fn main(rt: HostRuntime) {
+    print_widths(&rt);
+    print_width(&rt, 261);
+    print_width(&rt, 4294967301);
+    print_width(&rt, usize::MAX);
+    print_sets(&rt);
+    print_set(&rt, 5, 255);
+    print_set(&rt, 255, 5);
+    print_set(&rt, 255, 254);
+    print_set(&rt, 254, 255);
 }

@@ -19,36 +19,29 @@
 // record.
 #![tactic(auto)]
 
-use reading::Refusal;
 use running::{Changed, Duty, OnDuty};
 use std::io;
 use std::io::{Error, ErrorKind};
 use testing::{
-    Buffers, each_case, print_checked, read_byte, read_long, read_part, read_prepared, read_size,
+    Buffers, Cases, Filling, Run, each_case, print_checked, read_byte, read_long, read_part,
+    read_prepared, read_size,
 };
 
 // Prints the whole state: the count and all four places.
-fn print_duty(rt: &HostRuntime, duty: &Duty) -> io::Result<()> {
-    print!(rt; " {}", duty.count)?;
+fn print_duty(rt: &HostRuntime, duty: &Duty) {
+    let _ = print!(rt; " {}", duty.count);
     for rule in &duty.rules {
-        print!(rt;
+        let _ = print!(rt;
             " {} {} {} {}",
             rule.number, rule.base, rule.count, rule.equation
-        )?;
+        );
     }
-    Ok(())
 }
 
 // Fills a part of the tables.
-fn take_rule<F: FnOnce(&[u8], &mut [u16]) -> Result<usize, Refusal>>(
-    rt: &HostRuntime,
-    buffers: &mut Buffers,
-    fill: F,
-) -> io::Result<()>
-    requires { F.IsAlwaysCallable fill }
-{
+fn take_rule(rt: &HostRuntime, buffers: &mut Buffers, filling: Filling) -> io::Result<()> {
     let place = read_size(rt, buffers.table.len())?;
-    let _ = buffers.read_rule(rt, place, fill)?;
+    let _ = buffers.read_rule(rt, place, filling)?;
     Ok(())
 }
 
@@ -88,56 +81,64 @@ fn take_coming(rt: &HostRuntime, duty: &mut Duty, tables: &[u16]) -> io::Result<
         rt,
         duty,
         running::come_on(*duty, number, &tables[..lent], base, count),
-    )
+    );
+    Ok(())
 }
 
-fn take_going(rt: &HostRuntime, duty: &mut Duty) -> io::Result<()> {
+fn take_going(rt: &HostRuntime, duty: &mut Duty) {
     let number = read_byte(rt);
-    take_changed(rt, duty, running::go_off(*duty, number))
+    take_changed(rt, duty, running::go_off(*duty, number));
 }
 
 // Prints a line with what a coming or a going hands back, and keeps its state.
-fn take_changed(rt: &HostRuntime, duty: &mut Duty, changed: Changed) -> io::Result<()> {
-    print_checked(rt, changed.checked)?;
-    print_duty(rt, &changed.duty)?;
-    println!(rt)?;
+fn take_changed(rt: &HostRuntime, duty: &mut Duty, changed: Changed) {
+    print_checked(rt, changed.checked);
+    print_duty(rt, &changed.duty);
+    let _ = println!(rt);
     *duty = changed.duty;
-    Ok(())
 }
 
-// Prints whether a run would be refused, runs, and prints what the run returns.
-fn take_call(
-    rt: &HostRuntime,
-    duty: &mut Duty,
-    buffers: &mut Buffers,
-    turn: u64,
-) -> io::Result<()> {
-    let before = *duty;
-    *duty = buffers.read_run(rt, turn, |tables, scans, output, verdicts| {
-        let ahead = running::check_on_duty(tables, before, scans, output.len(), verdicts.len());
-        print_checked(rt, ahead)?;
-        print!(rt; " ")?;
-        let ran = running::run_on_duty(tables, before, scans, output, verdicts);
-        print_checked(rt, ran.checked)?;
-        print_duty(rt, &ran.state)?;
-        print!(rt; " {} {}", ran.kept, ran.dropped)?;
-        Ok(ran.state)
-    })?;
-    Ok(())
+// Who is on duty.
+#[derive(Drop)]
+struct Present {
+    duty: Duty,
+}
+
+impl Run for Present {
+    // Prints first whether the run would be refused.
+    fn run(
+        &mut self,
+        rt: &HostRuntime,
+        tables: &[u16],
+        scans: &[u8],
+        output: &mut [u8],
+        verdicts: &mut [u8],
+    ) {
+        let duty = self.duty;
+        let ahead = running::check_on_duty(tables, duty, scans, output.len(), verdicts.len());
+        print_checked(rt, ahead);
+        let _ = print!(rt; " ");
+        let ran = running::run_on_duty(tables, duty, scans, output, verdicts);
+        print_checked(rt, ran.checked);
+        print_duty(rt, &ran.state);
+        let _ = print!(rt; " {} {}", ran.kept, ran.dropped);
+        self.duty = ran.state;
+    }
 }
 
 // Takes the next record.
 fn take_record(
     rt: &HostRuntime,
-    duty: &mut Duty,
+    present: &mut Present,
     buffers: &mut Buffers,
     turn: u64,
 ) -> io::Result<()> {
+    let duty = &mut present.duty;
     match read_byte(rt) {
         b'f' => read_prepared(rt, &mut buffers.table),
         b'w' => read_part(rt, &mut buffers.table),
-        b'r' => take_rule(rt, buffers, synthesis::fill),
-        b'm' => take_rule(rt, buffers, synthesis::fill_short),
+        b'r' => take_rule(rt, buffers, Filling::Long),
+        b'm' => take_rule(rt, buffers, Filling::Short),
         b'n' => {
             *duty = running::nobody();
             Ok(())
@@ -147,14 +148,35 @@ fn take_record(
             Ok(())
         }
         b'a' => take_coming(rt, duty, &buffers.table),
-        b'l' => take_going(rt, duty),
-        b'c' => take_call(rt, duty, buffers, turn),
+        b'l' => {
+            take_going(rt, duty);
+            Ok(())
+        }
+        b'c' => buffers.read_run(rt, turn, present),
         _ => Err(Error::from(ErrorKind::InvalidData)),
     }
 }
 
+// The records, with all that they change.
+#[derive(Drop)]
+struct Records {
+    present: Present,
+    buffers: Buffers,
+}
+
+impl Cases for Records {
+    fn answer(&mut self, rt: &HostRuntime, turn: u64) -> io::Result<()> {
+        let Records { present, buffers } = self;
+        take_record(rt, present, buffers, turn)
+    }
+}
+
 fn main(rt: HostRuntime) {
-    let mut duty = running::nobody();
-    let mut buffers = Buffers::new();
-    each_case(|turn| take_record(&rt, &mut duty, &mut buffers, turn));
+    let mut records = Records {
+        present: Present {
+            duty: running::nobody(),
+        },
+        buffers: Buffers::new(),
+    };
+    each_case(&rt, &mut records);
 }

@@ -93,19 +93,20 @@ fn answer_laps(
     scans: &[u8],
     output: &mut [u8],
     verdicts: &mut [u8],
-) -> io::Result<()>
+)
     requires laps { laps < 16777216 }
     requires lap { length scans.now ≡ 65536 }
 {
     if came.answer.is_err() {
-        return print_filled(rt, came.answer);
+        print_filled(rt, came.answer);
+        return;
     }
     let sums = run_laps(tables, came.duty, laps, scans, output, verdicts);
-    println!(rt; "{} {} {}", sums.kept, sums.dropped, digest(0, verdicts))
+    let _ = println!(rt; "{} {} {}", sums.kept, sums.dropped, digest(0, verdicts));
 }
 
 // Answers for so many rules and laps.
-fn answer_rule(rt: &HostRuntime, rule: &[u8], n: u8, laps: usize) -> io::Result<()>
+fn answer_rule(rt: &HostRuntime, rule: &[u8], n: u8, laps: usize)
     requires rules { n ≤ 4 }
     requires laps { laps < 16777216 }
 {
@@ -115,7 +116,7 @@ fn answer_rule(rt: &HostRuntime, rule: &[u8], n: u8, laps: usize) -> io::Result<
     let mut verdicts = [0u8; SCANS];
     make_scans(&mut scans);
     let came = come_all(rule, n, &mut tables);
-    answer_laps(rt, came, &tables, laps, &scans, &mut output, &mut verdicts)
+    answer_laps(rt, came, &tables, laps, &scans, &mut output, &mut verdicts);
 }
 
 // Reads the rules and the laps, and answers for them.
@@ -127,7 +128,8 @@ fn answer_input(rt: &HostRuntime) -> io::Result<()> {
     let laps = read_size(rt, 16777215)?;
     let mut space = [0u8; 1024];
     let rule = read_bounded(rt, &mut space)?;
-    answer_rule(rt, rule, n, laps)
+    answer_rule(rt, rule, n, laps);
+    Ok(())
 }
 
 fn main(rt: HostRuntime) {

@@ -7,7 +7,7 @@
 use models::{PhoneModel, Step};
 use reading::Refusal;
 use std::io;
-use testing::{digest, each_case, print_judged, read_long, read_size, read_whole, refresh};
+use testing::{Cases, digest, each_case, print_judged, read_long, read_size, read_whole, refresh};
 
 // The digest that the digits of `high` and then a step make, as four bytes: from, two bytes of label, to.
 fn step_digest(high: u64, step: &Step) -> u64 {
@@ -21,8 +21,8 @@ fn steps_digest(model: &PhoneModel) -> u64 {
 }
 
 // A refused file has no model: it has no states and no steps.
-fn print_reading(rt: &HostRuntime, reading: &Result<PhoneModel, Refusal>) -> io::Result<()> {
-    match reading {
+fn print_reading(rt: &HostRuntime, reading: &Result<PhoneModel, Refusal>) {
+    let _ = match reading {
         Ok(model) => print!(rt;
             "accepted {} {} {}",
             model.states,
@@ -30,25 +30,18 @@ fn print_reading(rt: &HostRuntime, reading: &Result<PhoneModel, Refusal>) -> io:
             steps_digest(model)
         ),
         Err(refusal) => print!(rt; "{refusal} 0 0 0"),
-    }
+    };
 }
 
-fn answer(
-    rt: &HostRuntime,
-    rule: &[u8],
-    model: &[u8],
-    limit: usize,
-    table: &mut [u16],
-    case: u64,
-) -> io::Result<()> {
-    print_reading(rt, &models::read_model(model))?;
-    print!(rt; " ")?;
+fn answer(rt: &HostRuntime, rule: &[u8], model: &[u8], limit: usize, table: &mut [u16], case: u64) {
+    print_reading(rt, &models::read_model(model));
+    let _ = print!(rt; " ");
     refresh(table, case);
-    print_judged(rt, models::judge(rule, model, table))?;
-    print!(rt; " {} within ", digest(0, table))?;
+    print_judged(rt, models::judge(rule, model, table));
+    let _ = print!(rt; " {} within ", digest(0, table));
     refresh(table, case);
-    print_judged(rt, models::judge_within(rule, model, limit, table))?;
-    println!(rt; " {}", digest(0, table))
+    print_judged(rt, models::judge_within(rule, model, limit, table));
+    let _ = println!(rt; " {}", digest(0, table));
 }
 
 // Answers the next case.
@@ -67,12 +60,30 @@ fn answer_case(
     let model = &mut model[..model_len];
     read_whole(rt, rule)?;
     read_whole(rt, model)?;
-    answer(rt, rule, model, limit, &mut table[..size], case)
+    answer(rt, rule, model, limit, &mut table[..size], case);
+    Ok(())
+}
+
+// Where the files of a case go, and the table that is filled.
+#[derive(Drop)]
+struct Spaces {
+    rule: [u8; 1024],
+    model: [u8; 8192],
+    table: [u16; 262144],
+}
+
+impl Cases for Spaces {
+    fn answer(&mut self, rt: &HostRuntime, case: u64) -> io::Result<()> {
+        let Spaces { rule, model, table } = self;
+        answer_case(rt, rule, model, table, case)
+    }
 }
 
 fn main(rt: HostRuntime) {
-    let mut rule = [0u8; 1024];
-    let mut model = [0u8; 8192];
-    let mut table = [0u16; 262144];
-    each_case(|case| answer_case(&rt, &mut rule, &mut model, &mut table, case));
+    let mut spaces = Spaces {
+        rule: [0; 1024],
+        model: [0; 8192],
+        table: [0; 262144],
+    };
+    each_case(&rt, &mut spaces);
 }

@@ -6,19 +6,19 @@
 
 use models::MatchError;
 use std::io;
-use testing::{each_case, print_judged, read_bounded, read_size, read_whole};
+use testing::{Cases, each_case, print_judged, read_bounded, read_size, read_whole};
 
 // A case has no more rules.
 const RULES: usize = 255;
 
-fn print_matched(rt: &HostRuntime, matched: Result<bool, MatchError>) -> io::Result<()> {
-    match matched {
+fn print_matched(rt: &HostRuntime, matched: Result<bool, MatchError>) {
+    let _ = match matched {
         Ok(true) => print!(rt; "yes"),
         Ok(false) => print!(rt; "no"),
         Err(MatchError::First(refusal)) => print!(rt; "first {refusal}"),
         Err(MatchError::Second(refusal)) => print!(rt; "second {refusal}"),
         Err(MatchError::Pairs(refusal)) => print!(rt; "pairs {refusal}"),
-    }
+    };
 }
 
 // Judges both models under the next rule.
@@ -30,10 +30,11 @@ fn judge_rule(
     table: &mut [u16],
 ) -> io::Result<()> {
     let rule = read_bounded(rt, space)?;
-    print!(rt; " ")?;
-    print_judged(rt, models::judge(rule, first, table))?;
-    print!(rt; " ")?;
-    print_judged(rt, models::judge(rule, second, table))
+    let _ = print!(rt; " ");
+    print_judged(rt, models::judge(rule, first, table));
+    let _ = print!(rt; " ");
+    print_judged(rt, models::judge(rule, second, table));
+    Ok(())
 }
 
 // Judges both models under so many rules.
@@ -69,16 +70,39 @@ fn answer_case(
     read_whole(rt, first)?;
     read_whole(rt, second)?;
     read_whole(rt, pairs)?;
-    print_matched(rt, models::match_models(first, second, pairs))?;
+    print_matched(rt, models::match_models(first, second, pairs));
     let judged = judge_rules(rt, rules, first, second, table);
-    println!(rt)?;
+    let _ = println!(rt);
     judged
 }
 
+// Where the models and the pairs of a case go, and the table that is filled.
+#[derive(Drop)]
+struct Spaces {
+    first: [u8; 4096],
+    second: [u8; 4096],
+    pairs: [u8; 16384],
+    table: [u16; 262144],
+}
+
+impl Cases for Spaces {
+    fn answer(&mut self, rt: &HostRuntime, _case: u64) -> io::Result<()> {
+        let Spaces {
+            first,
+            second,
+            pairs,
+            table,
+        } = self;
+        answer_case(rt, first, second, pairs, table)
+    }
+}
+
 fn main(rt: HostRuntime) {
-    let mut first = [0u8; 4096];
-    let mut second = [0u8; 4096];
-    let mut pairs = [0u8; 16384];
-    let mut table = [0u16; 262144];
-    each_case(|_| answer_case(&rt, &mut first, &mut second, &mut pairs, &mut table));
+    let mut spaces = Spaces {
+        first: [0; 4096],
+        second: [0; 4096],
+        pairs: [0; 16384],
+        table: [0; 262144],
+    };
+    each_case(&rt, &mut spaces);
 }

@@ -5,17 +5,17 @@
 
 use reading::Refusal;
 use std::io;
-use testing::{each_case, read_byte, read_size, read_whole};
+use testing::{Cases, each_case, read_byte, read_size, read_whole};
 
 // A case has no longer rule, and no more kept scans.
 const MOST: usize = 1024;
 
-fn print_reason(rt: &HostRuntime, reason: Result<Option<u8>, Refusal>) -> io::Result<()> {
-    match reason {
+fn print_reason(rt: &HostRuntime, reason: Result<Option<u8>, Refusal>) {
+    let _ = match reason {
         Ok(None) => println!(rt; "kept"),
         Ok(Some(node)) => println!(rt; "node {node}"),
         Err(refusal) => println!(rt; "{refusal}"),
-    }
+    };
 }
 
 // Answers the next case.
@@ -28,9 +28,20 @@ fn answer_case(rt: &HostRuntime) -> io::Result<()> {
     let kept = &mut kept[..kept_len];
     read_whole(rt, rule)?;
     read_whole(rt, kept)?;
-    print_reason(rt, synthesis::explain(rule, kept, read_byte(rt)))
+    print_reason(rt, synthesis::explain(rule, kept, read_byte(rt)));
+    Ok(())
+}
+
+// The cases need no space that outlasts them.
+#[derive(Drop)]
+struct Reasons;
+
+impl Cases for Reasons {
+    fn answer(&mut self, rt: &HostRuntime, _case: u64) -> io::Result<()> {
+        answer_case(rt)
+    }
 }
 
 fn main(rt: HostRuntime) {
-    each_case(|_| answer_case(&rt));
+    each_case(&rt, &mut Reasons);
 }

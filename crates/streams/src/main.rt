@@ -17,7 +17,8 @@ use running::State;
 use std::io;
 use std::io::{Error, ErrorKind};
 use testing::{
-    Buffers, each_case, filled_count, print_checked, read_byte, read_long, read_part, read_prepared,
+    Buffers, Cases, Filling, Run, each_case, filled_count, print_checked, read_byte, read_long,
+    read_part, read_prepared,
 };
 
 // What the records so far have set, the table left aside.
@@ -30,21 +31,9 @@ struct Held {
 impl Held {
     // The state is the start, and the count is what filling answers.
     fn take_rule(&mut self, rt: &HostRuntime, buffers: &mut Buffers) -> io::Result<()> {
-        let filled = buffers.read_rule(rt, 0, synthesis::fill)?;
+        let filled = buffers.read_rule(rt, 0, Filling::Long)?;
         self.count = filled_count(filled);
         self.state = running::start();
-        Ok(())
-    }
-
-    // Runs, and prints what the run returns.
-    fn take_call(&mut self, rt: &HostRuntime, buffers: &mut Buffers, turn: u64) -> io::Result<()> {
-        let Held { count, state } = *self;
-        self.state = buffers.read_run(rt, turn, |table, scans, output, verdicts| {
-            let ran = running::run(table, count, state, scans, output, verdicts);
-            print_checked(rt, ran.checked)?;
-            print!(rt; " {} {} {}", ran.state.equation, ran.kept, ran.dropped)?;
-            Ok(ran.state)
-        })?;
         Ok(())
     }
 
@@ -71,17 +60,51 @@ impl Held {
                 self.state.equation = read_long(rt)?;
                 Ok(())
             }
-            b'c' => self.take_call(rt, buffers, turn),
+            b'c' => buffers.read_run(rt, turn, self),
             _ => Err(Error::from(ErrorKind::InvalidData)),
         }
     }
 }
 
+impl Run for Held {
+    // The state is then what the run returns.
+    fn run(
+        &mut self,
+        rt: &HostRuntime,
+        table: &[u16],
+        scans: &[u8],
+        output: &mut [u8],
+        verdicts: &mut [u8],
+    ) {
+        let Held { count, state } = *self;
+        let ran = running::run(table, count, state, scans, output, verdicts);
+        print_checked(rt, ran.checked);
+        let _ = print!(rt; " {} {} {}", ran.state.equation, ran.kept, ran.dropped);
+        self.state = ran.state;
+    }
+}
+
+// The records, with all that they change.
+#[derive(Drop)]
+struct Records {
+    held: Held,
+    buffers: Buffers,
+}
+
+impl Cases for Records {
+    fn answer(&mut self, rt: &HostRuntime, turn: u64) -> io::Result<()> {
+        let Records { held, buffers } = self;
+        held.take_record(rt, buffers, turn)
+    }
+}
+
 fn main(rt: HostRuntime) {
-    let mut held = Held {
-        count: 0,
-        state: running::start(),
+    let mut records = Records {
+        held: Held {
+            count: 0,
+            state: running::start(),
+        },
+        buffers: Buffers::new(),
     };
-    let mut buffers = Buffers::new();
-    each_case(|turn| held.take_record(&rt, &mut buffers, turn));
+    each_case(&rt, &mut records);
 }

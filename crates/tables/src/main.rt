@@ -9,7 +9,9 @@ ghost use Rattle.listing.specs.Positions.{Within};
 use listing::Line;
 use reading::{NumberedRule, Refusal};
 use std::io;
-use testing::{digest, each_case, filled_count, read_bounded, read_long, read_size, refresh};
+use testing::{
+    Cases, digest, each_case, filled_count, read_bounded, read_long, read_size, refresh,
+};
 
 // A listing has no more lines: two, one for each pattern, and one for each entry at most.
 const LINES: usize = 34 + 256 * synthesis::MOST;
@@ -80,23 +82,23 @@ fn text_summary(answer: Result<usize, Refusal>, file: &[u8], table: &[u16]) -> S
     }
 }
 
-fn print_summary(rt: &HostRuntime, summary: Summary) -> io::Result<()> {
-    print!(rt; " {} {}", summary.len, summary.digest)
+fn print_summary(rt: &HostRuntime, summary: Summary) {
+    let _ = print!(rt; " {} {}", summary.len, summary.digest);
 }
 
 // A row, but for an empty one.
-fn print_row(rt: &HostRuntime, table: &[u16], k: usize) -> io::Result<()> {
+fn print_row(rt: &HostRuntime, table: &[u16], k: usize) {
     let row = synthesis::row(table, k);
     if row.is_empty() {
-        return Ok(());
+        return;
     }
-    print!(rt; " {k} {} {}", row.len(), digest(0, row))
+    let _ = print!(rt; " {k} {} {}", row.len(), digest(0, row));
 }
 
 // The first n rows together, and some others by themselves.
-fn print_rows(rt: &HostRuntime, table: &[u16], n: usize) -> io::Result<()> {
-    print!(rt; " rows")?;
-    print_summary(rt, rows_summary(table, n))?;
+fn print_rows(rt: &HostRuntime, table: &[u16], n: usize) {
+    let _ = print!(rt; " rows");
+    print_summary(rt, rows_summary(table, n));
     let others = [
         n,
         127,
@@ -111,17 +113,16 @@ fn print_rows(rt: &HostRuntime, table: &[u16], n: usize) -> io::Result<()> {
         usize::MAX,
     ];
     for k in others {
-        print_row(rt, table, k)?;
+        print_row(rt, table, k);
     }
-    Ok(())
 }
 
 // What counting or filling answers: the number of equations, or a refusal.
-fn print_answer(rt: &HostRuntime, answer: Result<usize, Refusal>) -> io::Result<()> {
-    match answer {
+fn print_answer(rt: &HostRuntime, answer: Result<usize, Refusal>) {
+    let _ = match answer {
         Ok(count) => print!(rt; "{count}"),
         Err(refusal) => print!(rt; "{refusal}"),
-    }
+    };
 }
 
 // What counting answers, and what filling answers and leaves in the table.
@@ -130,11 +131,11 @@ fn print_filled(
     counted: Result<usize, Refusal>,
     filled: Result<usize, Refusal>,
     table: &[u16],
-) -> io::Result<()> {
-    print_answer(rt, counted)?;
-    print!(rt; " ")?;
-    print_answer(rt, filled)?;
-    print!(rt; " {}", digest(0, table))
+) {
+    print_answer(rt, counted);
+    let _ = print!(rt; " ");
+    print_answer(rt, filled);
+    let _ = print!(rt; " {}", digest(0, table));
 }
 
 // The same, and what is listed of it.
@@ -144,38 +145,38 @@ fn print_answers(
     filled: Result<usize, Refusal>,
     file: &[u8],
     table: &[u16],
-) -> io::Result<()> {
-    print_filled(rt, counted, filled, table)?;
-    print_summary(rt, text_summary(filled, file, table))
+) {
+    print_filled(rt, counted, filled, table);
+    print_summary(rt, text_summary(filled, file, table));
 }
 
-fn answer_long(rt: &HostRuntime, rule: &[u8], table: &mut [u16]) -> io::Result<()> {
+fn answer_long(rt: &HostRuntime, rule: &[u8], table: &mut [u16]) {
     let counted = synthesis::count(rule);
     let filled = synthesis::fill(rule, table);
-    print_answers(rt, counted, filled, rule, table)?;
-    print_rows(rt, table, filled_count(filled))
+    print_answers(rt, counted, filled, rule, table);
+    print_rows(rt, table, filled_count(filled));
 }
 
-fn answer_page(rt: &HostRuntime, rule: &[u8], table: &mut [u16]) -> io::Result<()> {
-    print!(rt; " page ")?;
+fn answer_page(rt: &HostRuntime, rule: &[u8], table: &mut [u16]) {
+    let _ = print!(rt; " page ");
     let counted = synthesis::count_preview(rule);
     let filled = synthesis::fill_preview(rule, table);
-    print_answers(rt, counted, filled, rule, table)
+    print_answers(rt, counted, filled, rule, table);
 }
 
-fn answer_short(rt: &HostRuntime, rule: &[u8], table: &mut [u16]) -> io::Result<()> {
-    print!(rt; " short ")?;
+fn answer_short(rt: &HostRuntime, rule: &[u8], table: &mut [u16]) {
+    let _ = print!(rt; " short ");
     let counted = synthesis::count_short(rule);
     let filled = synthesis::fill_short(rule, table);
-    print_answers(rt, counted, filled, rule, table)
+    print_answers(rt, counted, filled, rule, table);
 }
 
-fn answer_within(rt: &HostRuntime, rule: &[u8], limit: usize, table: &mut [u16]) -> io::Result<()> {
-    print!(rt; " within ")?;
+fn answer_within(rt: &HostRuntime, rule: &[u8], limit: usize, table: &mut [u16]) {
+    let _ = print!(rt; " within ");
     let counted = synthesis::count_within(rule, limit);
     let filled = synthesis::fill_within(rule, limit, table);
-    print_filled(rt, counted, filled, table)?;
-    println!(rt)
+    print_filled(rt, counted, filled, table);
+    let _ = println!(rt);
 }
 
 // Answers the next case.
@@ -185,17 +186,34 @@ fn answer_case(rt: &HostRuntime, space: &mut [u8], table: &mut [u16], case: u64)
     let rule = read_bounded(rt, space)?;
     let table = &mut table[..size];
     refresh(table, case);
-    answer_long(rt, rule, table)?;
+    answer_long(rt, rule, table);
     refresh(table, case);
-    answer_page(rt, rule, table)?;
+    answer_page(rt, rule, table);
     refresh(table, case);
-    answer_short(rt, rule, table)?;
+    answer_short(rt, rule, table);
     refresh(table, case);
-    answer_within(rt, rule, limit, table)
+    answer_within(rt, rule, limit, table);
+    Ok(())
+}
+
+// Where the rule file of a case goes, and the table that it fills.
+#[derive(Drop)]
+struct Spaces {
+    rule: [u8; 1024],
+    table: [u16; 262144],
+}
+
+impl Cases for Spaces {
+    fn answer(&mut self, rt: &HostRuntime, case: u64) -> io::Result<()> {
+        let Spaces { rule, table } = self;
+        answer_case(rt, rule, table, case)
+    }
 }
 
 fn main(rt: HostRuntime) {
-    let mut space = [0u8; 1024];
-    let mut table = [0u16; 262144];
-    each_case(|case| answer_case(&rt, &mut space, &mut table, case));
+    let mut spaces = Spaces {
+        rule: [0; 1024],
+        table: [0; 262144],
+    };
+    each_case(&rt, &mut spaces);
 }

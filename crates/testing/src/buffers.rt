@@ -9,6 +9,35 @@ use reading::Refusal;
 use std::io;
 use std::io::{Error, ErrorKind};
 
+// The filling of a table: with every row, or with the short table's rows.
+#[derive(Clone, Copy)]
+pub enum Filling {
+    Long,
+    Short,
+}
+
+impl Filling {
+    fn fill(self, rule: &[u8], table: &mut [u16]) -> Result<usize, Refusal> {
+        match self {
+            Filling::Long => synthesis::fill(rule, table),
+            Filling::Short => synthesis::fill_short(rule, table),
+        }
+    }
+}
+
+// What runs over scans.
+pub trait Run {
+    // Runs, and prints what the run returns.
+    fn run(
+        &mut self,
+        rt: &HostRuntime,
+        table: &[u16],
+        scans: &[u8],
+        output: &mut [u8],
+        verdicts: &mut [u8],
+    );
+}
+
 // A table, scans, and two buffers for what a run writes.
 #[derive(Drop)]
 pub struct Buffers {
@@ -29,69 +58,61 @@ impl Buffers {
     }
 
     // Reads a rule file, fills the table by it from a place on, and prints and hands back what the filling answers.
-    pub fn read_rule<F: FnOnce(&[u8], &mut [u16]) -> Result<usize, Refusal>>(
+    pub fn read_rule(
         &mut self,
         rt: &HostRuntime,
         place: usize,
-        fill: F,
-    ) -> io::Result<Result<usize, Refusal>>
-        requires { F.IsAlwaysCallable fill }
-    {
+        filling: Filling,
+    ) -> io::Result<Result<usize, Refusal>> {
         let Buffers { table, scans, .. } = self;
         if place > table.len() {
             return Err(Error::from(ErrorKind::InvalidInput));
         }
-        fill_from(rt, scans, table, place, fill)
+        fill_from(rt, scans, table, place, filling)
     }
 
     // Reads how much is lent of the table and of both buffers, and the scans; runs, and ends the line with what both buffers have then.
-    pub fn read_run<T, F>(&mut self, rt: &HostRuntime, turn: u64, run: F) -> io::Result<T>
-    where
-        F: FnOnce(&[u16], &[u8], &mut [u8], &mut [u8]) -> io::Result<T>,
-        T: Drop,
-        requires { F.IsAlwaysCallable run }
-    {
+    pub fn read_run<R: Run>(
+        &mut self,
+        rt: &HostRuntime,
+        turn: u64,
+        runner: &mut R,
+    ) -> io::Result<()> {
         let Buffers {
             table,
             scans,
             output,
             verdicts,
         } = self;
-        run_on(rt, table, scans, output, verdicts, turn, run)
+        run_on(rt, table, scans, output, verdicts, turn, runner)
     }
 }
 
 // A function of slices, since a part of a field behind a reference can't be lent.
-fn fill_from<F: FnOnce(&[u8], &mut [u16]) -> Result<usize, Refusal>>(
+fn fill_from(
     rt: &HostRuntime,
     scans: &mut [u8],
     table: &mut [u16],
     place: usize,
-    fill: F,
+    filling: Filling,
 ) -> io::Result<Result<usize, Refusal>>
-    requires place { place ≤ length table.old }
-    requires fill { F.IsAlwaysCallable fill }
+    requires { place ≤ length table.old }
 {
     let rule = read_bounded(rt, scans)?;
-    let filled = fill(rule, &mut table[place..]);
-    print_filled(rt, filled)?;
+    let filled = filling.fill(rule, &mut table[place..]);
+    print_filled(rt, filled);
     Ok(filled)
 }
 
-fn run_on<T, F>(
+fn run_on<R: Run>(
     rt: &HostRuntime,
     table: &[u16],
     scans: &mut [u8],
     output: &mut [u8],
     verdicts: &mut [u8],
     turn: u64,
-    run: F,
-) -> io::Result<T>
-where
-    F: FnOnce(&[u16], &[u8], &mut [u8], &mut [u8]) -> io::Result<T>,
-    T: Drop,
-    requires { F.IsAlwaysCallable run }
-{
+    runner: &mut R,
+) -> io::Result<()> {
     let lent = read_size(rt, table.len())?;
     let output_len = read_size(rt, output.len())?;
     let verdicts_len = read_size(rt, verdicts.len())?;
@@ -100,7 +121,7 @@ where
     let verdicts = &mut verdicts[..verdicts_len];
     prepare(output, turn, 7, 255);
     prepare(verdicts, turn % 251, 11, 255);
-    let ran = run(&table[..lent], scans, output, verdicts)?;
-    print_digests(rt, output, verdicts)?;
-    Ok(ran)
+    runner.run(rt, &table[..lent], scans, output, verdicts);
+    print_digests(rt, output, verdicts);
+    Ok(())
 }

@@ -1,5 +1,5 @@
 // Bytes and entries, as the digits of a number.
-ghost use Rattle.std.specs.Prelude.{◌≡◌, ◌≤◌, ◌<◌, ℕ};
+ghost use Rattle.std.specs.Prelude.{◌≡◌, ◌≤◌, ◌<◌, ◌%◌, ℕ};
 ghost use Rattle.std.proofs.Common.{lit≤};
 
 // A digit in a base: a byte in base 256, or an entry in base 65,536.
@@ -14,9 +14,9 @@ pub trait Digit: Copy {
         ensures value { result ≡ value_of self }
         ensures upper_bound { result < BASE };
 
+    // The last digit of a number.
     fn narrow(number: u64) -> Self
-        requires { number < BASE }
-        ensures { value_of result ≡ number };
+        ensures { value_of result ≡ number % BASE };
 
     ghost small: { BASE ≤ 65536 };
 }
@@ -35,7 +35,7 @@ impl Digit for u8 {
     }
 
     fn narrow(number: u64) -> u8 {
-        number as u8
+        (number % Self::BASE) as u8
     }
 }
 
@@ -53,6 +53,6 @@ impl Digit for u16 {
     }
 
     fn narrow(number: u64) -> u16 {
-        number as u16
+        (number % Self::BASE) as u16
     }
 }

@@ -10,8 +10,8 @@ mod preparing;
 mod printing;
 mod records;
 
-pub use buffers::Buffers;
-pub use cases::each_case;
+pub use buffers::{Buffers, Filling, Run};
+pub use cases::{Cases, each_case};
 pub use digests::digest;
 pub use digits::Digit;
 pub use numbers::{read_byte, read_long, read_size};

@@ -4,7 +4,7 @@
 
 use reading::{Listed, NumberedRule, Pattern, Refusal};
 use std::io;
-use testing::{each_case, read_bounded};
+use testing::{Cases, each_case, read_bounded};
 
 // The sum of the codes that a pattern covers.
 fn sum_of_codes(pattern: Pattern) -> u64 {
@@ -18,53 +18,61 @@ fn sum_of_codes(pattern: Pattern) -> u64 {
 }
 
 // A space and the lowest code of a pattern, or that there is none.
-fn print_lowest(rt: &HostRuntime, lowest: Option<u8>) -> io::Result<()> {
-    match lowest {
+fn print_lowest(rt: &HostRuntime, lowest: Option<u8>) {
+    let _ = match lowest {
         Some(code) => print!(rt; " {code}"),
         None => print!(rt; " none"),
-    }
+    };
 }
 
-fn print_pattern(rt: &HostRuntime, listed: &Listed) -> io::Result<()> {
+fn print_pattern(rt: &HostRuntime, listed: &Listed) {
     let Listed { pattern, extent } = *listed;
-    print!(rt; " p {} {} {}", pattern.mask, pattern.first, pattern.last)?;
-    print_lowest(rt, extent.lowest)?;
-    print!(rt; " {} {}", extent.count, sum_of_codes(pattern))
+    let _ = print!(rt; " p {} {} {}", pattern.mask, pattern.first, pattern.last);
+    print_lowest(rt, extent.lowest);
+    let _ = print!(rt; " {} {}", extent.count, sum_of_codes(pattern));
 }
 
-fn print_patterns(rt: &HostRuntime, rule: &NumberedRule) -> io::Result<()> {
+fn print_patterns(rt: &HostRuntime, rule: &NumberedRule) {
     for listed in rule.patterns.iter().take(rule.npatterns) {
-        print_pattern(rt, listed)?;
+        print_pattern(rt, listed);
     }
-    Ok(())
 }
 
-fn print_nodes(rt: &HostRuntime, rule: &NumberedRule) -> io::Result<()> {
+fn print_nodes(rt: &HostRuntime, rule: &NumberedRule) {
     for node in rule.nodes.iter().take(rule.nnodes) {
-        print!(rt; " n {} {}", node.kind(), node.argument())?;
+        let _ = print!(rt; " n {} {}", node.kind(), node.argument());
     }
-    Ok(())
 }
 
-fn print_reading(rt: &HostRuntime, reading: &Result<NumberedRule, Refusal>) -> io::Result<()> {
+fn print_reading(rt: &HostRuntime, reading: &Result<NumberedRule, Refusal>) {
     match reading {
         Ok(rule) => {
-            print!(rt; "accepted")?;
-            print_patterns(rt, rule)?;
-            print_nodes(rt, rule)?;
+            let _ = print!(rt; "accepted");
+            print_patterns(rt, rule);
+            print_nodes(rt, rule);
         }
-        Err(refusal) => print!(rt; "{refusal}")?,
+        Err(refusal) => {
+            let _ = print!(rt; "{refusal}");
+        }
     }
-    println!(rt)
+    let _ = println!(rt);
 }
 
-// Answers the next case.
-fn answer_case(rt: &HostRuntime, space: &mut [u8]) -> io::Result<()> {
-    let rule = read_bounded(rt, space)?;
-    print_reading(rt, &reading::read_rule(rule))
+// Where the rule file of a case goes.
+#[derive(Drop)]
+struct Space {
+    rule: [u8; 131072],
+}
+
+impl Cases for Space {
+    fn answer(&mut self, rt: &HostRuntime, _case: u64) -> io::Result<()> {
+        let rule = read_bounded(rt, &mut self.rule)?;
+        print_reading(rt, &reading::read_rule(rule));
+        Ok(())
+    }
 }
 
 fn main(rt: HostRuntime) {
-    let mut space = [0u8; 131072];
-    each_case(|_| answer_case(&rt, &mut space));
+    let mut space = Space { rule: [0; 131072] };
+    each_case(&rt, &mut space);
 }
