@@ -23,8 +23,8 @@ use running::{Changed, Duty, OnDuty};
 use std::io;
 use std::io::{Error, ErrorKind};
 use testing::{
-    Buffers, Cases, Filling, Run, each_case, print_checked, read_byte, read_long, read_part,
-    read_prepared, read_size,
+    Buffers, Cases, Filling, Run, answer_cases, read_byte, read_long, read_part, read_prepared,
+    read_size, show_checked,
 };
 
 // Prints the whole state: the count and all four places.
@@ -41,7 +41,7 @@ fn print_duty(rt: &HostRuntime, duty: &Duty) {
 // Fills a part of the tables.
 fn take_rule(rt: &HostRuntime, buffers: &mut Buffers, filling: Filling) -> io::Result<()> {
     let place = read_size(rt, buffers.table.len())?;
-    let _ = buffers.read_rule(rt, place, filling)?;
+    let _ = buffers.fill_rule(rt, place, filling)?;
     Ok(())
 }
 
@@ -92,7 +92,7 @@ fn take_going(rt: &HostRuntime, duty: &mut Duty) {
 
 // Prints a line with what a coming or a going hands back, and keeps its state.
 fn take_changed(rt: &HostRuntime, duty: &mut Duty, changed: Changed) {
-    print_checked(rt, changed.checked);
+    show_checked(rt, changed.checked);
     print_duty(rt, &changed.duty);
     let _ = println!(rt);
     *duty = changed.duty;
@@ -116,10 +116,10 @@ impl Run for Present {
     ) {
         let duty = self.duty;
         let ahead = running::check_on_duty(tables, duty, scans, output.len(), verdicts.len());
-        print_checked(rt, ahead);
+        show_checked(rt, ahead);
         let _ = print!(rt; " ");
         let ran = running::run_on_duty(tables, duty, scans, output, verdicts);
-        print_checked(rt, ran.checked);
+        show_checked(rt, ran.checked);
         print_duty(rt, &ran.state);
         let _ = print!(rt; " {} {}", ran.kept, ran.dropped);
         self.duty = ran.state;
@@ -152,7 +152,7 @@ fn take_record(
             take_going(rt, duty);
             Ok(())
         }
-        b'c' => buffers.read_run(rt, turn, present),
+        b'c' => buffers.run_scans(rt, turn, present),
         _ => Err(Error::from(ErrorKind::InvalidData)),
     }
 }
@@ -178,5 +178,5 @@ fn main(rt: HostRuntime) {
         },
         buffers: Buffers::new(),
     };
-    each_case(&rt, &mut records);
+    answer_cases(&rt, &mut records);
 }

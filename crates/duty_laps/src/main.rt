@@ -8,7 +8,7 @@ ghost use Rattle.std.specs.Prelude.{◌≤◌, ◌<◌, ◌≡◌, length};
 use reading::Refusal;
 use running::Duty;
 use std::io;
-use testing::{digest, filled_count, print_filled, read_bounded, read_byte, read_size};
+use testing::{digest, filled_count, read_bounded, read_byte, read_size, show_filled};
 
 // A rule has at most so many equations.
 const LIMIT: usize = 128;
@@ -98,7 +98,7 @@ fn answer_laps(
     requires lap { length scans.now ≡ 65536 }
 {
     if came.answer.is_err() {
-        print_filled(rt, came.answer);
+        show_filled(rt, came.answer);
         return;
     }
     let sums = run_laps(tables, came.duty, laps, scans, output, verdicts);

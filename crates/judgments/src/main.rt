@@ -7,7 +7,9 @@
 use models::{PhoneModel, Step};
 use reading::Refusal;
 use std::io;
-use testing::{Cases, digest, each_case, print_judged, read_long, read_size, read_whole, refresh};
+use testing::{
+    Cases, answer_cases, digest, read_long, read_size, read_whole, refresh, show_judged,
+};
 
 // The digest that the digits of `high` and then a step make, as four bytes: from, two bytes of label, to.
 fn step_digest(high: u64, step: &Step) -> u64 {
@@ -37,10 +39,10 @@ fn answer(rt: &HostRuntime, rule: &[u8], model: &[u8], limit: usize, table: &mut
     print_reading(rt, &models::read_model(model));
     let _ = print!(rt; " ");
     refresh(table, case);
-    print_judged(rt, models::judge(rule, model, table));
+    show_judged(rt, models::judge(rule, model, table));
     let _ = print!(rt; " {} within ", digest(0, table));
     refresh(table, case);
-    print_judged(rt, models::judge_within(rule, model, limit, table));
+    show_judged(rt, models::judge_within(rule, model, limit, table));
     let _ = println!(rt; " {}", digest(0, table));
 }
 
@@ -85,5 +87,5 @@ fn main(rt: HostRuntime) {
         model: [0; 8192],
         table: [0; 262144],
     };
-    each_case(&rt, &mut spaces);
+    answer_cases(&rt, &mut spaces);
 }

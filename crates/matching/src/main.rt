@@ -6,7 +6,7 @@
 
 use models::MatchError;
 use std::io;
-use testing::{Cases, each_case, print_judged, read_bounded, read_size, read_whole};
+use testing::{Cases, answer_cases, read_bounded, read_size, read_whole, show_judged};
 
 // A case has no more rules.
 const RULES: usize = 255;
@@ -31,9 +31,9 @@ fn judge_rule(
 ) -> io::Result<()> {
     let rule = read_bounded(rt, space)?;
     let _ = print!(rt; " ");
-    print_judged(rt, models::judge(rule, first, table));
+    show_judged(rt, models::judge(rule, first, table));
     let _ = print!(rt; " ");
-    print_judged(rt, models::judge(rule, second, table));
+    show_judged(rt, models::judge(rule, second, table));
     Ok(())
 }
 
@@ -104,5 +104,5 @@ fn main(rt: HostRuntime) {
         pairs: [0; 16384],
         table: [0; 262144],
     };
-    each_case(&rt, &mut spaces);
+    answer_cases(&rt, &mut spaces);
 }

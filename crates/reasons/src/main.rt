@@ -5,7 +5,7 @@
 
 use reading::Refusal;
 use std::io;
-use testing::{Cases, each_case, read_byte, read_size, read_whole};
+use testing::{Cases, answer_cases, read_byte, read_size, read_whole};
 
 // A case has no longer rule, and no more kept scans.
 const MOST: usize = 1024;
@@ -43,5 +43,5 @@ impl Cases for Reasons {
 }
 
 fn main(rt: HostRuntime) {
-    each_case(&rt, &mut Reasons);
+    answer_cases(&rt, &mut Reasons);
 }

@@ -17,8 +17,8 @@ use running::State;
 use std::io;
 use std::io::{Error, ErrorKind};
 use testing::{
-    Buffers, Cases, Filling, Run, each_case, filled_count, print_checked, read_byte, read_long,
-    read_part, read_prepared,
+    Buffers, Cases, Filling, Run, answer_cases, filled_count, read_byte, read_long, read_part,
+    read_prepared, show_checked,
 };
 
 // What the records so far have set, the table left aside.
@@ -31,7 +31,7 @@ struct Held {
 impl Held {
     // The state is the start, and the count is what filling answers.
     fn take_rule(&mut self, rt: &HostRuntime, buffers: &mut Buffers) -> io::Result<()> {
-        let filled = buffers.read_rule(rt, 0, Filling::Long)?;
+        let filled = buffers.fill_rule(rt, 0, Filling::Long)?;
         self.count = filled_count(filled);
         self.state = running::start();
         Ok(())
@@ -60,7 +60,7 @@ impl Held {
                 self.state.equation = read_long(rt)?;
                 Ok(())
             }
-            b'c' => buffers.read_run(rt, turn, self),
+            b'c' => buffers.run_scans(rt, turn, self),
             _ => Err(Error::from(ErrorKind::InvalidData)),
         }
     }
@@ -78,7 +78,7 @@ impl Run for Held {
     ) {
         let Held { count, state } = *self;
         let ran = running::run(table, count, state, scans, output, verdicts);
-        print_checked(rt, ran.checked);
+        show_checked(rt, ran.checked);
         let _ = print!(rt; " {} {} {}", ran.state.equation, ran.kept, ran.dropped);
         self.state = ran.state;
     }
@@ -106,5 +106,5 @@ fn main(rt: HostRuntime) {
         },
         buffers: Buffers::new(),
     };
-    each_case(&rt, &mut records);
+    answer_cases(&rt, &mut records);
 }

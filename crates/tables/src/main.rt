@@ -10,7 +10,7 @@ use listing::Line;
 use reading::{NumberedRule, Refusal};
 use std::io;
 use testing::{
-    Cases, digest, each_case, filled_count, read_bounded, read_long, read_size, refresh,
+    Cases, answer_cases, digest, filled_count, read_bounded, read_long, read_size, refresh,
 };
 
 // A listing has no more lines: two, one for each pattern, and one for each entry at most.
@@ -215,5 +215,5 @@ fn main(rt: HostRuntime) {
         rule: [0; 1024],
         table: [0; 262144],
     };
-    each_case(&rt, &mut spaces);
+    answer_cases(&rt, &mut spaces);
 }

@@ -1,10 +1,9 @@
 // What the runs of a test program work on.
-ghost use Rattle.std.specs.Prelude.{◌≤◌, length};
-
 use crate::numbers::read_size;
 use crate::preparing::prepare;
 use crate::printing::{print_digests, print_filled};
 use crate::records::{read_bounded, read_whole};
+use crate::showing::{show_digests, show_filled};
 use reading::Refusal;
 use std::io;
 use std::io::{Error, ErrorKind};
@@ -14,15 +13,6 @@ use std::io::{Error, ErrorKind};
 pub enum Filling {
     Long,
     Short,
-}
-
-impl Filling {
-    fn fill(self, rule: &[u8], table: &mut [u16]) -> Result<usize, Refusal> {
-        match self {
-            Filling::Long => synthesis::fill(rule, table),
-            Filling::Short => synthesis::fill_short(rule, table),
-        }
-    }
 }
 
 // What runs over scans.
@@ -58,61 +48,118 @@ impl Buffers {
     }
 
     // Reads a rule file, fills the table by it from a place on, and prints and hands back what the filling answers.
-    pub fn read_rule(
+    pub fn read_rule<F: FnOnce(&[u8], &mut [u16]) -> Result<usize, Refusal>>(
+        &mut self,
+        rt: &HostRuntime,
+        place: usize,
+        fill: F,
+    ) -> io::Result<Result<usize, Refusal>>
+        requires { F.IsAlwaysCallable fill }
+    {
+        let Buffers { table, scans, .. } = self;
+        let filled = fill_from(rt, scans, table, place, fill)?;
+        print_filled(rt, filled)?;
+        Ok(filled)
+    }
+
+    // The same by one of the library's fillings. A failed write is let go.
+    pub fn fill_rule(
         &mut self,
         rt: &HostRuntime,
         place: usize,
         filling: Filling,
     ) -> io::Result<Result<usize, Refusal>> {
         let Buffers { table, scans, .. } = self;
-        if place > table.len() {
-            return Err(Error::from(ErrorKind::InvalidInput));
-        }
-        fill_from(rt, scans, table, place, filling)
+        let filled = match filling {
+            Filling::Long => fill_from(rt, scans, table, place, synthesis::fill),
+            Filling::Short => fill_from(rt, scans, table, place, synthesis::fill_short),
+        }?;
+        show_filled(rt, filled);
+        Ok(filled)
     }
 
-    // Reads how much is lent of the table and of both buffers, and the scans; runs, and ends the line with what both buffers have then.
-    pub fn read_run<R: Run>(
-        &mut self,
-        rt: &HostRuntime,
-        turn: u64,
-        runner: &mut R,
-    ) -> io::Result<()> {
+    // Reads how much is lent of the table and of both buffers, and the scans.
+    fn lend(&mut self, rt: &HostRuntime, turn: u64) -> io::Result<Lent<'_>> {
         let Buffers {
             table,
             scans,
             output,
             verdicts,
         } = self;
-        run_on(rt, table, scans, output, verdicts, turn, runner)
+        lend(rt, table, scans, output, verdicts, turn)
+    }
+
+    // Reads how much is lent of the table and of both buffers, and the scans; runs, and ends the line with what both buffers have then.
+    pub fn read_run<T, F>(&mut self, rt: &HostRuntime, turn: u64, run: F) -> io::Result<T>
+    where
+        F: FnOnce(&[u16], &[u8], &mut [u8], &mut [u8]) -> io::Result<T>,
+        T: Drop,
+        requires { F.IsAlwaysCallable run }
+    {
+        let Lent {
+            table,
+            scans,
+            output,
+            verdicts,
+        } = self.lend(rt, turn)?;
+        let ran = run(table, scans, output, verdicts)?;
+        print_digests(rt, output, verdicts)?;
+        Ok(ran)
+    }
+
+    // The same by what runs over scans, of which nothing is asked. A failed write is let go.
+    pub fn run_scans<R: Run>(
+        &mut self,
+        rt: &HostRuntime,
+        turn: u64,
+        runner: &mut R,
+    ) -> io::Result<()> {
+        let Lent {
+            table,
+            scans,
+            output,
+            verdicts,
+        } = self.lend(rt, turn)?;
+        runner.run(rt, table, scans, output, verdicts);
+        show_digests(rt, output, verdicts);
+        Ok(())
     }
 }
 
 // A function of slices, since a part of a field behind a reference can't be lent.
-fn fill_from(
+fn fill_from<F: FnOnce(&[u8], &mut [u16]) -> Result<usize, Refusal>>(
     rt: &HostRuntime,
     scans: &mut [u8],
     table: &mut [u16],
     place: usize,
-    filling: Filling,
+    fill: F,
 ) -> io::Result<Result<usize, Refusal>>
-    requires { place ≤ length table.old }
+    requires { F.IsAlwaysCallable fill }
 {
+    if place > table.len() {
+        return Err(Error::from(ErrorKind::InvalidInput));
+    }
     let rule = read_bounded(rt, scans)?;
-    let filled = filling.fill(rule, &mut table[place..]);
-    print_filled(rt, filled);
-    Ok(filled)
+    Ok(fill(rule, &mut table[place..]))
 }
 
-fn run_on<R: Run>(
+// What is lent to a run.
+#[derive(Drop)]
+struct Lent<'a> {
+    table: &'a [u16],
+    scans: &'a [u8],
+    output: &'a mut [u8],
+    verdicts: &'a mut [u8],
+}
+
+fn lend<'a>(
     rt: &HostRuntime,
-    table: &[u16],
-    scans: &mut [u8],
-    output: &mut [u8],
-    verdicts: &mut [u8],
+    table: &'a [u16],
+    scans: &'a mut [u8],
+    output: &'a mut [u8],
+    verdicts: &'a mut [u8],
     turn: u64,
-    runner: &mut R,
-) -> io::Result<()> {
+) -> io::Result<Lent<'a>> {
     let lent = read_size(rt, table.len())?;
     let output_len = read_size(rt, output.len())?;
     let verdicts_len = read_size(rt, verdicts.len())?;
@@ -121,7 +168,10 @@ fn run_on<R: Run>(
     let verdicts = &mut verdicts[..verdicts_len];
     prepare(output, turn, 7, 255);
     prepare(verdicts, turn % 251, 11, 255);
-    runner.run(rt, &table[..lent], scans, output, verdicts);
-    print_digests(rt, output, verdicts);
-    Ok(())
+    Ok(Lent {
+        table: &table[..lent],
+        scans,
+        output,
+        verdicts,
+    })
 }

@@ -7,12 +7,19 @@ pub trait Cases {
     fn answer(&mut self, rt: &HostRuntime, case: u64) -> io::Result<()>;
 }
 
-// Answers case after case, until one can't be read. A proved loop has to end, and nothing says that the input does: so there
+// Answers case after case, until one can't be read or written. A proved loop has to end, and nothing says that the input does: so there
 // are as many turns as 64 bits can count.
-pub fn each_case<C: Cases>(rt: &HostRuntime, cases: &mut C) {
-    for case in 0..u64::MAX {
-        if cases.answer(rt, case).is_err() {
+pub fn each_case<F: FnMut(u64) -> io::Result<()>>(mut answer: F)
+    requires { F.IsAlwaysCallable answer }
+{
+    for turn in 0..u64::MAX {
+        if answer(turn).is_err() {
             return;
         }
     }
+}
+
+// The same by what answers cases, of which nothing is asked.
+pub fn answer_cases<C: Cases>(rt: &HostRuntime, cases: &mut C) {
+    each_case(|case| cases.answer(rt, case));
 }

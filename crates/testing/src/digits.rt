@@ -14,9 +14,9 @@ pub trait Digit: Copy {
         ensures value { result ≡ value_of self }
         ensures upper_bound { result < BASE };
 
-    // The last digit of a number.
     fn narrow(number: u64) -> Self
-        ensures { value_of result ≡ number % BASE };
+        requires { number < BASE }
+        ensures { value_of result ≡ number };
 
     ghost small: { BASE ≤ 65536 };
 }
@@ -35,7 +35,7 @@ impl Digit for u8 {
     }
 
     fn narrow(number: u64) -> u8 {
-        (number % Self::BASE) as u8
+        number as u8
     }
 }
 
@@ -53,6 +53,24 @@ impl Digit for u16 {
     }
 
     fn narrow(number: u64) -> u16 {
+        number as u16
+    }
+}
+
+// A digit of which every number has a last one.
+pub trait LastDigit: Digit {
+    fn last(number: u64) -> Self
+        ensures { Self.value_of result ≡ number % Self.BASE };
+}
+
+impl LastDigit for u8 {
+    fn last(number: u64) -> u8 {
+        (number % Self::BASE) as u8
+    }
+}
+
+impl LastDigit for u16 {
+    fn last(number: u64) -> u16 {
         (number % Self::BASE) as u16
     }
 }

@@ -4,7 +4,7 @@
 
 use reading::{Listed, NumberedRule, Pattern, Refusal};
 use std::io;
-use testing::{Cases, each_case, read_bounded};
+use testing::{Cases, answer_cases, read_bounded};
 
 // The sum of the codes that a pattern covers.
 fn sum_of_codes(pattern: Pattern) -> u64 {
@@ -74,5 +74,5 @@ impl Cases for Space {
 
 fn main(rt: HostRuntime) {
     let mut space = Space { rule: [0; 131072] };
-    each_case(&rt, &mut space);
+    answer_cases(&rt, &mut space);
 }
